@@ -1,0 +1,38 @@
+//! The values that all of Decibel speaks of: names, schemas, records, changes, entries, replies.
+//!
+//! The layers above rely on two things: contracts see these types as plain lists and records of
+//! numbers, and `Schema::read` gives exactly what the grammar in `specs/Schema.antt` gives.
+//!
+//! | file | has |
+//! |---|---|
+//! | `specs/Text.antt` | lines, words and names of a text |
+//! | `specs/Schema.antt` | the grammar of a schema, and where names stand in it |
+//! | `specs/Value.antt` | what a field holds |
+//! | `src/list_of.rt` | the one list type |
+//! | `src/name.rt`, `src/schema.rt`, `src/text.rt` | names, schemas, lines and words |
+//! | `src/fields.rt`, `src/record.rt` | fields, records and the rows of a reply |
+//! | `src/version.rt`, `src/entry.rt` | versions, and what a transaction does to a dataset |
+//! | `src/reply.rt` | replies and refusals |
+//! | `src/steps.rt` | the count of records read |
+#![tactic(auto)]
+
+pub mod entry;
+pub mod fields;
+pub mod list_of;
+pub mod name;
+pub mod record;
+pub mod reply;
+pub mod schema;
+pub mod steps;
+pub mod text;
+pub mod version;
+
+pub use entry::{Change, Changes, Entry};
+pub use fields::Fields;
+pub use list_of::ListOf;
+pub use name::{Name, Names};
+pub use record::{Marked, Positions, Record, Rows};
+pub use reply::{Refusal, Reply};
+pub use schema::{Relation, Schema, SchemaFault};
+pub use steps::Steps;
+pub use version::{VersionName, VersionNames, VersionPlace};

@@ -1,0 +1,58 @@
+//! Records, and the rows of a reply.
+ghost use Rattle.std.specs.Prelude.{◌≡◌, ℕ, List, [], ◌∷◌};
+
+use crate::{Fields, ListOf};
+use std::alloc::Global;
+use std::marker::Model;
+
+/// A record is a key and its fields. The key identifies it across versions.
+#[derive(Clone, Copy)]
+pub struct Record {
+    pub key: u64,
+    pub fields: Fields,
+}
+
+/// Which of the versions that were asked for have a row: their numbers from 0, ascending, and at
+/// least one.
+#[derive(Drop)]
+pub struct Positions {
+    first: u32,
+    others: Vec<u32>,
+}
+
+impl Model for Positions {
+    ghost use Rattle.std.specs.Prelude.{ℕ, List, ◌∷◌};
+
+    ghost Value = { List ℕ };
+
+    ghost view = { λ p. p.first ∷ p.others.items };
+}
+
+impl Positions {
+    /// The first version alone. It takes no memory.
+    pub fn first_alone(alloc: Global) -> Positions
+        ensures { result ≡ 0 ∷ [] }
+    {
+        Positions {
+            first: 0,
+            others: Vec::new(alloc),
+        }
+    }
+
+    /// The least of them, and the others.
+    pub fn parts(&self) -> (u32, &[u32])
+        ensures { self.now ≡ result.0 ∷ result.1.now }
+    {
+        (self.first, &self.others)
+    }
+}
+
+/// A row of a reply, and the versions that have it.
+#[derive(Drop)]
+pub struct Marked {
+    pub row: Record,
+    pub positions: Positions,
+}
+
+/// Rows in order.
+pub type Rows = ListOf<Marked>;
