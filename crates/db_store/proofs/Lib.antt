@@ -1,0 +1,3 @@
+pub mod ShelfLemmas
+pub mod PlainLemmas
+pub mod FitLemmas

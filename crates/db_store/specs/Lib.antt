@@ -1,0 +1,11 @@
+pub mod Table
+pub mod Dataset
+pub mod Fits
+pub mod State
+pub mod Parts
+pub mod Sorted
+pub mod Plain
+pub mod PlainRows
+pub mod PlainStates
+pub mod PlainStore
+pub mod Laws
