@@ -1,0 +1,6 @@
+pub mod NumberLemmas
+pub mod LineLemmas
+pub mod ScanLemmas
+pub mod WordLemmas
+pub mod AloneLemmas
+pub mod OutputLemmas

@@ -1,0 +1,10 @@
+pub mod Number
+pub mod Line
+pub mod Read
+pub mod ReplyText
+pub mod Alone
+pub mod Order
+pub mod Device
+pub mod Output
+pub mod Ends
+pub mod Top
