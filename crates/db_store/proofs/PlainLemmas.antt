@@ -86,9 +86,9 @@ one_grown schema name kept k (Commit b second changes) n =
     let tables : tables_of (kept ++ k ∷ []) ≡ tables_of kept ++ with_changes (head_of d 0) changes ∷ [] = map-append (λ (k : Kept). k.table) kept (k ∷ []) ∙ ap (λ t. tables_of kept ++ t ∷ []) n.1 in
     let place : length kept ≡ length (tables_of kept) = sym (length-map kept (λ (k : Kept). k.table)) in
     let versions : versions_from 0 (kept ++ k ∷ []) [] ≡ record { place = record { branch = 0; position = length (tables_of kept) }; second = second } ∷ versions_from 0 kept [] =
-        versions_more 0 kept k []
-        ∙ ap (λ m. record { place = record { branch = 0; position = m }; second = k.second } ∷ versions_from 0 kept []) (zero-add (length kept) ∙ place)
-        ∙ ap (λ (s : Option VersionPlace). record { place = record { branch = 0; position = length (tables_of kept) }; second = s } ∷ versions_from 0 kept []) n.2 in
+    versions_more 0 kept k []
+    ∙ ap (λ m. record { place = record { branch = 0; position = m }; second = k.second } ∷ versions_from 0 kept []) (zero-add (length kept) ∙ place)
+    ∙ ap (λ (s : Option VersionPlace). record { place = record { branch = 0; position = length (tables_of kept) }; second = s } ∷ versions_from 0 kept []) n.2 in
     ap (λ t. made_of schema name t (versions_from 0 (kept ++ k ∷ []) [])) tables
     ∙ ap (made_of schema name (tables_of kept ++ with_changes (head_of d 0) changes ∷ [])) versions
     ∙ ap (λ c. apply d (Commit c second changes)) (sym n.0)

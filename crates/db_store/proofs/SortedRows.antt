@@ -1,5 +1,5 @@
 -- Records in order are determined by what they are.
-use Rattle.std.proofs.Common.{◌≡◌, ◌≢◌, ℕ, zero, suc, ◌+◌, ◌<◌, ◌≤◌, ◌==◌, Bool, true, false, cond, T, ◌&&◌, List, [], ◌∷◌, length, map, get_or, ap, sym, ◌∙◌, refl, subst, arith, nat_cmp, Ordering, Less, Equal, Greater, ◌⊎◌, inl, inr, nat_eq}
+use Rattle.std.proofs.Common.{◌≡◌, ℕ, zero, suc, ◌+◌, ◌<◌, ◌≤◌, ◌==◌, Bool, true, false, T, ◌&&◌, List, [], ◌∷◌, length, map, get_or, ap, sym, ◌∙◌, refl, subst, arith, nat_cmp, Ordering, Less, Equal, Greater, ◌⊎◌, inl, inr}
 use Rattle.std.specs.Prelude.{sum_by, Contains, IsPermutation}
 use Rattle.std.specs.FinMap.{FinMap, entries, entries_sorted, is_sorted}
 use Rattle.std.specs.FinMap.Entries.{below_all}

@@ -1,5 +1,5 @@
 -- A dataset is a schema, branches of whole tables, and the versions in the order made.
-use Rattle.std.specs.Prelude.{ℕ, ◌<◌, ◌-◌, ◌&&◌, nat_lt, Bool, List, [], ◌∷◌, ◌++◌, length, set, position, codes, Option, Some, None}
+use Rattle.std.specs.Prelude.{ℕ, ◌<◌, ◌-◌, ◌&&◌, nat_lt, Bool, List, [], ◌∷◌, ◌++◌, length, set, position, codes, Option, None}
 use Rattle.std.proofs.Common.{get_or}
 use Rattle.db_value.specs.Text.{same}
 use Rattle.db_value.specs.declared.schema.Relation.{Relation}

@@ -1,11 +1,9 @@
 -- What growth keeps.
-use Rattle.std.specs.Prelude.{◌≡◌, ℕ, ◌≢◌, true, List, Some}
-use Rattle.db_value.specs.declared.record.Record.{Record}
+use Rattle.std.specs.Prelude.{◌≡◌, ℕ, true, List}
 use Rattle.db_value.specs.declared.entry.Entry.{Entry}
-use Rattle.db_value.specs.declared.entry.Entry.TheVariants.{Commit}
 use Rattle.db_store.specs.Dataset.{apply}
 use Rattle.db_store.specs.Fits.{fits}
-use Rattle.db_store.specs.State.{State, dataset_of, grow, part_records}
+use Rattle.db_store.specs.State.{State, dataset_of, grow}
 use Rattle.db_store.specs.Parts.{Part, AreOf}
 
 -- the dataset of a state grows as the model says

@@ -1,13 +1,13 @@
 -- What holds of the state of a plain store.
-use Rattle.std.specs.Prelude.{◌≡◌, ◌≢◌, ℕ, ◌<◌, ◌-◌, List, [], ◌∷◌, length, map}
-use Rattle.std.proofs.Common.{zero, suc, arith, ap, sym, ◌∙◌, get_or, set}
+use Rattle.std.specs.Prelude.{◌≡◌, ◌≢◌, ℕ, ◌<◌, ◌-◌, List, [], length}
+use Rattle.std.proofs.Common.{zero, suc, arith, ap, sym, ◌∙◌, get_or}
 use Rattle.std.proofs.lemmas.List.{length-map, get_or-set_other}
 use Rattle.db_value.specs.declared.schema.Relation.{Relation}
 use Rattle.db_value.specs.declared.entry.Entry.{Entry}
 use Rattle.db_value.specs.declared.entry.Entry.TheVariants.{Commit}
 use Rattle.db_store.specs.declared.plain_table.Kept.{Kept}
 use Rattle.db_store.specs.Table.{with_changes}
-use Rattle.db_store.specs.Dataset.{Branch, Dataset, branch_at, no_branch, apply}
+use Rattle.db_store.specs.Dataset.{Branch, branch_at, no_branch, apply}
 use Rattle.db_store.specs.Fits.{AreApart}
 use Rattle.db_store.specs.State.{State, whole, grow}
 use Rattle.db_store.specs.Plain.{one_branch, IsReady}

@@ -165,17 +165,13 @@ impl Schema {
         ensures place { result ≡ position (λ n. same n name.now) (columns_at self.now relation) }
         ensures within { IfSome result (λ c. c < length (columns_at self.now relation)) }
     {
-        small(name_place(
-            self.relations[relation as usize].columns.as_slice(),
-            name,
-        ))
+        small(name_place(self.relations[relation as usize].columns.as_slice(), name))
     }
 
     /// The schema at the front of a text, and how many bytes it takes, its line `end` among them.
     #[tactic(auto, unfolding(crate::specs::Schema::schema_in))]
     pub fn read(alloc: Global, text: &[u8]) -> Result<(Schema, usize), SchemaFault>
         ensures exact { GivesSchema text.now result }
-        ensures some { IfOk result (λ x. 0 < length x.0) }
     {
         let mut relations: Vec<Relation> = Vec::new(alloc);
         let mut rest = text;

@@ -1,7 +1,5 @@
-use Rattle.std.proofs.Common.{ltb, ltb-true, ltb-false, arith, rules, zero}
+use Rattle.std.proofs.Common.{ltb, ltb-true, ltb-false, arith, rules}
 use Rattle.std.proofs.lemmas.List.Sorted.{IsPartitionPoint-from_clause, IsPartitionedBy-ltb}
-use Rattle.std.specs.List.Sorted.{IsPartitionPoint}
-use Rattle.std.specs.Prelude.{◌≡◌, true, false}
 use Rattle.db_value.specs.declared.record.Record.{Record}
 use Rattle.db_store.proofs.ShelfLemmas.{rising_keys, all_less}
 use Rattle.db_store.proofs.shelf.below.Goals as goal

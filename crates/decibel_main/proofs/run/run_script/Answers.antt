@@ -49,8 +49,8 @@ returns-in-Err-clause-front g c =
     let more = lines c.first_line.result.1.now in
     let not_passed = kept_line line more (sym c.passes_over.ensures ∙ c.if-passes_over.false) in
     front_then _ _ _ (out w r.0) (answer_of (after w r.0) line) _ _ r.3
-        (subst (λ v. AppendsFront (g.K.Sink.written c.loop-rest.sink) (g.K.Sink.written c.run_line.new.sink) (answer_of v line)) r.2 c.in-Err.ensures.front)
-        (ap (out w) (more_lines c.args.script.now c.loop-rest.rest.now r.0 line more r.1 c.first_line.ensures.lines not_passed) ∙ out_front w r.0 line (kept more))
+    (subst (λ v. AppendsFront (g.K.Sink.written c.loop-rest.sink) (g.K.Sink.written c.run_line.new.sink) (answer_of v line)) r.2 c.in-Err.ensures.front)
+    (ap (out w) (more_lines c.args.script.now c.loop-rest.rest.now r.0 line more r.1 c.first_line.ensures.lines not_passed) ∙ out_front w r.0 line (kept more))
 
 pub returns-in-Err-clause-cut : goal.returns-in-Err-clause-cut
 returns-in-Err-clause-cut g c = λ f.

@@ -1,4 +1,4 @@
-use Rattle.std.proofs.Common.{◌≡◌, ◌∙◌, ap, subst, List, true}
+use Rattle.std.proofs.Common.{◌∙◌, ap}
 use Rattle.std.specs.Prelude.{nat_lt, length}
 use Rattle.std.specs.List.{list_all}
 use Rattle.db_value.specs.declared.entry.Change.{Change}
@@ -13,6 +13,8 @@ next-requires c = ap (list_all (λ (x : Change). nat_lt x.relation (length c.arg
 
 pub returns-clause-ready : goal.returns-clause-ready
 returns-clause-ready c =
-    let d = one_branch c.args.self.now.schema c.args.self.now.master c.args.self.now.versions.items in
-    (is_next c.args.self.now.schema c.args.self.now.master c.args.self.now.versions.items c.in_ok-next.next c.args.entry.now c.requires
-        (c.in_ok-next.ensures.table ∙ ap (with_changes (head_of d 0)) c.changes_of.ensures) (c.in_ok-next.ensures.second ∙ c.second_of.ensures), c.in_ok-next.ensures.wide)
+    let d = one_branch c.args.self.now.schema c.args.self.now.master c.args.self.now.versions.items in (
+      is_next c.args.self.now.schema c.args.self.now.master c.args.self.now.versions.items c.in_ok-next.next c.args.entry.now c.requires
+          (c.in_ok-next.ensures.table ∙ ap (with_changes (head_of d 0)) c.changes_of.ensures) (c.in_ok-next.ensures.second ∙ c.second_of.ensures),
+      c.in_ok-next.ensures.wide,
+    )

@@ -1,0 +1,257 @@
+//! Whole runs on devices in memory. The expected replies are written by hand.
+use crate::top::{Status, decibel};
+use db_memdev::{MemSink, MemSource, SureSource};
+use std::alloc::Global;
+use std::process::Abort;
+use std::test::Fail;
+
+const MORE_THAN_ANY: u64 = 100_000;
+
+/// A call of the program: its words, its input, and which calls of its devices fail.
+#[derive(Clone, Copy)]
+struct Call<'a> {
+    name: &'a str,
+    words: &'a [&'a str],
+    input: &'a str,
+    failing_takes: &'a [u64],
+    failing_puts: &'a [u64],
+    room: u64,
+}
+
+fn try_with<'a>(name: &'a str, input: &'a str) -> Call<'a> {
+    Call {
+        name,
+        words: &["try"],
+        input,
+        failing_takes: &[],
+        failing_puts: &[],
+        room: MORE_THAN_ANY,
+    }
+}
+
+fn words_of(alloc: Global, words: &[&str]) -> Result<Vec<String>, Fail> {
+    let mut all = Vec::new(alloc);
+    for word in words {
+        all.push(String::from_str(alloc, word)?)?;
+    }
+    Ok(all)
+}
+
+fn ends(
+    rt: &impl Abort,
+    alloc: Global,
+    call: &Call,
+    status: Status,
+    output: &str,
+) -> Result<(), Fail> {
+    let mut source = MemSource::of(alloc, call.input.as_bytes(), call.failing_takes)?;
+    let mut sink = MemSink::of(alloc, call.failing_puts, call.room)?;
+    let words = words_of(alloc, call.words)?;
+    let name = call.name;
+    let ended = decibel(alloc, &words, &mut source, &mut sink);
+    assert!(rt; ended == status, "{name}: {ended:?}");
+    assert!(rt; sink.bytes() == output.as_bytes(), "{name}: the output");
+    Ok(())
+}
+
+const TWO_LINES: &str =
+    "relation items a b\nend\n1 insert items 18446744073709551615 -9223372036854775808 9223372036854775807\n1 scan items\n1 get items 0\n";
+
+#[test]
+fn answers_by_whole_tables(rt: HostRuntime) -> Result<(), Fail> {
+    let runs = [
+        ("no lines", "relation items a b\nend\n", ""),
+        ("no line end at the end", "relation items a\nend", ""),
+        (
+            "ends of the types",
+            TWO_LINES,
+            "> 1 insert items 18446744073709551615 -9223372036854775808 9223372036854775807\nok master@1\n> 1 scan items\nrow 18446744073709551615 -9223372036854775808 9223372036854775807\nrows 1\n> 1 get items 0\nnone\n",
+        ),
+        (
+            "refused changes leave the rest",
+            "# first\nrelation items a\n\nend\n\n1 insert items 7 1\n1 insert items 7 2\n1 insert items 3 -4\n1 get items 7\n# last\n1 scan items",
+            "> 1 insert items 7 1\nok master@1\n> 1 insert items 7 2\nrefused 6 key there items 7\n> 1 insert items 3 -4\nok master@2\n> 1 get items 7\nrow 7 1\n> 1 scan items\nrow 3 -4\nrow 7 1\nrows 2\n",
+        ),
+    ];
+    for (name, input, output) in runs {
+        ends(
+            &rt,
+            rt.alloc(),
+            &try_with(name, input),
+            Status::Done,
+            output,
+        )?;
+    }
+    Ok(())
+}
+
+#[test]
+fn refuses_what_is_in_no_form(rt: HostRuntime) -> Result<(), Fail> {
+    let lines = [
+        "hello",
+        "1",
+        "1 ",
+        " 1 scan items",
+        "1 scan items ",
+        "1  scan items",
+        "01 scan items",
+        "0 scan items",
+        "2 scan items",
+        "65 scan items",
+        "1 scan",
+        "1 scan things",
+        "1 scan Items",
+        "1 scan items in master",
+        "1 get items",
+        "1 get items 01",
+        "1 get items +1",
+        "1 get items -1",
+        "1 get items 18446744073709551616",
+        "1 insert items 1 1",
+        "1 insert items 1 1 1 1",
+        "1 insert items 1",
+        "1 insert items 1 -0 1",
+        "1 insert items 1 1 9223372036854775808",
+        "1 insert items 1 -9223372036854775809 1",
+        "1 insert items 1 1 --1",
+        "1 begin",
+        "1 insert things 1 1 1",
+    ];
+    for line in lines {
+        let input = format!(in rt.alloc(); "relation items a b\nend\n{line}\n")?;
+        let output = format!(in rt.alloc(); "> {line}\nrefused 1 bad line\n")?;
+        let call = try_with(line, input.as_str());
+        ends(&rt, rt.alloc(), &call, Status::Done, output.as_str())?;
+    }
+    Ok(())
+}
+
+#[test]
+fn ends_with_the_status_of_the_cause(rt: HostRuntime) -> Result<(), Fail> {
+    let alloc = rt.alloc();
+    let first_reply =
+        "> 1 insert items 18446744073709551615 -9223372036854775808 9223372036854775807\nok master@1\n";
+    let unread = Call {
+        failing_takes: &[1],
+        ..try_with("the first read fails", TWO_LINES)
+    };
+    ends(&rt, alloc, &unread, Status::ReadFault, "")?;
+    let unread = Call {
+        failing_takes: &[2],
+        ..try_with("the read of the end fails", TWO_LINES)
+    };
+    ends(&rt, alloc, &unread, Status::ReadFault, "")?;
+    let cut = Call {
+        failing_puts: &[1],
+        ..try_with("the first write fails", TWO_LINES)
+    };
+    ends(&rt, alloc, &cut, Status::WriteFault, "")?;
+    let cut = Call {
+        failing_puts: &[2],
+        ..try_with("the second write fails", TWO_LINES)
+    };
+    ends(&rt, alloc, &cut, Status::WriteFault, first_reply)?;
+    let cut = Call {
+        room: 100,
+        ..try_with("room for one reply", TWO_LINES)
+    };
+    ends(&rt, alloc, &cut, Status::WriteFault, first_reply)?;
+    let unused = Call {
+        failing_puts: &[1],
+        ..try_with("nothing to write", "relation items a\nend\n")
+    };
+    ends(&rt, alloc, &unused, Status::Done, "")
+}
+
+#[test]
+fn takes_no_other_words(rt: HostRuntime) -> Result<(), Fail> {
+    let none: [&str; 0] = [];
+    let forms: [&[&str]; 7] = [
+        &["tyr"],
+        &none,
+        &["try", "try"],
+        &["TRY"],
+        &["try "],
+        &["-try"],
+        &["script", "base"],
+    ];
+    for words in forms {
+        let call = Call {
+            words,
+            failing_takes: &[1],
+            ..try_with("other words", TWO_LINES)
+        };
+        ends(&rt, rt.alloc(), &call, Status::Usage, "")?;
+    }
+    Ok(())
+}
+
+#[test]
+fn names_the_first_faulty_line(rt: HostRuntime) -> Result<(), Fail> {
+    let schemas = [
+        ("empty", "", 1),
+        ("twice the same column", "relation items a a\nend\n", 1),
+        ("no end", "relation items a\n", 2),
+        ("no end and no line end", "relation items a", 2),
+        ("end alone", "end\n", 1),
+        ("end behind a comment", "# none\n\nend\n", 3),
+        (
+            "a second relation",
+            "relation items a\nrelation notes b\nend\n",
+            2,
+        ),
+        ("no column", "relation items\nend\n", 1),
+        (
+            "16 columns",
+            "relation t a b c d e f g h i j k l m n o p\nend\n",
+            1,
+        ),
+        ("a reserved word", "relation items key\nend\n", 1),
+        ("a capital letter", "relation Items a\nend\n", 1),
+        ("two spaces", "relation  items a\nend\n", 1),
+        ("a space behind", "relation items a \nend\n", 1),
+        ("end with a space", "relation items a\nend \n", 2),
+        (
+            "a name of 33 bytes",
+            "relation aaaaaaaaaabbbbbbbbbbccccccccccddd a\nend\n",
+            1,
+        ),
+    ];
+    for (name, input, line) in schemas {
+        let call = try_with(name, input);
+        ends(&rt, rt.alloc(), &call, Status::BadLine { line }, "")?;
+    }
+    Ok(())
+}
+
+// A schema and then comments of 4,096 bytes, in all 16,777,216 bytes.
+fn longest_input(alloc: Global) -> Result<Vec<u8>, Fail> {
+    let mut all = Vec::new(alloc);
+    all.extend_from_slice(b"relation items a\nend\n")?;
+    for _ in all.len()..4095 {
+        all.push(b'#')?;
+    }
+    all.push(b'\n')?;
+    let mut comment = [b'#'; 4096];
+    comment[4095] = b'\n';
+    for _ in 1..4096 {
+        all.extend_from_slice(&comment)?;
+    }
+    Ok(all)
+}
+
+#[test]
+fn takes_as_many_bytes_as_it_says(rt: HostRuntime) -> Result<(), Fail> {
+    let alloc = rt.alloc();
+    let words = words_of(alloc, &["try"])?;
+    let mut input = longest_input(alloc)?;
+    for (bytes, status) in [(16_777_216, Status::Done), (16_777_217, Status::TooLong)] {
+        assert_eq!(rt; input.len(), bytes);
+        let mut source = SureSource::of(alloc, &input)?;
+        let mut sink = MemSink::of(alloc, &[], 0)?;
+        let ended = decibel(alloc, &words, &mut source, &mut sink);
+        assert!(rt; ended == status, "{bytes} bytes: {ended:?}");
+        input.push(b'\n')?;
+    }
+    Ok(())
+}
