@@ -1,13 +1,11 @@
 -- A transaction of one line.
-use Rattle.std.proofs.Common.{◌≡◌, ℕ, zero, suc, ◌+◌, ◌<◌, ◌==◌, Bool, true, false, cond, List, [], ◌∷◌, ◌++◌, length, map, set, get_or, ap, sym, ◌∙◌, refl, arith, Option, Some, None, nat_cmp, add-zero}
+use Rattle.std.proofs.Common.{◌≡◌, ℕ, zero, suc, ◌+◌, ◌<◌, ◌==◌, true, false, cond, List, [], ◌∷◌, ◌++◌, length, map, set, get_or, ap, sym, ◌∙◌, refl, arith, Option, Some, None, nat_cmp, add-zero}
 use Rattle.std.specs.Prelude.{Result, Ok, Err, OnOk}
 use Rattle.std.specs.FinMap.{empty, entries, insert, get, get-empty, len-empty, len-entries, entries-insert}
 use Rattle.std.proofs.lemmas.Cmp.{nat_cmp_total}
 use Rattle.db_value.specs.Value.{Value}
 use Rattle.db_value.specs.Relations.{columns_at}
 use Rattle.db_value.specs.declared.schema.Relation.{Relation}
-use Rattle.db_value.specs.declared.entry.Change.{Change}
-use Rattle.db_value.specs.declared.entry.Entry.{Entry}
 use Rattle.db_value.specs.declared.reply.Reply.TheVariants.{One, Listed}
 use Rattle.db_value.specs.declared.reply.Refusal.TheVariants.{Line, KeyThere}
 use Rattle.db_store.specs.Table.{relation_at, rows_of}
@@ -15,7 +13,7 @@ use Rattle.db_store.specs.Dataset.{Dataset, head_of}
 use Rattle.db_store.specs.State.{State, dataset_of, grow}
 use Rattle.decibel_main.specs.declared.line.Stmt.{Stmt}
 use Rattle.decibel_main.specs.declared.line.Stmt.TheVariants.{Insert, Get, Scan}
-use Rattle.decibel_main.specs.Alone.{Overlay, Tx, Outcome, fresh, overlay_at, over, at_key, overlaid, working, touched, change_of, changes_from, entry_with, entry_of, relation_named, refused, made_next, put_of, record_with, marked, inserted, insert_into, get_from, scan_of, alone}
+use Rattle.decibel_main.specs.Alone.{Overlay, Tx, Outcome, fresh, over, at_key, overlaid, working, touched, change_of, changes_from, entry_with, entry_of, relation_named, refused, made_next, put_of, record_with, marked, inserted, insert_into, get_from, scan_of, alone}
 use Rattle.decibel_main.specs.Order.{grown, master, state_with}
 
 no_length : {A : Type 0} (xs : List A) → length xs ≡ 0 → xs ≡ []

@@ -1,5 +1,5 @@
 -- How a call of the program ends.
-use Rattle.std.specs.Prelude.{◌≡◌, ℕ, List, Option, Result, Ok}
+use Rattle.std.specs.Prelude.{◌≡◌, ℕ, List, Option, Ok}
 use Rattle.db_value.specs.Schema.{schema_of}
 use Rattle.db_value.specs.declared.schema.Relation.{Relation}
 use Rattle.db_store.specs.State.{State}
@@ -27,6 +27,6 @@ IsRunStatus TooLong = ⊥
 IsRunStatus Memory = Unit {0}
 IsRunStatus (BadLine n) = Unit {0}
 
--- the writing broke off in the answer to a line of the input, and no later line was run
+-- the writing broke off in the answer to a line of the input: the answers to all lines before it were written whole, and nothing of a later one
 abbrev pub BreaksOffIn : List ℕ → Option (List ℕ) → Option (List ℕ) → Type 0
 BreaksOffIn input before after = (x : List Relation × List (List ℕ)) × (now : State) × (schema_of input ≡ Ok x) × IsCut (new_world x.0) (kept x.1) now before after

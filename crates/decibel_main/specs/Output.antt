@@ -1,6 +1,6 @@
 -- What is written for lines, and for an input.
 use Rattle.std.specs.Prelude.{◌≡◌, ◌⊎◌, ℕ, List, [], ◌∷◌, ◌++◌, cond, Option, Result, Ok, Err}
-use Rattle.db_value.specs.Text.{is_passed_over, lines}
+use Rattle.db_value.specs.Text.{is_passed_over}
 use Rattle.db_value.specs.Schema.{schema_of}
 use Rattle.db_value.specs.declared.schema.Relation.{Relation}
 use Rattle.db_store.specs.Dataset.{new_dataset}

@@ -1,9 +1,9 @@
-use Rattle.std.proofs.Common.{◌∙◌, ap, sym, ◌≡◌, Some}
+use Rattle.std.proofs.Common.{◌∙◌, ap, sym}
 use Rattle.std.specs.FinMap.{get}
 use Rattle.db_value.specs.declared.reply.Reply.TheVariants.{One}
 use Rattle.db_store.specs.Table.{relation_at}
 use Rattle.db_store.specs.State.{dataset_of}
-use Rattle.decibel_main.specs.Alone.{record_with, relation_named}
+use Rattle.decibel_main.specs.Alone.{record_with}
 use Rattle.decibel_main.specs.Order.{master}
 use Rattle.decibel_main.proofs.AloneLemmas.{get_found}
 use Rattle.decibel_main.proofs.act.get.Goals as goal

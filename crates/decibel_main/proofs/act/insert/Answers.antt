@@ -1,8 +1,8 @@
-use Rattle.std.proofs.Common.{◌≡◌, ◌∙◌, ap, sym, refl, rules, Some, None, length, true, false, ◌==◌, List, ℕ, nat_cmp}
+use Rattle.std.proofs.Common.{◌≡◌, ◌∙◌, ap, sym, refl, Some, None, length, true, false, ◌==◌}
 use Rattle.std.specs.FinMap.{get}
 use Rattle.std.proofs.lemmas.Bool.{ne_eqb, eq-eqb}
 use Rattle.db_value.specs.Relations.{columns_at}
-use Rattle.db_store.specs.Table.{Table, relation_at}
+use Rattle.db_store.specs.Table.{relation_at}
 use Rattle.db_store.specs.Dataset.{head_of}
 use Rattle.db_store.specs.State.{dataset_of}
 use Rattle.decibel_main.specs.declared.line.Stmt.TheVariants.{Insert}

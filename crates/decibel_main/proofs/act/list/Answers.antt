@@ -1,4 +1,4 @@
-use Rattle.std.proofs.Common.{◌∙◌, ap, sym, ◌≡◌, Some, map, []}
+use Rattle.std.proofs.Common.{◌∙◌, ap, sym, map, []}
 use Rattle.db_value.specs.declared.reply.Reply.TheVariants.{Listed}
 use Rattle.db_store.specs.Table.{relation_at, rows_of}
 use Rattle.db_store.specs.State.{dataset_of}

@@ -1,11 +1,11 @@
-use Rattle.std.proofs.Common.{arith, ◌≡◌, ◌++◌, ◌∷◌, [], ap, sym, ◌∙◌, refl, append_assoc, List, ℕ, length, subst, Some, Option, inl, inr, ◌⊎◌}
+use Rattle.std.proofs.Common.{arith, ◌≡◌, ◌++◌, ◌∷◌, [], ap, sym, ◌∙◌, refl, append_assoc, List, ℕ, subst, Some, inl, inr, ◌⊎◌}
 use Rattle.std.proofs.lemmas.List.{append-nil}
 use Rattle.std.proofs.lemmas.Bool.{eqb-true}
 use Rattle.db_value.specs.Text.{lines}
 use Rattle.db_store.specs.State.{State}
 use Rattle.decibel_main.specs.Device.{Appends, AppendsFront, AppendsShort}
 use Rattle.decibel_main.specs.Order.{World, opening, next, after}
-use Rattle.decibel_main.specs.Output.{kept, answer_of, out, IsCut, IsWhole}
+use Rattle.decibel_main.specs.Output.{kept, answer_of, out}
 use Rattle.decibel_main.proofs.OutputLemmas.{kept_line, lines_empty, after_more, out_end, out_more, out_front, appends_then, short_then, front_here, front_then}
 use Rattle.decibel_main.proofs.run.run_script.Goals as goal
 

@@ -1,4 +1,4 @@
-use Rattle.std.proofs.Common.{◌≡◌, ◌++◌, take, get_or}
+use Rattle.std.proofs.Common.{◌≡◌, ◌++◌, take}
 use Rattle.db_store.specs.Parts.{live_rows, part_at}
 use Rattle.decibel_main.proofs.scan.gather_part.Given as goal
 
