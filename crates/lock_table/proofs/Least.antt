@@ -105,6 +105,50 @@ pub holder_least : (s : ℕ) (ns : List Need) (rows : List Row) → IsLeast (Blo
 holder_least s ns [] = λ q k. k.1
 holder_least s ns (r ∷ rs) = holder_at s ns r rs (blocks s ns r) refl (holder_least s ns rs)
 
+conflicts_left : (ns ms : List Need) (m : Need) → conflicts ns m ≡ true → conflicts (ns ++ ms) m ≡ true
+conflicts_left [] ms m e = absurd (false≢true e)
+conflicts_left (n ∷ ns) ms m e = ⊎_elim
+    (λ (a : conflict n m ≡ true). or_left (conflict n m) (conflicts (ns ++ ms) m) a)
+    (λ (a : conflicts ns m ≡ true). or_right (conflict n m) (conflicts (ns ++ ms) m) (conflicts_left ns ms m a))
+    (or_cases (conflict n m) (conflicts ns m) e)
+
+conflicts_right : (ns ms : List Need) (m : Need) → conflicts ms m ≡ true → conflicts (ns ++ ms) m ≡ true
+conflicts_right [] ms m e = e
+conflicts_right (n ∷ ns) ms m e = or_right (conflict n m) (conflicts (ns ++ ms) m) (conflicts_right ns ms m e)
+
+conflicts_parts : (ns ms : List Need) (m : Need) → conflicts (ns ++ ms) m ≡ true → (conflicts ns m ≡ true) ⊎ (conflicts ms m ≡ true)
+conflicts_parts [] ms m e = inr e
+conflicts_parts (n ∷ ns) ms m e = ⊎_elim
+    (λ (a : conflict n m ≡ true). inl (or_left (conflict n m) (conflicts ns m) a))
+    (λ (a : conflicts (ns ++ ms) m ≡ true). ⊎_elim (λ (b : conflicts ns m ≡ true). inl (or_right (conflict n m) (conflicts ns m) b)) (λ (b : conflicts ms m ≡ true). inr b) (conflicts_parts ns ms m a))
+    (or_cases (conflict n m) (conflicts (ns ++ ms) m) e)
+
+-- the rows that block one need more
+into_more : (s : ℕ) (ns : List Need) (n : Need) (rows : List Row) (q : ℕ × ℕ) → Blocking s (n ∷ []) rows q ⊎ Blocking s ns rows q → Blocking s (ns ++ n ∷ []) rows q
+into_more s ns n rows q k = ⊎_elim
+    (λ (a : Blocking s (n ∷ []) rows q). let two = and_parts _ _ a.2 in (a.0, a.1, and_from (not (a.0.session == s)) (conflicts (ns ++ n ∷ []) a.0.need) two.0 (conflicts_right ns (n ∷ []) a.0.need two.1), a.3))
+    (λ (a : Blocking s ns rows q). let two = and_parts _ _ a.2 in (a.0, a.1, and_from (not (a.0.session == s)) (conflicts (ns ++ n ∷ []) a.0.need) two.0 (conflicts_left ns (n ∷ []) a.0.need two.1), a.3))
+    k
+
+from_more : (s : ℕ) (ns : List Need) (n : Need) (rows : List Row) (q : ℕ × ℕ) → Blocking s (ns ++ n ∷ []) rows q → Blocking s (n ∷ []) rows q ⊎ Blocking s ns rows q
+from_more s ns n rows q k = let two = and_parts (not (k.0.session == s)) (conflicts (ns ++ n ∷ []) k.0.need) k.2 in ⊎_elim
+    (λ (a : conflicts ns k.0.need ≡ true). inr (k.0, k.1, and_from (not (k.0.session == s)) (conflicts ns k.0.need) two.0 a, k.3))
+    (λ (a : conflicts (n ∷ []) k.0.need ≡ true). inl (k.0, k.1, and_from (not (k.0.session == s)) (conflicts (n ∷ []) k.0.need) two.0 a, k.3))
+    (conflicts_parts ns (n ∷ []) k.0.need two.1)
+
+-- with one need more, the least is the lesser of what it and the others are held by
+pub least_more : (s : ℕ) (ns : List Need) (n : Need) (rows : List Row) (p : ℕ × ℕ) (o : Option (ℕ × ℕ)) → holder s (n ∷ []) rows ≡ Some p → IsLeast (Blocking s ns rows) o → IsLeast (Blocking s (ns ++ n ∷ []) rows) (Some (lesser p o))
+least_more s ns n rows p o e h = extend (λ q. Blocking s (n ∷ []) rows q ⊎ Blocking s ns rows q) (Blocking s (ns ++ n ∷ []) rows) (into_more s ns n rows) (from_more s ns n rows) (Some (lesser p o))
+    (least_of_both (Blocking s (n ∷ []) rows) (Blocking s ns rows) p o (subst (λ (u : Option (ℕ × ℕ)). IsLeast (Blocking s (n ∷ []) rows) u) e (holder_least s (n ∷ []) rows)) h)
+
+pub least_same : (s : ℕ) (ns : List Need) (n : Need) (rows : List Row) (o : Option (ℕ × ℕ)) → holder s (n ∷ []) rows ≡ None → IsLeast (Blocking s ns rows) o → IsLeast (Blocking s (ns ++ n ∷ []) rows) o
+least_same s ns n rows o e h = extend (λ q. Blocking s (n ∷ []) rows q ⊎ Blocking s ns rows q) (Blocking s (ns ++ n ∷ []) rows) (into_more s ns n rows) (from_more s ns n rows) o
+    (least_of_one (Blocking s (n ∷ []) rows) (Blocking s ns rows) o (subst (λ (u : Option (ℕ × ℕ)). IsLeast (Blocking s (n ∷ []) rows) u) e (holder_least s (n ∷ []) rows)) h)
+
+-- with no need there is none
+pub least_none : (s : ℕ) (rows : List Row) → IsLeast (Blocking s [] rows) None
+least_none s rows = λ q k. false≢true (and_parts (not (k.0.session == s)) false k.2).1
+
 -- the law of the holder, by the answer
 law_at : (s : ℕ) (ns : List Need) (rows : List Row) (o : Option (ℕ × ℕ)) → IsLeast (Blocking s ns rows) o → MatchOption o (NoneBlocks s ns rows) (λ p. IsHolder s ns rows p.0 p.1)
 law_at s ns rows None h = λ r has. false_from_ne_true (blocks s ns r) (λ e. h (key_of r) (r, has, e, refl))

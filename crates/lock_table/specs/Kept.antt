@@ -1,5 +1,5 @@
 -- How the table keeps its rows: for each lock the sessions that have it.
-use Rattle.std.specs.Prelude.{◌≡◌, ℕ, ◌+◌, ◌≤◌, ◌==◌, suc, cond, not, ◌&&◌, ◌||◌, Bool, false, List, [], ◌∷◌, ◌++◌, map, length, All}
+use Rattle.std.specs.Prelude.{◌≡◌, ℕ, ◌+◌, ◌≤◌, ◌==◌, suc, cond, not, ◌&&◌, ◌||◌, Bool, false, List, [], ◌∷◌, ◌++◌, map, filter, length, All}
 use Rattle.lock_table.specs.declared.need.Need.{Need}
 use Rattle.lock_table.specs.declared.lock.Grant.{Grant}
 use Rattle.lock_table.specs.Rows.{Row}
@@ -28,11 +28,19 @@ has_grant g [] = false
 has_grant g (h ∷ hs) = same_grant h g || has_grant g hs
 
 -- a grant joins at the end, unless it is there
-abbrev pub with_grant : Grant → List Grant → List Grant
-with_grant g gs = cond (has_grant g gs) gs (gs ++ g ∷ [])
+abbrev pub with_grant : Grant → LockGrants → LockGrants
+with_grant g k = record { grants = cond (has_grant g k.grants) k.grants (k.grants ++ g ∷ []); room = k.room }
 
 abbrev pub is_of_other : ℕ → Grant → Bool
 is_of_other session g = not (g.session == session)
+
+-- the grants of the other sessions stay
+abbrev pub without_grants : ℕ → LockGrants → LockGrants
+without_grants session k = record { grants = filter (is_of_other session) k.grants; room = k.room }
+
+-- the same grants, and at least as much room
+abbrev pub Grows : LockGrants → LockGrants → Type 0
+Grows old new = (new.grants ≡ old.grants) × (old.room ≤ new.room)
 
 -- no two of the grants are equal
 abbrev pub AllDiffer : List Grant → Type 0

@@ -7,5 +7,4 @@ pub fn row_laws()
     ensures cover { CoverLaw }
     ensures added { AddedLaw }
     ensures without { WithoutLaw }
-{
-}
+{}

@@ -1,7 +1,7 @@
 //! The rows of one lock.
-ghost use Rattle.std.specs.Prelude.{◌≡◌, ◌≤◌, ◌<◌, false, [], ◌∷◌, map, filter, length, OnOk};
+ghost use Rattle.std.specs.Prelude.{◌≡◌, ◌≤◌, ◌<◌, false, [], ◌∷◌, map, length, OnOk};
 ghost use Rattle.lock_table.specs.Rows.{lesser, holder};
-ghost use Rattle.lock_table.specs.Kept.{row_of, same_grant, has_grant, with_grant, is_of_other};
+ghost use Rattle.lock_table.specs.Kept.{row_of, same_grant, has_grant, with_grant, without_grants};
 
 use crate::need::Need;
 use std::alloc::{AllocError, Global};
@@ -58,8 +58,7 @@ impl Lock {
     /// Gives the grant, unless it is there.
     pub fn grant(&mut self, grant: Grant)
         requires { has_grant grant self.old.grants ≡ false → length self.old.grants < self.old.room }
-        ensures grants { self.new.grants ≡ with_grant grant self.old.grants }
-        ensures room { self.new.room ≡ self.old.room }
+        ensures { self.new ≡ with_grant grant self.old }
     {
         if !is_granted(self.grants.as_slice(), grant) {
             self.grants.push_reserved(grant);
@@ -68,8 +67,7 @@ impl Lock {
 
     /// Takes all grants of a session back.
     pub fn release(&mut self, session: u32)
-        ensures grants { self.new.grants ≡ filter (is_of_other session) self.old.grants }
-        ensures room { self.new.room ≡ self.old.room }
+        ensures { self.new ≡ without_grants session self.old }
     {
         let mut kept = 0;
         for i in 0..self.grants.len() {

@@ -1,8 +1,10 @@
 //! The table of locks.
-ghost use Rattle.std.specs.Prelude.{◌≡◌, ◌<◌, ℕ, [], All, OnOk, OnErr, IfOk};
+ghost use Rattle.std.specs.Prelude.{◌≡◌, ◌<◌, ◌≤◌, ℕ, [], map, All, OnOk, OnErr, IfOk};
 ghost use Rattle.lock_table.specs.Rows.{Table, holder};
 ghost use Rattle.lock_table.specs.Grants.{IsAdmitted, granted, added, without, joined};
 ghost use Rattle.lock_table.specs.Answer.{answer_of};
+ghost use Rattle.lock_table.specs.Kept.{Grows, without_grants};
+ghost use Rattle.std.specs.List.{AllZip};
 
 use crate::lock::{Grant, Lock, lesser};
 use crate::need::{LOCKS, Need, Needs};
@@ -60,16 +62,13 @@ impl Locks {
         ensures others { (other : ℕ) → IsAdmitted self.old other → IsAdmitted self.new other }
         ensures err { OnErr result (self.new ≡ self.old) }
     {
-        if self.admitted.iter().any(|s| *s == session) {
+        if self.admitted.contains(&session) {
             return Ok(());
         }
-        self.admitted.reserve(1)?;
         let sessions = self.admitted.len() + 1;
         let room = sessions.checked_mul(2).ok_or(AllocError)?;
-        for lock in self.locks.iter_mut() {
-            lock.reserve(room)?;
-        }
-        self.admitted.push_reserved(session);
+        reserve_all(&mut self.locks, room)?;
+        self.admitted.push(session)?;
         Ok(())
     }
 
@@ -97,9 +96,7 @@ impl Locks {
     pub fn release(&mut self, session: u32)
         ensures { self.new ≡ record self.old { rows = without session self.old.rows } }
     {
-        for lock in self.locks.iter_mut() {
-            lock.release(session);
-        }
+        release_all(&mut self.locks, session);
     }
 
     fn holder(&self, session: u32, needs: &[Need]) -> Option<(u32, u32)>
@@ -122,5 +119,23 @@ impl Locks {
     {
         let exclusive = need.exclusive;
         self.locks[need.lock as usize].grant(Grant { session, exclusive });
+    }
+}
+
+fn reserve_all(locks: &mut [Lock], room: usize) -> Result<(), AllocError>
+    ensures grows { AllZip Grows locks.old locks.new }
+    ensures room { OnOk result (All (λ k. room ≤ k.room) locks.new) }
+{
+    for lock in locks {
+        lock.reserve(room)?;
+    }
+    Ok(())
+}
+
+fn release_all(locks: &mut [Lock], session: u32)
+    ensures { locks.new ≡ map (without_grants session) locks.old }
+{
+    for lock in locks {
+        lock.release(session);
     }
 }
