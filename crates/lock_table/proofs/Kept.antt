@@ -1,6 +1,6 @@
 -- The rows of all locks, where one lock's grants change.
-use Rattle.std.proofs.Common.{◌≡◌, ◌⊎◌, inl, inr, ⊎_elim, ℕ, ◌+◌, ◌<◌, ◌≤◌, ◌==◌, nat_lt, suc, zero, Bool, true, false, cond, not, ◌&&◌, ◌||◌, List, [], ◌∷◌, ◌++◌, map, filter, length, get_or, set, refl, sym, ap, ◌∙◌, subst, arith, append_assoc, lit<}
-use Rattle.std.proofs.lemmas.Bool.{eqb-true, eqb-false, eq-eqb, ne_eqb, lt-ltb, le-ltb, and_parts, or_cases, and_right, cond-true, cond-false, false≢true}
+use Rattle.std.proofs.Common.{◌≡◌, ◌⊎◌, inl, inr, ⊎_elim, ℕ, ◌+◌, ◌<◌, ◌≤◌, ◌==◌, nat_lt, suc, zero, Bool, true, false, cond, not, ◌&&◌, ◌||◌, List, [], ◌∷◌, ◌++◌, map, filter, length, get_or, set, refl, sym, ap, ◌∙◌, subst, arith, append_assoc}
+use Rattle.std.proofs.lemmas.Bool.{eqb-true, eq-eqb, ne_eqb, lt-ltb, le-ltb, and_parts, or_cases, and_right, cond-true, cond-false, false≢true}
 use Rattle.std.proofs.lemmas.List.{map_push}
 use Rattle.std.proofs.lemmas.List.Elements.{All-tail}
 use Rattle.std.specs.List.{All, AllZip}
@@ -126,8 +126,10 @@ granted_here s n m gs rest e none first = at (has_grant (grant_of s n) gs) refl
         or_false : (a b : Bool) → b ≡ false → (a || b) ≡ a
         or_false true b h = refl
         or_false false b h = h
+
     row_is : row_of m (grant_of s n) ≡ row s n
     row_is = λ i. record { session = s; need = record { lock = sym e i; exclusive = n.exclusive } }
+
     at : (b : Bool) → has_grant (grant_of s n) gs ≡ b → cond (is_there s n (map (row_of m) gs ++ rest)) (map (row_of m) gs ++ rest) (place (row s n) (map (row_of m) gs ++ rest)) ≡ map (row_of m) (cond (has_grant (grant_of s n) gs) gs (gs ++ grant_of s n ∷ [])) ++ rest
     at true h = cond-true _ _ _ (is ∙ h) ∙ ap (λ (xs : List Grant). map (row_of m) xs ++ rest) (sym (cond-true (has_grant (grant_of s n) gs) gs (gs ++ grant_of s n ∷ []) h))
     at false h = cond-false _ _ _ (is ∙ h)
@@ -142,6 +144,7 @@ granted_past s n m gs rest lt = at (is_there s n rest) refl
   where
     is : is_there s n (map (row_of m) gs ++ rest) ≡ is_there s n rest
     is = there_append s n (map (row_of m) gs) rest ∙ ap (λ (b : Bool). b || is_there s n rest) (there_other s n m gs (ne_eqb m n.lock (λ e. omega (arith, e, lt))))
+
     at : (b : Bool) → is_there s n rest ≡ b → cond (is_there s n (map (row_of m) gs ++ rest)) (map (row_of m) gs ++ rest) (place (row s n) (map (row_of m) gs ++ rest)) ≡ map (row_of m) gs ++ cond (is_there s n rest) rest (place (row s n) rest)
     at true h = cond-true _ _ _ (is ∙ h) ∙ ap (λ (t : List Row). map (row_of m) gs ++ t) (sym (cond-true (is_there s n rest) rest (place (row s n) rest) h))
     at false h = cond-false _ _ _ (is ∙ h)

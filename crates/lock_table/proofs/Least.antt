@@ -1,7 +1,7 @@
 -- The holder of a lock is the least of the rows that block a request, and depends on the set of rows alone.
 use Rattle.std.proofs.Common.{◌≡◌, ◌⊎◌, inl, inr, ⊎_elim, ℕ, ◌<◌, ◌≤◌, ◌==◌, nat_lt, Bool, true, false, cond, not, ◌&&◌, ◌||◌, List, [], ◌∷◌, ◌++◌, Option, Some, None, refl, sym, ap, ◌∙◌, subst, arith}
 use Rattle.std.specs.Prelude.{MatchOption}
-use Rattle.std.proofs.lemmas.Bool.{eqb-true, eqb-false, ltb-true, ltb-false, false≢true, and_from, and_parts, or_left, or_right, or_cases, or_parts, and_cases, cases_Bool, cases_lt, false_from_ne_true}
+use Rattle.std.proofs.lemmas.Bool.{eqb-true, eqb-false, ltb-true, ltb-false, false≢true, and_from, and_parts, or_left, or_right, or_cases, or_parts, and_cases, cases_lt, false_from_ne_true}
 use Rattle.lock_table.specs.declared.need.Need.{Need}
 use Rattle.lock_table.specs.Rows.{Row, conflict, conflicts, blocks, lesser, holder}
 use Rattle.lock_table.specs.Grants.{Has, row}

@@ -1,6 +1,6 @@
 -- There is room for every grant that admitted sessions can have.
-use Rattle.std.proofs.Common.{◌≡◌, ◌⊎◌, inl, inr, ⊎_elim, ℕ, ◌+◌, ◌*◌, ◌<◌, ◌≤◌, ◌==◌, suc, zero, Bool, true, false, cond, not, ◌&&◌, ◌||◌, List, [], ◌∷◌, ◌++◌, filter, length, get_or, set, refl, sym, ap, ◌∙◌, subst, arith}
-use Rattle.std.proofs.lemmas.Bool.{eqb-true, eqb-false, eq-eqb, false≢true, true≢false, and_from, and_parts, or_cases, or_parts}
+use Rattle.std.proofs.Common.{◌≡◌, inl, inr, ⊎_elim, ℕ, ◌+◌, ◌*◌, ◌<◌, ◌≤◌, ◌==◌, suc, zero, Bool, true, false, cond, not, List, [], ◌∷◌, ◌++◌, filter, length, get_or, set, refl, sym, ap, ◌∙◌, subst, arith}
+use Rattle.std.proofs.lemmas.Bool.{eqb-true, eq-eqb, false≢true, true≢false, and_from, and_parts, or_cases, or_parts}
 use Rattle.std.proofs.lemmas.List.{length_push}
 use Rattle.std.proofs.lemmas.List.Elements.{AllZip-get_or, length_all_zip}
 use Rattle.std.specs.List.{All, AllZip, list_any}
@@ -120,6 +120,7 @@ joined_new s ss = at (list_any (λ x. x == s) ss) refl
     there : (xs : List ℕ) → list_any (λ x. x == s) xs ≡ true → Has xs s
     there [] e = absurd (false≢true e)
     there (x ∷ xs) e = ⊎_elim (λ (a : (x == s) ≡ true). inl (eqb-true x s a)) (λ (b : list_any (λ x. x == s) xs ≡ true). inr (there xs b)) (or_cases _ _ e)
+
     at : (b : Bool) → list_any (λ x. x == s) ss ≡ b → Has (cond b ss (ss ++ s ∷ [])) s
     at true e = there ss e
     at false e = has_right ss (s ∷ []) s (inl refl)

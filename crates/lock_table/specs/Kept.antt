@@ -1,6 +1,5 @@
 -- How the table keeps its rows: for each lock the sessions that have it.
 use Rattle.std.specs.Prelude.{◌≡◌, ℕ, ◌+◌, ◌≤◌, ◌==◌, suc, cond, not, ◌&&◌, ◌||◌, Bool, false, List, [], ◌∷◌, ◌++◌, map, filter, length, All}
-use Rattle.lock_table.specs.declared.need.Need.{Need}
 use Rattle.lock_table.specs.declared.lock.Grant.{Grant}
 use Rattle.lock_table.specs.Rows.{Row}
 use Rattle.lock_table.specs.Grants.{Has, equal_bits}

@@ -1,7 +1,8 @@
 //! What the words of the table's clauses mean.
 ghost use Rattle.lock_table.specs.Laws.{HolderLaw, CoverLaw, AddedLaw, WithoutLaw};
 
-/// It does nothing: its clauses are laws, which a proof that calls it may use.
+/// It does nothing. Its clauses are laws for callers' proofs: what `holder`, `added` and `without`
+/// say of a single row, and that who holds a lock depends on the set of rows alone.
 pub fn row_laws()
     ensures holder { HolderLaw }
     ensures cover { CoverLaw }

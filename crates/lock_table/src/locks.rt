@@ -20,8 +20,8 @@ pub enum Ask {
     Held { lock: u32, by: u32 },
 }
 
-/// The table has a row for each granted need of a session. It keeps them by lock, so that a request
-/// looks at the rows of its own locks alone, and has room for all needs of the sessions admitted.
+/// A table of locks is the granted needs of each session, as rows, and the sessions admitted. It
+/// keeps the rows by lock, so a request looks at those of its own locks alone.
 #[derive(Debug, Drop)]
 pub struct Locks {
     locks: Vec<Lock>,
@@ -55,9 +55,11 @@ impl Locks {
         })
     }
 
-    /// Makes room for every need that the session can have. A session stays admitted for good.
+    /// Makes room for every need that the session can have: all locks, shared and exclusive, in
+    /// about 16 KiB. A session stays admitted for good, and may be admitted again.
     pub fn admit(&mut self, session: u32) -> Result<(), AllocError>
-        ensures ok { OnOk result (self.new ≡ record self.old { admitted = joined session self.old.admitted }) }
+        ensures ok { OnOk result
+            (self.new ≡ record self.old { admitted = joined session self.old.admitted }) }
         ensures admitted { OnOk result (IsAdmitted self.new session) }
         ensures others { (other : ℕ) → IsAdmitted self.old other → IsAdmitted self.new other }
         ensures err { OnErr result (self.new ≡ self.old) }
@@ -72,14 +74,15 @@ impl Locks {
         Ok(())
     }
 
-    /// Grants the session all of the needs, unless another session's row conflicts with one of
-    /// them.
+    /// Grants the session all of the needs, or none where another session's row conflicts with one
+    /// of them. It never waits, and takes no memory.
     pub fn ask(&mut self, session: u32, needs: &Needs) -> Ask
         requires admitted { IsAdmitted self.old session }
         requires locks { All (λ n. n.lock < LOCKS) needs.now }
         ensures answer { result ≡ answer_of (holder session needs.now self.old.rows) }
         ensures held { (lock by : ℕ) → result ≡ Ask.Held lock by → self.new ≡ self.old }
-        ensures granted { result ≡ Ask.Granted → self.new ≡ record self.old { rows = added session needs.now self.old.rows } }
+        ensures granted { result ≡ Ask.Granted
+            → self.new ≡ record self.old { rows = added session needs.now self.old.rows } }
     {
         match self.holder(session, needs.as_slice()) {
             Some((lock, by)) => Ask::Held { lock, by },
@@ -92,7 +95,7 @@ impl Locks {
         }
     }
 
-    /// Takes back all needs of a session. It stays admitted.
+    /// Takes back all needs of a session, which stays admitted. It takes no memory.
     pub fn release(&mut self, session: u32)
         ensures { self.new ≡ record self.old { rows = without session self.old.rows } }
     {

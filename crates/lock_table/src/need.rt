@@ -11,6 +11,7 @@ pub const LOCKS: u32 = 1025;
 pub struct Need {
     /// 0 is the catalogue, and `b + 1` the branch `b`.
     pub lock: u32,
+    /// Whether no other session may have the lock, even shared.
     pub exclusive: bool,
 }
 
@@ -30,18 +31,21 @@ impl Model for Needs {
 }
 
 impl Needs {
+    /// These needs, without a copy.
     pub fn of(items: Vec<Need>) -> Needs
         ensures { result ≡ items.items }
     {
         Needs { items }
     }
 
+    /// The needs back, without a copy.
     pub fn into_vec(self) -> Vec<Need>
         ensures { result.items ≡ self }
     {
         self.items
     }
 
+    /// The needs, to read.
     pub fn as_slice(&self) -> &[Need]
         ensures { result.now ≡ self.now }
     {

@@ -1,7 +1,7 @@
-use Rattle.std.proofs.Common.{◌≡◌, ◌<◌, length, set, map, take, drop, ◌++◌, ◌+◌, ap, subst, sym, arith, List, ◌∙◌}
+use Rattle.std.proofs.Common.{◌≡◌, set, map, ◌++◌, ap, sym, ◌∙◌}
 use Rattle.std.proofs.lemmas.List.Edits.{map_over_more}
 use Rattle.std.proofs.lemmas.List.{take_all, drop_all, append-nil}
-use Rattle.lock_table.specs.Kept.{LockGrants, without_grants}
+use Rattle.lock_table.specs.Kept.{without_grants}
 use Rattle.lock_table.proofs.locks.release_all.Goals as goal
 
 pub loop-lock-preserved : goal.loop-lock-preserved

@@ -1,4 +1,4 @@
-use Rattle.std.proofs.Common.{◌≡◌, ℕ, ◌==◌, ◌+◌, ◌^◌, ◌<◌, Option, arith, ◌*◌, ◌≤◌, true, false, List, [], ◌∷◌, ◌++◌, length, cond, ap, ◌∙◌, sym, subst, refl}
+use Rattle.std.proofs.Common.{◌≡◌, ℕ, ◌==◌, ◌+◌, ◌^◌, ◌<◌, Option, arith, ◌*◌, ◌≤◌, true, false, List, [], ◌∷◌, ◌++◌, length, ap, ◌∙◌, sym, subst}
 use Rattle.std.specs.List.{AllZip, All, list_any}
 use Rattle.std.specs.Option.{SomeIff}
 use Rattle.std.specs.Vec.{with_items}
@@ -7,7 +7,7 @@ use Rattle.std.proofs.lemmas.List.Elements.{length_all_zip}
 use Rattle.std.proofs.lemmas.Bool.{cond-true, cond-false}
 use Rattle.std.proofs.lemmas.Result.{err_from_is_err_and}
 use Rattle.lock_table.specs.Rows.{Table}
-use Rattle.lock_table.specs.Grants.{Has, IsAdmitted, joined}
+use Rattle.lock_table.specs.Grants.{Has, joined}
 use Rattle.lock_table.specs.Kept.{LockGrants, Grows, IsKept, rows_from}
 use Rattle.lock_table.proofs.Kept.{grown_rows}
 use Rattle.lock_table.proofs.Rooms.{joined_new, joined_old, kept_grown, kept_joined}
@@ -69,7 +69,7 @@ invariant_of-self-2 c =
     let twice = (c.len-sessions.result + 1) * 2 in
     let room = subst (λ (o : Option ℕ). SomeIff o (twice < 2 ^ 64) twice) c.in_ok-room.ensures.ok_part c.checked_mul.ensures in
     let wide : All (λ (k : LockGrants). (length c.self.inside.admitted.items + 1) * 2 ≤ k.room) new =
-        λ k d lt. let le = c.in_ok-reserve_all.ensures.room k d lt in let is = room.1 in let n = c.len-sessions.ensures in let len = c.self.inside.admitted.ok.0 in omega (arith, le, is, n, len) in
+    λ k d lt. let le = c.in_ok-reserve_all.ensures.room k d lt in let is = room.1 in let n = c.len-sessions.ensures in let len = c.self.inside.admitted.ok.0 in omega (arith, le, is, n, len) in
     rw (items, same) (kept_joined c.self.inside.admitted.items c.args.session old.items new c.self.invariant grows wide)
 
 pub returns-clause-ok : goal.returns-clause-ok

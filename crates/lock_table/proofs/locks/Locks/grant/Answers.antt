@@ -1,4 +1,4 @@
-use Rattle.std.proofs.Common.{◌≡◌, ◌<◌, length, get_or, set, ap, ◌∙◌, sym, subst, arith, refl}
+use Rattle.std.proofs.Common.{◌≡◌, ◌<◌, length, get_or, set, ap, ◌∙◌, sym, subst, arith}
 use Rattle.std.proofs.lemmas.List.{length-set}
 use Rattle.std.proofs.lemmas.List.Elements.{All-set}
 use Rattle.lock_table.specs.Grants.{Has}
@@ -37,7 +37,7 @@ returns c =
     let lock = c.index_mut.result.now in
     let within : c.args.need.lock < length inside.locks.items = let n = c.self.invariant.count in omega (arith, n, c.requires.lock) in
     let changed : c.grant.new.self ≡ with_grant (grant_of c.args.session c.args.need) (get_or inside.locks.items c.args.need.lock lock) =
-        c.grant.ensures ∙ ap (with_grant (grant_of c.args.session c.args.need)) c.index_mut.ensures.value in
+    c.grant.ensures ∙ ap (with_grant (grant_of c.args.session c.args.need)) c.index_mut.ensures.value in
     let same = ap (λ (k : LockGrants). rows_from 0 (set inside.locks.items c.args.need.lock k)) changed
-        ∙ sym (granted_at c.args.session c.args.need inside.locks.items c.args.need.lock 0 lock (omega arith) within) in
+    ∙ sym (granted_at c.args.session c.args.need inside.locks.items c.args.need.lock 0 lock (omega arith) within) in
     rw (← c.self.view_is) (λ i. record { rows = same i; admitted = inside.admitted.items })
