@@ -1,0 +1,4 @@
+pub mod Ancestors
+pub mod Parents
+pub mod Walk
+pub mod Laws
