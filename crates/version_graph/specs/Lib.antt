@@ -1,4 +1,4 @@
 pub mod Ancestors
 pub mod Parents
-pub mod Walk
+pub mod Marked
 pub mod Laws

@@ -16,17 +16,15 @@ pub struct Graph {
 }
 
 impl Model for Graph {
-    ghost use Rattle.std.specs.Prelude.{◌+◌, ◌<◌, ◌≤◌, ◌^◌, map, length, vec_len, vec_capacity};
-    ghost use Rattle.version_graph.specs.Ancestors.{Lineage, AllEarlier};
-    ghost use Rattle.version_graph.specs.Parents.{list_of};
+    ghost use Rattle.std.specs.Prelude.{map, vec_capacity};
+    ghost use Rattle.version_graph.specs.Ancestors.{Lineage};
+    ghost use Rattle.version_graph.specs.Parents.{list_of, IsKept};
 
     ghost Value = { Lineage };
 
     ghost view = { λ g. record { versions = map list_of g.versions.items; spare = g.spare } };
 
-    ghost invariant = { λ g. AllEarlier (map list_of g.versions.items)
-        × (length g.versions.items + g.spare < 2 ^ 32)
-        × (length g.versions.items + g.spare ≤ vec_capacity g.versions) };
+    ghost invariant = { λ g. IsKept g.versions.items g.spare (vec_capacity g.versions) };
 }
 
 impl Graph {
@@ -97,10 +95,10 @@ impl Graph {
         requires b_there { b < length self.now.versions }
         ensures { IfOk result (λ is. IsTrue is ↔ Reaches self.now.versions b a) }
     {
+        let alloc = *self.versions.allocator();
         if a > b {
             return Ok(false);
         }
-        let alloc = *self.versions.allocator();
         let found = last_common_from(alloc, self.versions.as_slice(), a, b, a)?;
         Ok(found.is_some())
     }

@@ -6,14 +6,17 @@
 //! | file | has |
 //! |---|---|
 //! | `specs/Ancestors.antt` | parents, ancestors, and the last common one |
-//! | `specs/Walk.antt` | the marks of a walk to the ancestors |
+//! | `specs/Laws.antt` | what reaching says when a graph grows |
+//! | `specs/Parents.antt`, `specs/Marked.antt` | how a graph keeps its versions, and a walk its marks |
 //! | `src/graph.rt` | the graph, and its questions |
 //! | `src/parents.rt` | the parents of one version |
 //! | `src/walk.rt` | the walk from two versions to their ancestors |
+//! | `src/marks.rt` | the marks of the walk |
 #![tactic(auto)]
 
 mod graph;
 mod laws;
+mod marks;
 mod parents;
 mod walk;
 
