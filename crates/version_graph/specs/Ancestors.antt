@@ -1,5 +1,5 @@
 -- Versions with their parents, and which version is an ancestor of which.
-use Rattle.std.specs.Prelude.{◌≡◌, ℕ, ◌<◌, ◌≤◌, List, [], Contains, slice_index_or}
+use Rattle.std.specs.Prelude.{ℕ, ◌<◌, ◌≤◌, List, [], Contains, slice_index_or}
 
 -- the versions by number, each as its list of parents, and how many more there is room for
 pub record Lineage : Type 0 where

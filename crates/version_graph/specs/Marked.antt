@@ -1,5 +1,5 @@
 -- The marks of a walk from two versions down to their ancestors.
-use Rattle.std.specs.Prelude.{ℕ, ◌-◌, nat_lt, cond, ◌||◌, Bool, false, List, [], ◌∷◌, slice_index_or, slice_set}
+use Rattle.std.specs.Prelude.{ℕ, ◌-◌, nat_lt, cond, ◌||◌, false, List, [], ◌∷◌, slice_index_or, slice_set}
 use Rattle.version_graph.specs.declared.marks.Mark.{Mark}
 
 -- a version that neither side has reached

@@ -82,8 +82,8 @@ impl Graph {
             if let Some(last) = last_common_from(alloc, self.versions.as_slice(), a, b, low)? {
                 return Ok(last);
             }
-            // Twice as many versions each time, so all walks together visit at most four times as
-            // many as there are from the answer on.
+            // Twice as many versions each time, so all walks together visit at most three times
+            // the versions from the answer on.
             low = low.saturating_sub(high - low + 1);
         }
     }

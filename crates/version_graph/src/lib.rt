@@ -18,6 +18,8 @@ mod graph;
 mod laws;
 mod marks;
 mod parents;
+#[cfg(test)]
+mod tests;
 mod walk;
 
 pub use graph::Graph;

@@ -1,12 +1,10 @@
-use Rattle.std.proofs.Common.{◌≡◌, ℕ, suc, false, ◌&&◌, ◌+◌, ◌-◌, ◌<◌, ◌≤◌, max, length, map, get_or, replicate, List, [], ◌∷◌, ap, ◌∙◌, sym, subst, arith}
+use Rattle.std.proofs.Common.{◌≡◌, ℕ, suc, false, ◌&&◌, ◌+◌, ◌-◌, ◌<◌, max, length, map, get_or, replicate, List, [], ap, ◌∙◌, sym, subst, arith}
 use Rattle.std.specs.List.{Contains}
 use Rattle.std.proofs.lemmas.Bool.{and_left, and_right}
 use Rattle.std.proofs.lemmas.List.{get_or-map, length-replicate}
 use Rattle.std.proofs.lemmas.List.Elements.{Contains-get_or}
-use Rattle.version_graph.specs.declared.marks.Mark.{Mark}
-use Rattle.version_graph.specs.declared.parents.Parents.{Parents}
 use Rattle.version_graph.specs.declared.parents.Parents.TheVariants.{Root}
-use Rattle.version_graph.specs.Ancestors.{parents_of, IsLastCommon}
+use Rattle.version_graph.specs.Ancestors.{parents_of}
 use Rattle.version_graph.specs.Parents.{list_of}
 use Rattle.version_graph.specs.Marked.{Marked, unmarked, marked, all_marked}
 use Rattle.version_graph.proofs.OneSide.{at, length-marked, length-all_marked}
@@ -23,9 +21,9 @@ loop-version-init c =
     let n = high - low + 1 in
     let is : high ≡ max left right = c.max-high.ensures in
     let one : c.set.new.self ≡ record { low = low; marks = marked low left_mark left (replicate n unmarked) } =
-        c.set.ensures ∙ ap (λ (m : Marked). record { low = m.low; marks = marked m.low left_mark left m.marks }) c.in_ok-marks.ensures in
+    c.set.ensures ∙ ap (λ (m : Marked). record { low = m.low; marks = marked m.low left_mark left m.marks }) c.in_ok-marks.ensures in
     let two : c.set-2.new.self ≡ record { low = low; marks = marked low right_mark right (marked low left_mark left (replicate n unmarked)) } =
-        c.set-2.ensures ∙ ap (λ (m : Marked). record { low = m.low; marks = marked m.low right_mark right m.marks }) one in
+    c.set-2.ensures ∙ ap (λ (m : Marked). record { low = m.low; marks = marked m.low right_mark right m.marks }) one in
     let long = ap (λ (m : Marked). length m.marks) two ∙ length-marked low right_mark right (marked low left_mark left (replicate n unmarked)) ∙ length-marked low left_mark left (replicate n unmarked) ∙ length-replicate n unmarked in
     let first = ap (λ (m : Marked). m.low) two in
     let up : suc high ≡ high + 1 = omega arith in
@@ -84,7 +82,7 @@ loop-version-preserved c =
       | goal.else-sides-via-else-sides w ↦ and_left (at of_left marks.marks i) (at of_right marks.marks i) (ap of_left (sym c.of-sides.ensures) ∙ w.if-sides.false)
     ] in
     let all : c.set_all.new.self ≡ record { low = marks.low; marks = all_marked marks.low (get_or marks.marks i unmarked) (parents_of vs v) marks.marks } =
-        c.set_all.ensures ∙ (λ k. record { low = marks.low; marks = all_marked marks.low (c.of-sides.ensures k) (parents k) marks.marks }) in
+    c.set_all.ensures ∙ (λ k. record { low = marks.low; marks = all_marked marks.low (c.of-sides.ensures k) (parents k) marks.marks }) in
     let next = walk_on vs c.args.left c.args.right marks.low v i marks.marks c.requires.earlier is within (subst (λ (k : ℕ). Walk vs c.args.left c.args.right marks.low k marks.marks) up c.loop-version.invariant.walk) not_both in
     let long = ap (λ (m : Marked). length m.marks) all ∙ length-all_marked marks.low (get_or marks.marks i unmarked) (parents_of vs v) marks.marks in
     let same = ap (λ (m : Marked). m.low) all in

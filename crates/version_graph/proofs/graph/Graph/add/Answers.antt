@@ -1,6 +1,6 @@
 use Rattle.std.proofs.Common.{◌≡◌, ◌<◌, ◌∷◌, [], ◌++◌, ℕ, List, map, length, ap, ◌∙◌, sym, subst, arith}
 use Rattle.std.specs.List.{All}
-use Rattle.std.proofs.lemmas.List.{map_push, length_push, length-map}
+use Rattle.std.proofs.lemmas.List.{map_push, length_push}
 use Rattle.version_graph.specs.Ancestors.{Lineage, AllEarlier}
 use Rattle.version_graph.specs.Parents.{list_of}
 use Rattle.version_graph.proofs.Reaching.{earlier_more}

@@ -1,4 +1,4 @@
-use Rattle.std.proofs.Common.{◌≡◌, ap, map, length, ◌∙◌, sym, subst, arith}
+use Rattle.std.proofs.Common.{ap, map, length, ◌∙◌, sym, subst, arith}
 use Rattle.version_graph.specs.Ancestors.{AllEarlier}
 use Rattle.version_graph.specs.Parents.{list_of}
 use Rattle.version_graph.proofs.graph.Graph.duplicate.Goals as goal

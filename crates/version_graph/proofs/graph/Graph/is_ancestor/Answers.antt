@@ -1,4 +1,4 @@
-use Rattle.std.proofs.Common.{◌≡◌, ◌↔◌, List, ℕ, map, true, false, ap, ◌∙◌, sym, subst, arith}
+use Rattle.std.proofs.Common.{List, ℕ, map, ap, ◌∙◌, sym, subst, arith}
 use Rattle.std.proofs.lemmas.Bool.{false≢true}
 use Rattle.version_graph.specs.declared.parents.Parents.{Parents}
 use Rattle.version_graph.specs.Ancestors.{Lineage, Reaches, AllEarlier}
