@@ -13,9 +13,11 @@ Has (x ∷ xs) a = (x ≡ a) ⊎ Has xs a
 abbrev pub IsAdmitted : Table → ℕ → Type 0
 IsAdmitted t session = Has t.admitted session
 
+-- the row of a session with a need
 abbrev pub row : ℕ → Need → Row
 row session need = record { session = session; need = need }
 
+-- both are true, or both are false
 abbrev pub equal_bits : Bool → Bool → Bool
 equal_bits true b = b
 equal_bits false b = not b

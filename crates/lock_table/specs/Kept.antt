@@ -1,6 +1,7 @@
 -- How the table keeps its rows: for each lock the sessions that have it.
 use Rattle.std.specs.Prelude.{◌≡◌, ℕ, ◌+◌, ◌≤◌, ◌==◌, suc, cond, not, ◌&&◌, ◌||◌, Bool, false, List, [], ◌∷◌, ◌++◌, map, filter, length, All}
 use Rattle.lock_table.specs.declared.lock.Grant.{Grant}
+use Rattle.lock_table.specs.declared.need.TheConstants.{LOCKS}
 use Rattle.lock_table.specs.Rows.{Row}
 use Rattle.lock_table.specs.Grants.{Has, equal_bits}
 
@@ -18,6 +19,7 @@ abbrev pub rows_from : ℕ → List LockGrants → List Row
 rows_from lock [] = []
 rows_from lock (k ∷ ks) = map (row_of lock) k.grants ++ rows_from (suc lock) ks
 
+-- two grants are of one session and one kind
 abbrev pub same_grant : Grant → Grant → Bool
 same_grant g h = g.session == h.session && equal_bits g.exclusive h.exclusive
 
@@ -30,6 +32,7 @@ has_grant g (h ∷ hs) = same_grant h g || has_grant g hs
 abbrev pub with_grant : Grant → LockGrants → LockGrants
 with_grant g k = record { grants = cond (has_grant g k.grants) k.grants (k.grants ++ g ∷ []); room = k.room }
 
+-- the grant is another session's
 abbrev pub is_of_other : ℕ → Grant → Bool
 is_of_other session g = not (g.session == session)
 
@@ -54,5 +57,5 @@ pub record HasRoom (admitted : List ℕ) (k : LockGrants) : Type 0 where
 
 -- what holds of the parts of a table: each lock is there, and has room
 pub record IsKept (admitted : List ℕ) (locks : List LockGrants) : Type 0 where
-  pub count : length locks ≡ 1025
+  pub count : length locks ≡ LOCKS
   pub roomy : All (HasRoom admitted) locks

@@ -8,7 +8,8 @@
 //! |---|---|
 //! | `specs/Rows.antt` | rows, conflicts, and who holds a lock |
 //! | `specs/Grants.antt` | what a grant and a release make of the rows |
-//! | `specs/Laws.antt` | what `holder`, `added` and `without` say row by row |
+//! | `specs/Answer.antt` | the answer to a request |
+//! | `specs/Laws.antt`, `src/laws.rt` | what `holder`, `added` and `without` say row by row |
 //! | `specs/Kept.antt` | how the rows are kept, by lock |
 //! | `src/need.rt` | a need, and a list of them |
 //! | `src/locks.rt` | the table |

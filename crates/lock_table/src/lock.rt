@@ -48,7 +48,7 @@ impl Lock {
         self.grants.reserve(more)
     }
 
-    /// The least other session whose grant here conflicts with the need, behind the lock's number.
+    /// The lock, and the least other session whose grant on it conflicts with the need.
     pub fn holder(&self, session: u32, need: Need) -> Option<(u32, u32)>
         ensures { result ≡ holder session (need ∷ []) (map (row_of need.lock) self.now.grants) }
     {

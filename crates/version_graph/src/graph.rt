@@ -39,7 +39,7 @@ impl Graph {
         }
     }
 
-    /// Makes room for more versions.
+    /// Makes room for `more` versions beside those that are spare.
     pub fn reserve(&mut self, more: u32) -> Result<(), AllocError>
         requires { length self.old.versions + self.old.spare + more < 2 ^ 32 }
         ensures ok { OnOk result (self.new ≡ record self.old { spare = self.old.spare + more }) }
@@ -50,7 +50,8 @@ impl Graph {
         Ok(())
     }
 
-    /// Adds a version with these parents, and gives its number. It takes no memory.
+    /// Adds a version with these parents, and gives its number. It uses up one of those that are
+    /// spare, and takes no memory.
     pub fn add(&mut self, parents: &[u32]) -> u32
         requires few { length parents.now ≤ 2 }
         requires earlier { All (λ parent. parent < length self.old.versions) parents.now }

@@ -6,7 +6,7 @@
 //! | file | has |
 //! |---|---|
 //! | `specs/Ancestors.antt` | parents, ancestors, and the last common one |
-//! | `specs/Laws.antt` | what reaching says when a graph grows |
+//! | `specs/Laws.antt`, `src/laws.rt` | what reaching says when a graph grows |
 //! | `specs/Parents.antt`, `specs/Marked.antt` | how a graph keeps its versions, and a walk its marks |
 //! | `src/graph.rt` | the graph, and its questions |
 //! | `src/parents.rt` | the parents of one version |

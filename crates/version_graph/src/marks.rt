@@ -44,7 +44,8 @@ impl Marks {
         Ok(Marks { low, marks })
     }
 
-    pub fn of(&self, version: u32) -> Mark
+    /// The sides from which a version was reached.
+    pub fn at(&self, version: u32) -> Mark
         requires from { self.now.low ≤ version }
         requires there { version < self.now.low + length self.now.marks }
         ensures { result ≡ slice_index_or self.now.marks (version - self.now.low) unmarked }
@@ -68,10 +69,13 @@ impl Marks {
         }
     }
 
+    /// Marks all parents of a version with its sides.
     pub fn set_all(&mut self, sides: Mark, parents: Parents)
         requires { All (λ p. p < self.old.low + length self.old.marks) (list_of parents) }
         ensures { self.new
-            ≡ record self.old { marks = all_marked self.old.low sides (list_of parents) self.old.marks } }
+            ≡ record self.old {
+              marks = all_marked self.old.low sides (list_of parents) self.old.marks;
+            } }
     {
         match parents {
             Parents::Root => {}

@@ -10,6 +10,7 @@ pub enum Parents {
     Two(u32, u32),
 }
 
+/// These parents, at most two.
 pub fn parents_from(parents: &[u32]) -> Parents
     requires { length parents.now ≤ 2 }
     ensures { list_of result ≡ parents.now }

@@ -49,7 +49,7 @@ pub fn last_common_from(
     let mut version = high + 1;
     while version > low {
         version -= 1;
-        let sides = marks.of(version);
+        let sides = marks.at(version);
         if sides.left && sides.right {
             return Ok(Some(version));
         }

@@ -48,7 +48,7 @@ returns-then-sides-2 c =
     let is : marks.low + i ≡ v = omega (arith, c.loop-version-test.true, first) in
     let walk = subst (λ (k : ℕ). Walk vs c.args.left c.args.right marks.low k marks.marks) up c.loop-version.invariant.walk in (
       omega (arith, c.loop-version-test.true),
-      walk_ends vs c.args.left c.args.right marks.low v i marks.marks is walk (ap of_left (sym c.of-sides.ensures) ∙ c.if-sides.true) (ap of_right (sym c.of-sides.ensures) ∙ c.if-sides-2.true),
+      walk_ends vs c.args.left c.args.right marks.low v i marks.marks is walk (ap of_left (sym c.at-sides.ensures) ∙ c.if-sides.true) (ap of_right (sym c.at-sides.ensures) ∙ c.if-sides-2.true),
     )
 
 pub set_all-requires : goal.set_all-requires
@@ -78,11 +78,11 @@ loop-version-preserved c =
     let there : v < length versions = let t = c.loop-version.invariant.there in omega (arith, t, c.loop-version-test.true) in
     let parents : list_of (get_or versions v Root) ≡ parents_of vs v = sym (get_or-map list_of versions v Root [] there) in
     let not_both : (at of_left marks.marks i && at of_right marks.marks i) ≡ false = elim c.else-sides.branch [
-      | goal.else-sides-via-then-sides+else-sides-2 w ↦ and_right (at of_left marks.marks i) (at of_right marks.marks i) (ap of_right (sym c.of-sides.ensures) ∙ w.if-sides-2.false)
-      | goal.else-sides-via-else-sides w ↦ and_left (at of_left marks.marks i) (at of_right marks.marks i) (ap of_left (sym c.of-sides.ensures) ∙ w.if-sides.false)
+      | goal.else-sides-via-then-sides+else-sides-2 w ↦ and_right (at of_left marks.marks i) (at of_right marks.marks i) (ap of_right (sym c.at-sides.ensures) ∙ w.if-sides-2.false)
+      | goal.else-sides-via-else-sides w ↦ and_left (at of_left marks.marks i) (at of_right marks.marks i) (ap of_left (sym c.at-sides.ensures) ∙ w.if-sides.false)
     ] in
     let all : c.set_all.new.self ≡ record { low = marks.low; marks = all_marked marks.low (get_or marks.marks i unmarked) (parents_of vs v) marks.marks } =
-    c.set_all.ensures ∙ (λ k. record { low = marks.low; marks = all_marked marks.low (c.of-sides.ensures k) (parents k) marks.marks }) in
+    c.set_all.ensures ∙ (λ k. record { low = marks.low; marks = all_marked marks.low (c.at-sides.ensures k) (parents k) marks.marks }) in
     let next = walk_on vs c.args.left c.args.right marks.low v i marks.marks c.requires.earlier is within (subst (λ (k : ℕ). Walk vs c.args.left c.args.right marks.low k marks.marks) up c.loop-version.invariant.walk) not_both in
     let long = ap (λ (m : Marked). length m.marks) all ∙ length-all_marked marks.low (get_or marks.marks i unmarked) (parents_of vs v) marks.marks in
     let same = ap (λ (m : Marked). m.low) all in
