@@ -1,0 +1,4 @@
+pub mod Least
+pub mod Added
+pub mod Kept
+pub mod Rooms

@@ -1,0 +1,5 @@
+pub mod Rows
+pub mod Grants
+pub mod Laws
+pub mod Kept
+pub mod Answer

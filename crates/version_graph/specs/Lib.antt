@@ -1,0 +1,4 @@
+pub mod Ancestors
+pub mod Parents
+pub mod Marked
+pub mod Laws
