@@ -1,0 +1,5 @@
+pub mod Truths
+pub mod Words
+pub mod Ones
+pub mod Paired
+pub mod Next
