@@ -39,9 +39,9 @@ next_ahead words from fits not_empty =
     let lowest = bit_at-trailing_zeros w64 (ahead words from) some small in
     let here : bit_at (get_or words (from / 64) 0) (from % 64 + t) ≡ 1 = ap (λ n. n % 2) (sym (shr-shr (get_or words (from / 64) 0) (from % 64) t)) ∙ lowest.1 in
     ⊎_elim (λ (inside : from % 64 + t < 64).
-      next_is (bits_of words) from (from + t) (omega arith) (in_the_word_ahead words from t inside ∙ ap (λ n. eqb n 1) lowest.1) (λ k after before.
-        let back : from + (k - from) ≡ k = omega arith in
-        ap (bit_of (bits_of words)) (sym back) ∙ in_the_word_ahead words from (k - from) (omega arith) ∙ ap (λ n. eqb n 1) (lowest.2 (k - from) (omega arith))))
+    next_is (bits_of words) from (from + t) (omega arith) (in_the_word_ahead words from t inside ∙ ap (λ n. eqb n 1) lowest.1) (λ k after before.
+    let back : from + (k - from) ≡ k = omega arith in
+    ap (bit_of (bits_of words)) (sym back) ∙ in_the_word_ahead words from (k - from) (omega arith) ∙ ap (λ n. eqb n 1) (lowest.2 (k - from) (omega arith))))
     (λ (outside : 64 ≤ from % 64 + t). absurd (omega (arith, here, bit_at_above (get_or words (from / 64) 0) 64 (from % 64 + t) fits outside)))
     (cases_lt (from % 64 + t) 64)
 
@@ -49,15 +49,15 @@ next_ahead words from fits not_empty =
 none_between : (words : List ℕ) (from place k : ℕ) → ahead words from ≡ 0 → ((q : ℕ) → from / 64 + 1 ≤ q → q < place → get_or words q 0 ≡ 0) → from ≤ k → k / 64 < place → bit_of (bits_of words) k ≡ false
 none_between words from place k nothing empty after before =
     ⊎_elim (λ (same : k / 64 ≡ from / 64).
-      let back : from + (k - from) ≡ k = omega arith in
-      ap (bit_of (bits_of words)) (sym back) ∙ in_the_word_ahead words from (k - from) (omega arith) ∙ ap (λ n. is_set n (k - from)) nothing ∙ ap (λ n. eqb n 1) (bit_at-zero (k - from)))
+    let back : from + (k - from) ≡ k = omega arith in
+    ap (bit_of (bits_of words)) (sym back) ∙ in_the_word_ahead words from (k - from) (omega arith) ∙ ap (λ n. is_set n (k - from)) nothing ∙ ap (λ n. eqb n 1) (bit_at-zero (k - from)))
     (λ (other : k / 64 ≡ from / 64 → ⊥). in_an_empty_word words k (empty (k / 64) (omega arith) before))
     (cases_eq (k / 64) (from / 64))
 
 pub next_nowhere : (words : List ℕ) (from place : ℕ) → ahead words from ≡ 0 → ((q : ℕ) → from / 64 + 1 ≤ q → q < place → get_or words q 0 ≡ 0) → place ≡ length words → next_true (bits_of words) from ≡ None
 next_nowhere words from place nothing empty end =
     next_none (bits_of words) from (λ k after.
-      ⊎_elim (λ (h : k / 64 < place). none_between words from place k nothing empty after h) (λ (h : place ≤ k / 64). past_the_words words k (omega arith)) (cases_lt (k / 64) place))
+    ⊎_elim (λ (h : k / 64 < place). none_between words from place k nothing empty after h) (λ (h : place ≤ k / 64). past_the_words words k (omega arith)) (cases_lt (k / 64) place))
 
 pub next_in_word : (words : List ℕ) (from place : ℕ) → ahead words from ≡ 0 → ((q : ℕ) → from / 64 + 1 ≤ q → q < place → get_or words q 0 ≡ 0) → from / 64 + 1 ≤ place → 0 < get_or words place 0 → get_or words place 0 < 2 ^ 64
     → next_true (bits_of words) from ≡ Some (place * 64 + trailing_zeros w64 (get_or words place 0))
@@ -66,8 +66,8 @@ next_in_word words from place nothing empty later some small =
     let lowest = bit_at-trailing_zeros w64 (get_or words place 0) some small in
     let at : 64 * place + t ≡ place * 64 + t = omega arith in
     next_is (bits_of words) from (place * 64 + t) (omega arith) (ap (bit_of (bits_of words)) (sym at) ∙ bit_in_word words place t lowest.0 ∙ ap (λ n. eqb n 1) lowest.1) (λ k after before.
-      ⊎_elim (λ (h : k / 64 < place). none_between words from place k nothing empty after h)
-      (λ (h : place ≤ k / 64).
-        let back : 64 * place + (k - 64 * place) ≡ k = omega arith in
-        ap (bit_of (bits_of words)) (sym back) ∙ bit_in_word words place (k - 64 * place) (omega (arith, lowest.0)) ∙ ap (λ n. eqb n 1) (lowest.2 (k - 64 * place) (omega arith)))
-      (cases_lt (k / 64) place))
+    ⊎_elim (λ (h : k / 64 < place). none_between words from place k nothing empty after h)
+    (λ (h : place ≤ k / 64).
+    let back : 64 * place + (k - 64 * place) ≡ k = omega arith in
+    ap (bit_of (bits_of words)) (sym back) ∙ bit_in_word words place (k - 64 * place) (omega (arith, lowest.0)) ∙ ap (λ n. eqb n 1) (lowest.2 (k - 64 * place) (omega arith)))
+    (cases_lt (k / 64) place))

@@ -22,7 +22,7 @@ spelled : (many n : ℕ) → n < 2 ^ many → mask_l (low_bits many n) ≡ n
 spelled many n h =
     let below : mask_l (low_bits many n) < 2 ^ many = subst (λ (k : ℕ). mask_l (low_bits many n) < 2 ^ k) (length-low_bits many n) (mask_l-lt (low_bits many n)) in
     same_from_bits_below many (mask_l (low_bits many n)) n below h (λ i lt.
-      bit_mask_l (low_bits many n) i ∙ ap (λ (b : Bool). cond b 1 0) (bit-low_bits many n i lt) ∙ weight_of_test (bit_at n i) (bit_at-lt n i))
+    bit_mask_l (low_bits many n) i ∙ ap (λ (b : Bool). cond b 1 0) (bit-low_bits many n i lt) ∙ weight_of_test (bit_at n i) (bit_at-lt n i))
 
 pub ones-low_bits : (many n : ℕ) → n < 2 ^ many → count_ones n ≡ count_true (low_bits many n)
 ones-low_bits many n h =

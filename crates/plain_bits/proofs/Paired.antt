@@ -22,9 +22,9 @@ paired_word f from old now at word before h is = record {
   done = λ k below.
       ⊎_elim (λ (lower : k < at). let apart : k ≡ at → ⊥ = omega arith in get_or-set_other now at k word 0 apart ∙ before.done k lower)
       (λ (not_lower : at ≤ k).
-        let here : k ≡ at = omega arith in
-        ap (λ i. get_or (set now at word) i 0) here ∙ get_or-set_same now at word 0 (omega (arith, before.same_len)) ∙ is
-        ∙ ap (f (get_or from at 0)) (before.left at (omega arith)) ∙ sym (ap (λ i. f (get_or from i 0) (get_or old i 0)) here))
+      let here : k ≡ at = omega arith in
+      ap (λ i. get_or (set now at word) i 0) here ∙ get_or-set_same now at word 0 (omega (arith, before.same_len)) ∙ is
+      ∙ ap (f (get_or from at 0)) (before.left at (omega arith)) ∙ sym (ap (λ i. f (get_or from i 0) (get_or old i 0)) here))
       (cases_lt k at);
   left = λ k above. let apart : k ≡ at → ⊥ = omega arith in get_or-set_other now at k word 0 apart ∙ before.left k (omega arith);
 }
@@ -43,14 +43,14 @@ paired_vector f from old now at many before room same =
       done = λ k below.
           ⊎_elim (λ (lower : k < at). get_or-put_chunk_below at now lanes k 0 lower ∙ before.done k lower)
           (λ (not_lower : at ≤ k).
-            let j : ℕ = k - at in
-            let lane : j < many = omega arith in
-            let back : at + j ≡ k = omega arith in
-            ap (λ i. get_or (put_chunk at now lanes) i 0) (sym back)
-            ∙ get_or-put_chunk_at at now lanes j 0 (omega arith) (omega (arith, before.same_len))
-            ∙ get_or-zip2 f (chunk at many from) (chunk at many now) j 0 0 0 (omega arith) (omega arith)
-            ∙ ap₂ f (get_or-chunk at many from j 0 lane) (get_or-chunk at many now j 0 lane ∙ before.left (at + j) (omega arith))
-            ∙ ap (λ i. f (get_or from i 0) (get_or old i 0)) back)
+          let j : ℕ = k - at in
+          let lane : j < many = omega arith in
+          let back : at + j ≡ k = omega arith in
+          ap (λ i. get_or (put_chunk at now lanes) i 0) (sym back)
+          ∙ get_or-put_chunk_at at now lanes j 0 (omega arith) (omega (arith, before.same_len))
+          ∙ get_or-zip2 f (chunk at many from) (chunk at many now) j 0 0 0 (omega arith) (omega arith)
+          ∙ ap₂ f (get_or-chunk at many from j 0 lane) (get_or-chunk at many now j 0 lane ∙ before.left (at + j) (omega arith))
+          ∙ ap (λ i. f (get_or from i 0) (get_or old i 0)) back)
           (cases_lt k at);
       left = λ k above. get_or-put_chunk_above at now lanes k 0 (omega arith) ∙ before.left k (omega arith);
     }
@@ -59,4 +59,4 @@ pub paired_all : (f : ℕ → ℕ → ℕ) (from old now : List ℕ) (at : ℕ) 
 paired_all f from old now at before end same =
     let long : length (zip2 f from old) ≡ length from = length-zip2 f from old same in
     ext_get_or 0 now (zip2 f from old) (omega (arith, before.same_len)) (λ k h.
-      before.done k (omega (arith, before.same_len, before.in_range)) ∙ sym (get_or-zip2 f from old k 0 0 0 (omega (arith, before.same_len)) (omega (arith, before.same_len))))
+    before.done k (omega (arith, before.same_len, before.in_range)) ∙ sym (get_or-zip2 f from old k 0 0 0 (omega (arith, before.same_len)) (omega (arith, before.same_len))))

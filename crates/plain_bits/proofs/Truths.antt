@@ -5,7 +5,7 @@ use Rattle.std.specs.Simd.Lanes.{zip2}
 use Rattle.std.proofs.lemmas.Bool.{cases_lt, cases_Bool, false≢true}
 use Rattle.std.proofs.lemmas.List.{get_or_append_left, get_or-append_right, get_or_past, get_or-replicate, length-replicate}
 use Rattle.std.proofs.lemmas.List.Sums.{sum_by-cons}
-use Rattle.plain_bits.specs.Truth.{bit_of, count_true, next_true, lengthened}
+use Rattle.plain_bits.specs.Truth.{bit_of, count_true, next_true, lengthened, IsNextTrue, IsClearFrom}
 
 -- two lists with the same value at each place, however long they are, have the same true places
 pub record SameBits (xs ys : List Bool) : Type 0 where
@@ -67,7 +67,7 @@ pub next_none : (bits : List Bool) (from : ℕ) → ((k : ℕ) → from ≤ k �
 next_none bits from never = no_position from (drop from bits) (λ k. get_or-drop from bits k false ∙ never (from + k) (omega arith))
 
 -- the front of a list that has no true place behind it
-pub same_front : (len : ℕ) (bits : List Bool) → ((place : ℕ) → len ≤ place → bit_of bits place ≡ false) → SameBits (take len bits) bits
+pub same_front : (len : ℕ) (bits : List Bool) → IsClearFrom bits len → SameBits (take len bits) bits
 same_front len bits clear = record {
   at = λ place.
       ⊎_elim (λ (h : place < len). get_or-take len bits place false h)
@@ -86,7 +86,7 @@ pub with_defaults : {X : Type 0} (xs : List X) (many : ℕ) (d : X) (place : ℕ
 with_defaults xs many d place =
     ⊎_elim (λ (h : place < length xs). get_or_append_left xs (replicate many d) d place h)
     (λ (h : length xs ≤ place).
-      get_or-append_right xs (replicate many d) (length xs) place d refl h ∙ default_everywhere many (place - length xs) d ∙ sym (get_or_past xs place d h))
+    get_or-append_right xs (replicate many d) (length xs) place d refl h ∙ default_everywhere many (place - length xs) d ∙ sym (get_or_past xs place d h))
     (cases_lt place (length xs))
 
 pub bit-zip2 : (g : Bool → Bool → Bool) → g false false ≡ false → (xs ys : List Bool) (place : ℕ) → length xs ≡ length ys → bit_of (zip2 g xs ys) place ≡ g (bit_of xs place) (bit_of ys place)
@@ -115,21 +115,62 @@ take_of_set (suc n) [] i x = refl
 take_of_set (suc n) (y ∷ ys) zero x = refl
 take_of_set (suc n) (y ∷ ys) (suc i) x = ap (λ rest. y ∷ rest) (take_of_set n ys i x)
 
-true_position : (base : ℕ) (xs : List Bool) (i : ℕ) → position_from (λ (b : Bool). b) base xs ≡ Some i → (j : ℕ) × (i ≡ base + j) × (bit_of xs j ≡ true)
-true_position base [] i found = cc
-true_position base (x ∷ xs) i found =
+false_before : (x : Bool) (xs : List Bool) (step : ℕ) → x ≡ false → ((k : ℕ) → k < step → bit_of xs k ≡ false) → (k : ℕ) → k < suc step → bit_of (x ∷ xs) k ≡ false
+false_before x xs step is_not before zero h = is_not
+false_before x xs step is_not before (suc k) h = before k (omega arith)
+
+false_at : (x : Bool) (xs : List Bool) → x ≡ false → ((k : ℕ) → bit_of xs k ≡ false) → (k : ℕ) → bit_of (x ∷ xs) k ≡ false
+false_at x xs is_not never zero = is_not
+false_at x xs is_not never (suc k) = never k
+
+-- what is found at a place, counted from `base`
+record FoundAt (base : ℕ) (xs : List Bool) (i : ℕ) : Type 0 where
+  step : ℕ
+  at : i ≡ base + step
+  is_true : bit_of xs step ≡ true
+  between : (k : ℕ) → k < step → bit_of xs k ≡ false
+
+found_position : (base : ℕ) (xs : List Bool) (i : ℕ) → position_from (λ (b : Bool). b) base xs ≡ Some i → FoundAt base xs i
+found_position base [] i found = cc
+found_position base (x ∷ xs) i found =
     ⊎_elim (λ (is : x ≡ true).
-      let here : Some i ≡ Some base = sym found ∙ ap (λ (b : Bool). cond b (Some base) (position_from (λ (b : Bool). b) (base + 1) xs)) is in
-      let same : i ≡ base = cc in
-      (0, omega arith, is))
+    let here : Some i ≡ Some base = sym found ∙ ap (λ (b : Bool). cond b (Some base) (position_from (λ (b : Bool). b) (base + 1) xs)) is in
+    let same : i ≡ base = cc in
+    let found_here : FoundAt base (x ∷ xs) i = record { step = 0; at = omega arith; is_true = is; between = λ k h. absurd (omega arith) } in found_here)
     (λ (is_not : x ≡ false).
-      let later = true_position (base + 1) xs i (sym (ap (λ (b : Bool). cond b (Some base) (position_from (λ (b : Bool). b) (base + 1) xs)) is_not) ∙ found) in
-      (suc later.0, omega (arith, later.1), later.2))
+    let later = found_position (base + 1) xs i (sym (ap (λ (b : Bool). cond b (Some base) (position_from (λ (b : Bool). b) (base + 1) xs)) is_not) ∙ found) in
+    let found_later : FoundAt base (x ∷ xs) i = record { step = suc later.step; at = omega (arith, later.at); is_true = later.is_true; between = false_before x xs later.step is_not later.between } in found_later)
     (cases_Bool x)
 
--- what is found is true, and so it lies before all that is false
-pub next_within : (bits : List Bool) (from i len : ℕ) → next_true bits from ≡ Some i → ((place : ℕ) → len ≤ place → bit_of bits place ≡ false) → i < len
+not_found : (base : ℕ) (xs : List Bool) → position_from (λ (b : Bool). b) base xs ≡ None → (k : ℕ) → bit_of xs k ≡ false
+not_found base [] nowhere k = refl
+not_found base (x ∷ xs) nowhere k =
+    ⊎_elim (λ (is : x ≡ true).
+    let here : None ≡ Some base = sym nowhere ∙ ap (λ (b : Bool). cond b (Some base) (position_from (λ (b : Bool). b) (base + 1) xs)) is in cc)
+    (λ (is_not : x ≡ false).
+    false_at x xs is_not (not_found (base + 1) xs (sym (ap (λ (b : Bool). cond b (Some base) (position_from (λ (b : Bool). b) (base + 1) xs)) is_not) ∙ nowhere)) k)
+    (cases_Bool x)
+
+pub found_by_next : (bits : List Bool) (from i : ℕ) → next_true bits from ≡ Some i → IsNextTrue bits from i
+found_by_next bits from i found =
+    let at = found_position from (drop from bits) i found in
+    let is : bit_of bits i ≡ true = ap (bit_of bits) at.at ∙ sym (get_or-drop from bits at.step false) ∙ at.is_true in
+    record {
+      after = omega (arith, at.at);
+      within = ⊎_elim (λ (h : i < length bits). h) (λ (h : length bits ≤ i). absurd (false≢true (sym (get_or_past bits i false h) ∙ is))) (cases_lt i (length bits));
+      is_true = is;
+      between = λ k after before.
+          let back : from + (k - from) ≡ k = omega arith in
+          ap (bit_of bits) (sym back) ∙ sym (get_or-drop from bits (k - from) false) ∙ at.between (k - from) (omega (arith, at.at));
+    }
+
+pub clear_by_next : (bits : List Bool) (from : ℕ) → next_true bits from ≡ None → IsClearFrom bits from
+clear_by_next bits from nowhere = λ k after.
+    let back : from + (k - from) ≡ k = omega arith in
+    ap (bit_of bits) (sym back) ∙ sym (get_or-drop from bits (k - from) false) ∙ not_found from (drop from bits) nowhere (k - from)
+
+-- what is found lies before all that is false
+pub next_within : (bits : List Bool) (from i len : ℕ) → next_true bits from ≡ Some i → IsClearFrom bits len → i < len
 next_within bits from i len found clear =
-    let at = true_position from (drop from bits) i found in
-    let is : bit_of bits i ≡ true = ap (bit_of bits) at.1 ∙ sym (get_or-drop from bits at.0 false) ∙ at.2 in
-    ⊎_elim (λ (h : i < len). h) (λ (h : len ≤ i). absurd (false≢true (sym (clear i h) ∙ is))) (cases_lt i len)
+    let next = found_by_next bits from i found in
+    ⊎_elim (λ (h : i < len). h) (λ (h : len ≤ i). absurd (false≢true (sym (clear i h) ∙ next.is_true))) (cases_lt i len)

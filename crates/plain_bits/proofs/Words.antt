@@ -53,16 +53,16 @@ bit_of_changed words place word b inside here others k =
     let new : ℕ → ℕ → Bool = λ q r. is_set (get_or (set words (place / 64) word) q 0) r in
     let new_word : get_or (set words (place / 64) word) (place / 64) 0 ≡ word = get_or-set_same words (place / 64) word 0 within in
     ⊎_elim (λ (e : k ≡ place).
-      ap (λ i. new (i / 64) (i % 64)) e ∙ ap (λ n. is_set n (place % 64)) new_word ∙ here
-      ∙ sym (ap (bit_of (set (bits_of words) place b)) e ∙ get_or-set_same (bits_of words) place b false (omega (arith, length-bits_of words))))
+    ap (λ i. new (i / 64) (i % 64)) e ∙ ap (λ n. is_set n (place % 64)) new_word ∙ here
+    ∙ sym (ap (bit_of (set (bits_of words) place b)) e ∙ get_or-set_same (bits_of words) place b false (omega (arith, length-bits_of words))))
     (λ (ne : k ≡ place → ⊥).
-      ⊎_elim (λ (e : k / 64 ≡ place / 64).
-        let apart : k % 64 ≡ place % 64 → ⊥ = λ r. ne (omega arith) in
-        ap (λ q. new q (k % 64)) e ∙ ap (λ n. is_set n (k % 64)) new_word ∙ others (k % 64) (omega arith) apart
-        ∙ ap (λ q. is_set (get_or words q 0) (k % 64)) (sym e))
-      (λ (away : k / 64 ≡ place / 64 → ⊥). ap (λ n. is_set n (k % 64)) (get_or-set_other words (place / 64) (k / 64) word 0 away))
-      (cases_eq (k / 64) (place / 64))
-      ∙ sym (get_or-set_other (bits_of words) place k b false ne ∙ bit-bits_of words k))
+    ⊎_elim (λ (e : k / 64 ≡ place / 64).
+    let apart : k % 64 ≡ place % 64 → ⊥ = λ r. ne (omega arith) in
+    ap (λ q. new q (k % 64)) e ∙ ap (λ n. is_set n (k % 64)) new_word ∙ others (k % 64) (omega arith) apart
+    ∙ ap (λ q. is_set (get_or words q 0) (k % 64)) (sym e))
+    (λ (away : k / 64 ≡ place / 64 → ⊥). ap (λ n. is_set n (k % 64)) (get_or-set_other words (place / 64) (k / 64) word 0 away))
+    (cases_eq (k / 64) (place / 64))
+    ∙ sym (get_or-set_other (bits_of words) place k b false ne ∙ bit-bits_of words k))
     (cases_eq k place)
 
 -- a word with one bit changed changes one place
@@ -79,9 +79,9 @@ pub low_bits_of_both : (f : ℕ → ℕ → ℕ) (g : Bool → Bool → Bool) �
 low_bits_of_both f g acts many a b =
     let long : length (zip2 g (low_bits many a) (low_bits many b)) ≡ many = length-zip2 g (low_bits many a) (low_bits many b) (length-low_bits many a ∙ sym (length-low_bits many b)) ∙ length-low_bits many a in
     ext_get_or false (low_bits many (f a b)) (zip2 g (low_bits many a) (low_bits many b)) (length-low_bits many (f a b) ∙ sym long) (λ k h.
-      let lt : k < many = omega (arith, length-low_bits many (f a b)) in
-      bit-low_bits many (f a b) k lt ∙ acts.bit a b k ∙ sym (
-        bit-zip2 g acts.none (low_bits many a) (low_bits many b) k (length-low_bits many a ∙ sym (length-low_bits many b)) ∙ ap₂ g (bit-low_bits many a k lt) (bit-low_bits many b k lt)))
+    let lt : k < many = omega (arith, length-low_bits many (f a b)) in
+    bit-low_bits many (f a b) k lt ∙ acts.bit a b k ∙ sym (
+    bit-zip2 g acts.none (low_bits many a) (low_bits many b) k (length-low_bits many a ∙ sym (length-low_bits many b)) ∙ ap₂ g (bit-low_bits many a k lt) (bit-low_bits many b k lt)))
 
 pub bits_of-zip2 : (f : ℕ → ℕ → ℕ) (g : Bool → Bool → Bool) → ActsOnBits f g → (xs ys : List ℕ) → length xs ≡ length ys → bits_of (zip2 f xs ys) ≡ zip2 g (bits_of xs) (bits_of ys)
 bits_of-zip2 f g acts [] [] same = refl
@@ -139,12 +139,12 @@ IsPacked-grown len n many words packed short longer room tight =
     let P : List ℕ → Type 0 = λ run. IsPacked n run in
     let long : length (words ++ replicate (many - length words) 0) ≡ many = omega (arith, length-append words (replicate (many - length words) 0), length-replicate {A = ℕ} (many - length words) 0, packed.tight) in
     subst P (sym (grown_words len n many words packed longer room)) (
-      record {
-        short = short;
-        room = omega arith;
-        tight = omega arith;
-        clear = λ place h. (same_with_more words (many - length words)).at place ∙ packed.clear place (omega arith);
-      })
+    record {
+      short = short;
+      room = omega arith;
+      tight = omega arith;
+      clear = λ place h. (same_with_more words (many - length words)).at place ∙ packed.clear place (omega arith);
+    })
 
 pub grown_view : (len n many : ℕ) (words : List ℕ) → IsPacked len words → n < 2 ^ 32 → len ≤ n → n ≤ 64 * many → 64 * many < n + 64 → take n (bits_of (take many words ++ replicate (many - length words) 0)) ≡ lengthened (take len (bits_of words)) n
 grown_view len n many words packed short longer room tight =
@@ -153,10 +153,10 @@ grown_view len n many words packed short longer room tight =
     let after = IsPacked-grown len n many words packed short longer room tight in
     let long : length (lengthened front n) ≡ n = omega (arith, length-append front (replicate (n - length front) false), length-replicate (n - length front) false, length_view len words packed) in
     ext_get_or false (take n (bits_of run)) (lengthened front n) (length_view n run after ∙ sym long) (λ k h.
-      get_or-take n (bits_of run) k false (omega (arith, length_view n run after))
-      ∙ ap (λ words. bit_of (bits_of words) k) (grown_words len n many words packed longer room)
-      ∙ (same_with_more words (many - length words)).at k
-      ∙ sym (with_defaults front (n - length front) false k ∙ (same_front len (bits_of words) packed.clear).at k))
+    get_or-take n (bits_of run) k false (omega (arith, length_view n run after))
+    ∙ ap (λ words. bit_of (bits_of words) k) (grown_words len n many words packed longer room)
+    ∙ (same_with_more words (many - length words)).at k
+    ∙ sym (with_defaults front (n - length front) false k ∙ (same_front len (bits_of words) packed.clear).at k))
 
 -- a list that is as long already stays as it is
 pub lengthened_same : (bits : List Bool) (n : ℕ) → n ≤ length bits → lengthened bits n ≡ bits

@@ -2,7 +2,7 @@
 use Rattle.std.specs.Prelude.{◌≡◌, ℕ, ◌+◌, ◌*◌, ◌^◌, ◌<◌, ◌≤◌, Bool, false, List, [], ◌∷◌, ◌++◌, ◌==◌, length, map}
 use Rattle.std.specs.Int.{bit_at}
 use Rattle.std.specs.List.{range_with_len}
-use Rattle.plain_bits.specs.Truth.{bit_of}
+use Rattle.plain_bits.specs.Truth.{IsClearFrom}
 
 -- whether the bit at this place of a number is set
 abbrev pub is_set : ℕ → ℕ → Bool
@@ -22,4 +22,4 @@ pub record IsPacked (len : ℕ) (words : List ℕ) : Type 0 where
   pub short : len < 2 ^ 32
   pub room : len ≤ 64 * length words
   pub tight : 64 * length words < len + 64
-  pub clear : (place : ℕ) → len ≤ place → bit_of (bits_of words) place ≡ false
+  pub clear : IsClearFrom (bits_of words) len

@@ -1,6 +1,6 @@
-ghost use Rattle.std.specs.Prelude.{◌≡◌, ◌<◌, true, false, [], length, slice_set, OnOk, OnErr, IfOk};
+ghost use Rattle.std.specs.Prelude.{◌≡◌, ◌<◌, true, false, [], max, length, slice_set, OnOk, OnErr, IfOk, IfSome, IfNone};
 ghost use Rattle.std.specs.Simd.Lanes.{zip2};
-ghost use Rattle.plain_bits.specs.Truth.{bit_of, pointwise_xor, pointwise_and, pointwise_or, count_true, next_true, lengthened};
+ghost use Rattle.plain_bits.specs.Truth.{bit_of, pointwise_xor, pointwise_and, pointwise_or, count_true, next_true, lengthened, IsNextTrue, IsClearFrom};
 
 use crate::combine::{And, Gate, Or, Xor, combine};
 use crate::place::{clear_bit, get_bit, set_bit};
@@ -45,6 +45,7 @@ impl Bits {
     /// Lengthens the bitmap by falses to `n` places, where it has fewer.
     pub fn grow(&mut self, n: u32) -> Result<(), AllocError>
         ensures grown { OnOk result (self.new ≡ lengthened self.old n) }
+        ensures len { OnOk result (length self.new ≡ max (length self.old) n) }
         ensures unchanged { OnErr result (self.new ≡ self.old) }
     {
         if self.len < n {
@@ -88,7 +89,8 @@ impl Bits {
     /// Makes `other` the exclusive or of the two bitmaps, which are equally long.
     pub fn xor_into(&self, other: &mut Bits)
         requires { length self.now ≡ length other.old }
-        ensures { other.new ≡ pointwise_xor self.now other.old }
+        ensures combined { other.new ≡ pointwise_xor self.now other.old }
+        ensures len { length other.new ≡ length other.old }
     {
         self.put_through::<Xor>(other);
     }
@@ -96,7 +98,8 @@ impl Bits {
     /// Makes `other` the places that both bitmaps have, which are equally long.
     pub fn and(&self, other: &mut Bits)
         requires { length self.now ≡ length other.old }
-        ensures { other.new ≡ pointwise_and self.now other.old }
+        ensures combined { other.new ≡ pointwise_and self.now other.old }
+        ensures len { length other.new ≡ length other.old }
     {
         self.put_through::<And>(other);
     }
@@ -104,14 +107,16 @@ impl Bits {
     /// Makes `other` the places that one of the bitmaps has or both, which are equally long.
     pub fn or(&self, other: &mut Bits)
         requires { length self.now ≡ length other.old }
-        ensures { other.new ≡ pointwise_or self.now other.old }
+        ensures combined { other.new ≡ pointwise_or self.now other.old }
+        ensures len { length other.new ≡ length other.old }
     {
         self.put_through::<Or>(other);
     }
 
     fn put_through<G: Gate>(&self, other: &mut Bits)
         requires { length self.now ≡ length other.old }
-        ensures { other.new ≡ zip2 G.truth self.now other.old }
+        ensures combined { other.new ≡ zip2 G.truth self.now other.old }
+        ensures len { length other.new ≡ length other.old }
     {
         combine::<G>(self.words.as_slice(), other.words.as_mut_slice());
     }
@@ -125,7 +130,9 @@ impl Bits {
 
     /// The least true place at or after `from`, or `None` exactly where there is none.
     pub fn next_one(&self, from: u32) -> Option<u32>
-        ensures { result ≡ next_true self.now from }
+        ensures least { result ≡ next_true self.now from }
+        ensures found { IfSome result (IsNextTrue self.now from) }
+        ensures none { IfNone result (IsClearFrom self.now from) }
     {
         match next_set(self.words.as_slice(), from as usize) {
             Some(place) => Some(place as u32),

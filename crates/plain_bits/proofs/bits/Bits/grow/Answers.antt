@@ -26,3 +26,15 @@ returns-in_ok-resize-clause-grown c =
 pub returns-else-self-n-clause-grown : goal.returns-else-self-n-clause-grown
 returns-else-self-n-clause-grown c =
     sym (lengthened_same c.args.self.now c.args.n (omega (arith, ap length (sym c.self.view_is), length_view c.self.inside.len c.self.inside.words.items c.self.invariant)))
+
+pub returns-in_ok-resize-clause-len : goal.returns-in_ok-resize-clause-len
+returns-in_ok-resize-clause-len c =
+    let s = c.self.inside in
+    let old_long = ap length (sym c.self.view_is) ∙ length_view s.len s.words.items c.self.invariant in
+    length_view c.args.n c.resize.new.self.items (invariant_of-self-then-self-n c) ∙ omega (arith, old_long)
+
+pub returns-else-self-n-clause-len : goal.returns-else-self-n-clause-len
+returns-else-self-n-clause-len c =
+    let s = c.self.inside in
+    let long = ap length (sym c.self.view_is) ∙ length_view s.len s.words.items c.self.invariant in
+    omega (arith, long)
