@@ -1,4 +1,4 @@
-ghost use Rattle.std.specs.Prelude.{◌≡◌, ◌<◌, true, false, [], max, length, slice_set, OnOk, OnErr, IfOk, IfSome, IfNone};
+ghost use Rattle.std.specs.Prelude.{◌≡◌, ◌<◌, ◌≤◌, true, false, [], max, length, slice_set, OnOk, OnErr, IfOk, IsOk, IfSome, IfNone};
 ghost use Rattle.std.specs.Simd.Lanes.{zip2};
 ghost use Rattle.plain_bits.specs.Truth.{bit_of, pointwise_xor, pointwise_and, pointwise_or, count_true, next_true, lengthened, IsNextTrue, IsClearFrom};
 
@@ -46,6 +46,7 @@ impl Bits {
     pub fn grow(&mut self, n: u32) -> Result<(), AllocError>
         ensures grown { OnOk result (self.new ≡ lengthened self.old n) }
         ensures len { OnOk result (length self.new ≡ max (length self.old) n) }
+        ensures there { n ≤ length self.old → IsOk result }
         ensures unchanged { OnErr result (self.new ≡ self.old) }
     {
         if self.len < n {
@@ -134,10 +135,8 @@ impl Bits {
         ensures found { IfSome result (IsNextTrue self.now from) }
         ensures none { IfNone result (IsClearFrom self.now from) }
     {
-        match next_set(self.words.as_slice(), from as usize) {
-            Some(place) => Some(place as u32),
-            None => None,
-        }
+        let place = next_set(self.words.as_slice(), from as usize)?;
+        Some(place as u32)
     }
 
     /// A bitmap of its own with the same places.

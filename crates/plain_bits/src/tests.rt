@@ -108,6 +108,19 @@ fn duplicates_have_places_of_their_own(rt: HostRuntime) -> Result<(), Fail> {
 }
 
 #[test]
+fn threads_may_share_it(rt: HostRuntime) -> Result<(), Fail> {
+    let bits = Pattern::Full.bits(rt.alloc(), 65)?;
+    assert_eq!(rt; shared(&bits).count(), 65);
+    Ok(())
+}
+
+fn shared<T: Send + Sync>(value: &T) -> &T
+    ensures { result.now ≡ value.now }
+{
+    value
+}
+
+#[test]
 fn kernels_equal_plain_loops(rt: HostRuntime) -> Result<(), Fail> {
     for len in 0..LONGEST + 1 {
         for first in PATTERNS {
