@@ -29,6 +29,7 @@ fn finds_the_places_of_the_last_changes(rt: HostRuntime) -> Result<(), Fail> {
     let second = first.with_changes(&changes_of(alloc, &[(5, Some((1, 0))), (9, Some((1, 1)))])?)?;
     let third = second.with_changes(&changes_of(alloc, &[(9, None), (5, None), (5, Some((2, 7))), (6, Some((3, 3))), (6, None)])?)?;
     let copied = second.duplicate()?;
+    assert_eq!(rt; changes_of(alloc, &[(5, None), (6, None)])?.into_vec().len(), 2, "the changes given back");
     is_shared_by_threads(&copied);
     let cases = [
         // key  first         second        third

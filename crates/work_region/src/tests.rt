@@ -1,10 +1,13 @@
 use crate::{Region, RegionFull};
 use std::test::Fail;
 
+fn is_sent_to_threads<T: Send>(_value: &T) {}
+
 #[test]
 #[tactic(auto, using(crate::proofs::Slots::outs))]
 fn is_full_exactly_at_its_size(rt: HostRuntime) -> Result<(), Fail> {
     let mut region = Region::take(rt.alloc(), 2)?;
+    is_sent_to_threads(&region);
     assert_eq!(rt; region.free(), 2, "nothing is placed yet");
 
     let _first = region.place(10u64).expect(&rt, "a first frame");
