@@ -35,6 +35,7 @@ pub(crate) fn range_at(at: usize, len: usize, has_little: bool) -> (usize, usize
     ensures from { result.0 ≤ at }
     ensures to { at < result.1 }
     ensures within { result.1 ≤ len }
+    ensures few { result.1 ≤ result.0 + 2 }
 {
     if !has_little {
         return (at, at + 1);

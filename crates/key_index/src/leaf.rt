@@ -1,4 +1,4 @@
-ghost use Rattle.std.specs.Prelude.{◌≡◌, None, T, OnOk, IfOk};
+ghost use Rattle.std.specs.Prelude.{◌≡◌, ◌≤◌, None, T, OnOk, IfOk, length};
 ghost use Rattle.std.specs.Ordering.{nat_cmp};
 ghost use Rattle.std.specs.FinMap.{find, put, is_sorted};
 ghost use Rattle.key_index.specs.Blocks.{Appends, changed, entries_in};
@@ -25,9 +25,10 @@ pub(crate) struct Leaf {
 }
 
 impl Model for Leaf {
-    ghost use Rattle.std.specs.Prelude.{List, T};
+    ghost use Rattle.std.specs.Prelude.{◌≤◌, List, T, length};
     ghost use Rattle.std.specs.Ordering.{nat_cmp};
     ghost use Rattle.std.specs.FinMap.{is_sorted};
+    ghost use Rattle.key_index.specs.declared.leaf.TheConstants.{MOST_SPOTS};
     ghost use Rattle.key_index.specs.Blocks.{Entry};
 
     ghost Value = { List Entry };
@@ -36,7 +37,7 @@ impl Model for Leaf {
 
     ghost view = { λ leaf. entries_of leaf.spots.items };
 
-    ghost invariant = { λ leaf. T (is_sorted nat_cmp (entries_of leaf.spots.items)) };
+    ghost invariant = { λ leaf. T (is_sorted nat_cmp (entries_of leaf.spots.items)) × (length leaf.spots.items ≤ MOST_SPOTS) };
 }
 
 impl Leaf {
@@ -140,19 +141,20 @@ pub(crate) fn push_leaves(
     requires { T (is_sorted nat_cmp (entries_of spots.items)) }
     ensures { OnOk result (Appends (blocks_of to.old.items) (blocks_of to.new.items) (entries_of spots.items)) }
 {
-    let len = spots.len();
-    if len <= MOST_SPOTS {
-        return push_leaf(to, alloc, spots);
+    // Half a leaf at a time, so that neither part is split again at the next change.
+    while spots.len() > MOST_SPOTS {
+        let behind = spots.split_off(MOST_SPOTS / 2)?;
+        push_leaf(to, alloc, spots)?;
+        spots = behind;
     }
-    let back = spots.split_off(len / 2)?;
     push_leaf(to, alloc, spots)?;
-    push_leaf(to, alloc, back)?;
     Ok(())
 }
 
 // The same with one leaf, or none where there are no spots.
 fn push_leaf(to: &mut Vec<Link<Leaf>>, alloc: Global, spots: Vec<Spot>) -> Result<(), AllocError>
-    requires { T (is_sorted nat_cmp (entries_of spots.items)) }
+    requires sorted { T (is_sorted nat_cmp (entries_of spots.items)) }
+    requires few { length spots.items ≤ MOST_SPOTS }
     ensures { OnOk result (Appends (blocks_of to.old.items) (blocks_of to.new.items) (entries_of spots.items)) }
 {
     if spots.is_empty() {

@@ -1,4 +1,4 @@
-ghost use Rattle.std.specs.Prelude.{◌≡◌, OnOk, IfOk};
+ghost use Rattle.std.specs.Prelude.{◌≡◌, ◌≤◌, OnOk, IfOk, length};
 ghost use Rattle.std.specs.Ordering.{nat_cmp};
 ghost use Rattle.std.specs.FinMap.{find};
 ghost use Rattle.key_index.specs.Blocks.{Appends, Gathers, IsOrdered, Surrounds, changed, entries_in};
@@ -25,7 +25,8 @@ pub(crate) struct Node {
 }
 
 impl Model for Node {
-    ghost use Rattle.std.specs.Prelude.{List};
+    ghost use Rattle.std.specs.Prelude.{◌≤◌, List, length};
+    ghost use Rattle.key_index.specs.declared.node.TheConstants.{MOST_LEAVES};
     ghost use Rattle.key_index.specs.Blocks.{Entry, IsOrdered, entries_in};
 
     ghost Value = { List Entry };
@@ -34,7 +35,7 @@ impl Model for Node {
 
     ghost view = { λ node. entries_in (blocks_of node.leaves.items) };
 
-    ghost invariant = { λ node. IsOrdered (blocks_of node.leaves.items) };
+    ghost invariant = { λ node. IsOrdered (blocks_of node.leaves.items) × (length node.leaves.items ≤ MOST_LEAVES) };
 }
 
 impl Node {
@@ -120,13 +121,12 @@ pub(crate) fn push_nodes(
     requires { IsOrdered (blocks_of leaves.items) }
     ensures { OnOk result (Appends (blocks_of to.old.items) (blocks_of to.new.items) (entries_in (blocks_of leaves.items))) }
 {
-    let len = leaves.len();
-    if len <= MOST_LEAVES {
-        return push_node(to, alloc, leaves);
+    while leaves.len() > MOST_LEAVES {
+        let behind = leaves.split_off(MOST_LEAVES / 2)?;
+        push_node(to, alloc, leaves)?;
+        leaves = behind;
     }
-    let back = leaves.split_off(len / 2)?;
     push_node(to, alloc, leaves)?;
-    push_node(to, alloc, back)?;
     Ok(())
 }
 
@@ -136,7 +136,8 @@ fn push_node(
     alloc: Global,
     leaves: Vec<Link<Leaf>>,
 ) -> Result<(), AllocError>
-    requires { IsOrdered (blocks_of leaves.items) }
+    requires ordered { IsOrdered (blocks_of leaves.items) }
+    requires few { length leaves.items ≤ MOST_LEAVES }
     ensures { OnOk result (Appends (blocks_of to.old.items) (blocks_of to.new.items) (entries_in (blocks_of leaves.items))) }
 {
     if leaves.is_empty() {
