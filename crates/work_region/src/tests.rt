@@ -1,3 +1,4 @@
+//! Frames placed, set and given back.
 use crate::{Region, RegionFull};
 use std::test::Fail;
 
