@@ -6,6 +6,7 @@
 //!
 //! | file | has |
 //! |---|---|
+//! | `specs/Held.antt` | which frames of a region are out, for the private functions |
 //! | `src/words.rt` | what the program is asked to run |
 //! | `src/timing.rt` | the least time of a round, and the line that tells it |
 //! | `src/keys.rt` | keys in a scattered order |
