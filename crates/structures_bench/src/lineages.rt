@@ -6,7 +6,7 @@
 //! 0 - 1 - .. - b - b+1 - b+3 - .. - size-2
 //!               \- b+2 - b+4 - .. - size-1
 //! ```
-ghost use Rattle.std.specs.Prelude.{◌≡◌, ◌+◌, ◌<◌, ◌≤◌, length, IfOk};
+ghost use Rattle.std.specs.Prelude.{◌≡◌, ◌<◌, ◌≤◌, length, IfOk};
 ghost use Rattle.version_graph.specs.Ancestors.{Reaches};
 
 use crate::timing::Timing;

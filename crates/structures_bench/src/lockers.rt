@@ -1,5 +1,5 @@
 //! The calls of a table of locks, in which `size` sessions have shared needs.
-ghost use Rattle.std.specs.Prelude.{◌≡◌, ◌<◌, ◌≤◌, All, IfOk};
+ghost use Rattle.std.specs.Prelude.{◌<◌, All, IfOk};
 ghost use Rattle.lock_table.specs.Grants.{IsAdmitted};
 
 use crate::timing::Timing;

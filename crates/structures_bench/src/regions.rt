@@ -1,5 +1,5 @@
 //! The calls of a region, over one of `size` frames.
-ghost use Rattle.std.specs.Prelude.{◌≡◌, ◌≤◌, IfOk};
+ghost use Rattle.std.specs.Prelude.{IfOk};
 ghost use Rattle.structures_bench.specs.Held.{AreOut};
 
 use crate::timing::Timing;

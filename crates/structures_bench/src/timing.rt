@@ -1,5 +1,4 @@
 //! The least time of a round.
-ghost use Rattle.std.specs.Prelude.{◌≡◌, ◌<◌};
 
 use std::io;
 use std::time::Duration;
