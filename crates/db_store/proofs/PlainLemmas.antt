@@ -8,11 +8,11 @@ use Rattle.db_value.specs.declared.schema.Relation.{Relation}
 use Rattle.db_value.specs.declared.version.VersionPlace.{VersionPlace}
 use Rattle.db_value.specs.declared.entry.Change.{Change}
 use Rattle.db_value.specs.declared.entry.Entry.{Entry}
-use Rattle.db_value.specs.declared.entry.Entry.TheVariants.{Commit}
+use Rattle.db_value.specs.declared.entry.Entry.TheVariants.{Commit, Branch as NewBranch}
 use Rattle.db_store.specs.declared.plain_table.Kept.{Kept}
 use Rattle.db_store.specs.Table.{Table, relation_at, rows_of, with_changes}
 use Rattle.db_store.specs.Dataset.{Dataset, Version, IsMade, branch_at, is_made, table_at, head_of, apply}
-use Rattle.db_store.specs.Fits.{fits, change_fits, changes_of, second_of}
+use Rattle.db_store.specs.Fits.{fits, IsCommit, change_fits, changes_of, second_of}
 use Rattle.db_store.specs.State.{whole, place_of_id}
 use Rattle.db_store.specs.Parts.{slot_at, part_at, no_slot, AreOf}
 use Rattle.db_store.specs.Plain.{plain_parts, one_branch, versions_from, no_kept, IsNext}
@@ -92,6 +92,7 @@ one_grown schema name kept k (Commit b second changes) n =
     ap (λ t. made_of schema name t (versions_from 0 (kept ++ k ∷ []) [])) tables
     ∙ ap (made_of schema name (tables_of kept ++ with_changes (head_of d 0) changes ∷ [])) versions
     ∙ ap (λ c. apply d (Commit c second changes)) (sym n.0)
+one_grown schema name kept k (NewBranch new origin) n = absurd n
 
 both : (a b : Bool) → (a && b) ≡ true → (a ≡ true) × (b ≡ true)
 both true b e = (refl, e)
@@ -104,13 +105,15 @@ weaker p q f (c ∷ cs) e = let two : (p c ≡ true) × (list_all p cs ≡ true)
 -- the changes of an entry that fits are of relations that are there
 pub fits_within : (d : Dataset) (e : Entry) → fits d e ≡ true → list_all (λ c. nat_lt c.relation (length d.schema)) (changes_of e) ≡ true
 fits_within d (Commit b second changes) f = weaker (change_fits d.schema) (λ c. nat_lt c.relation (length d.schema)) (λ c h. (both _ _ h).0) changes (both _ _ (both _ _ f).1).1
+fits_within d (NewBranch name origin) f = refl
 
 -- what has the table and the second parent of an entry that fits is the version that it makes
-pub is_next : (schema : List Relation) (name : List ℕ) (kept : List Kept) (k : Kept) (e : Entry) → fits (one_branch schema name kept) e ≡ true
+pub is_next : (schema : List Relation) (name : List ℕ) (kept : List Kept) (k : Kept) (e : Entry) → fits (one_branch schema name kept) e ≡ true → IsCommit e
     → k.table ≡ with_changes (head_of (one_branch schema name kept) 0) (changes_of e) → k.second ≡ second_of e → IsNext k (one_branch schema name kept) e
-is_next schema name kept k (Commit b second changes) f t s =
+is_next schema name kept k (Commit b second changes) f c t s =
     let below : b < 1 = ltb-true _ _ (both _ _ (both _ _ (both _ _ f).0).0).0 in
     (omega arith, t, s)
+is_next schema name kept k (NewBranch new origin) f c t s = absurd c
 
 -- a made place is a position of the one branch
 pub branch_is_first : (schema : List Relation) (name : List ℕ) (kept : List Kept) (at : VersionPlace) → IsMade (one_branch schema name kept) at → at.position < length kept

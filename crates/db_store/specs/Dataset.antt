@@ -6,7 +6,7 @@ use Rattle.db_value.specs.declared.schema.Relation.{Relation}
 use Rattle.db_value.specs.declared.version.VersionPlace.{VersionPlace}
 use Rattle.db_value.specs.declared.entry.Change.{Change}
 use Rattle.db_value.specs.declared.entry.Entry.{Entry}
-use Rattle.db_value.specs.declared.entry.Entry.TheVariants.{Commit}
+use Rattle.db_value.specs.declared.entry.Entry.TheVariants.{Commit, Branch as NewBranch}
 use Rattle.db_store.specs.Table.{Table, empty_table, with_changes}
 
 -- a named line of versions: the place from which it was made, and a whole table at each position from 0
@@ -61,6 +61,10 @@ IsMade d at = (at.branch < length d.branches) × (at.position < length (branch_a
 abbrev pub grown : Branch → Table → List Change → Branch
 grown b head changes = record b { tables = b.tables ++ with_changes head changes ∷ [] }
 
+-- a branch that begins with the table of a made place
+abbrev pub begun : List ℕ → VersionPlace → Table → Branch
+begun name origin table = record { name = name; origin = origin; tables = table ∷ [] }
+
 -- the version that a commit on a branch makes next
 abbrev pub next_version : ℕ → Branch → Option VersionPlace → Version
 next_version n b second = record { place = record { branch = n; position = length b.tables }; second = second }
@@ -72,6 +76,7 @@ apply d (Commit b second changes) = record {
   branches = set d.branches b (grown (branch_at d b) (head_of d b) changes);
   versions = next_version b (branch_at d b) second ∷ d.versions;
 }
+apply d (NewBranch name origin) = record d { branches = d.branches ++ begun name origin (table_at d origin) ∷ [] }
 
 -- the first version of a dataset, which has no record and no parent
 abbrev pub root : Version

@@ -4,7 +4,7 @@ use Rattle.std.proofs.Common.{get_or}
 use Rattle.db_value.specs.declared.schema.Relation.{Relation}
 use Rattle.db_value.specs.declared.record.Record.{Record}
 use Rattle.db_value.specs.declared.entry.Entry.{Entry}
-use Rattle.db_value.specs.declared.entry.Entry.TheVariants.{Commit}
+use Rattle.db_value.specs.declared.entry.Entry.TheVariants.{Commit, Branch}
 use Rattle.db_store.specs.Table.{with_changes}
 use Rattle.db_store.specs.Dataset.{Version, Dataset, head_of}
 use Rattle.db_store.specs.declared.plain_table.Kept.{Kept}
@@ -31,6 +31,7 @@ one_branch schema name kept = record {
 -- this version is the one that a commit makes
 abbrev pub IsNext : Kept → Dataset → Entry → Type 0
 IsNext k d (Commit b second changes) = (b ≡ 0) × (k.table ≡ with_changes (head_of d 0) changes) × (k.second ≡ second)
+IsNext k d (Branch name origin) = ⊥
 
 -- it is ready for the entry on a state, and as wide as the schema
 abbrev pub IsReady : Kept → State → Entry → Type 0

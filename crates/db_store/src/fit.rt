@@ -19,6 +19,7 @@ pub fn changes_of(entry: &Entry) -> &[Change]
             second: _,
             changes,
         } => changes.as_slice(),
+        Entry::Branch { .. } => &[],
     }
 }
 
@@ -32,6 +33,7 @@ pub fn second_of(entry: &Entry) -> Option<VersionPlace>
             second,
             changes: _,
         } => *second,
+        Entry::Branch { .. } => None,
     }
 }
 

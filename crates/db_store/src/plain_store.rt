@@ -169,6 +169,9 @@ impl Store for PlainStore {
                     && (second.is_some() || !changes.is_empty())
                     && changes_fit(self.schema.relations(), changes)
             }
+            Entry::Branch { name, origin } => {
+                self.branch(name).is_none() && self.second_fits(&Some(*origin))
+            }
         }
     }
 

@@ -2,7 +2,7 @@
 ghost use Rattle.std.specs.Prelude.{◌≡◌, ◌≢◌, ℕ, ◌+◌, ◌<◌, true, length, IfOk, OnOk, OnErr};
 ghost use Rattle.db_value.specs.declared.entry.Entry.{Entry};
 ghost use Rattle.db_store.specs.Dataset.{branch_named, branch_at, last_of, table_at, IsMade};
-ghost use Rattle.db_store.specs.Fits.{fits, AreApart};
+ghost use Rattle.db_store.specs.Fits.{fits, IsCommit, AreApart};
 ghost use Rattle.db_store.specs.State.{State, dataset_of, grow};
 ghost use Rattle.db_store.specs.Parts.{AreOf};
 
@@ -58,9 +58,10 @@ pub trait Store {
         ensures wide { IfOk result (λ v. length (Self.View.table v) ≡ length (dataset_of (state self.now)).schema) }
         ensures parts { IfOk result (λ v. AreOf (state self.now) (Self.View.parts_of v)) };
 
-    /// Takes all the memory that an entry needs. The state stays.
+    /// Takes all the memory that a commit needs. The state stays.
     fn prepare(&mut self, entry: &Entry) -> Result<Self::Prepared, AllocError>
-        requires { fits (dataset_of (state self.old)) entry.now ≡ true }
+        requires fits { fits (dataset_of (state self.old)) entry.now ≡ true }
+        requires commit { IsCommit entry.now }
         ensures ready { IfOk result (λ p. Prepares p (state self.old) entry.now) }
         ensures raised { OnOk result (spare self.new ≡ spare self.old + 1) }
         ensures state { state self.new ≡ state self.old }

@@ -12,27 +12,34 @@
 //! | `src/name.rt`, `src/schema.rt`, `src/text.rt` | names, schemas, lines and words |
 //! | `src/fields.rt`, `src/record.rt` | fields, records and the rows of a reply |
 //! | `src/version.rt`, `src/entry.rt` | versions, and what a transaction does to a dataset |
-//! | `src/reply.rt` | replies and refusals |
+//! | `src/condition.rt` | conditions, new values, and the side that a merge prefers |
+//! | `src/reply.rt`, `src/report.rt` | replies and refusals, and the lines of reports |
 //! | `src/steps.rt` | the count of records read |
 #![tactic(auto)]
 
+pub mod condition;
 pub mod entry;
 pub mod fields;
 pub mod list_of;
 pub mod name;
 pub mod record;
 pub mod reply;
+pub mod report;
 pub mod schema;
 pub mod steps;
+#[cfg(test)]
+mod tests;
 pub mod text;
 pub mod version;
 
+pub use condition::{Op, Prefer, Set, Sets, Term, Terms};
 pub use entry::{Change, Changes, Entry};
 pub use fields::Fields;
-pub use list_of::ListOf;
+pub use list_of::{LineText, ListOf};
 pub use name::{Name, Names};
 pub use record::{Marked, Positions, Record, Rows};
 pub use reply::{Refusal, Reply};
+pub use report::{LayoutLine, LayoutLines, Live, Lives, LogLine, LogLines, Pair, Pairs};
 pub use schema::{Relation, Schema, SchemaFault};
 pub use steps::Steps;
 pub use version::{VersionName, VersionNames, VersionPlace};

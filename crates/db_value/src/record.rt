@@ -39,6 +39,13 @@ impl Positions {
         }
     }
 
+    /// The least of them, and the others. It takes no memory.
+    pub fn of(first: u32, others: Vec<u32>) -> Positions
+        ensures { result ≡ first ∷ others.items }
+    {
+        Positions { first, others }
+    }
+
     /// The least of them, and the others.
     pub fn parts(&self) -> (u32, &[u32])
         ensures { self.now ≡ result.0 ∷ result.1.now }

@@ -2,7 +2,7 @@
 ghost use Rattle.std.specs.Prelude.{◌≡◌, ◌<◌, true, length, map, position, [], IfOk, IfSome};
 ghost use Rattle.db_value.specs.Text.{same};
 ghost use Rattle.db_value.specs.Relations.{has_columns, is_counted, columns_at};
-ghost use Rattle.db_value.specs.Schema.{relation_of_words, relation_of, names_from, GivesSchema};
+ghost use Rattle.db_value.specs.Schema.{relation_of_words, relation_of, names_from, is_declared, GivesSchema};
 
 use crate::name::is_among;
 use crate::text::{first_line, passes_over, words_of};
@@ -41,9 +41,12 @@ impl Model for Schema {
 #[derive(Clone, Copy, Debug, PartialEq, Eq, Error)]
 pub enum SchemaFault {
     /// 1: the first line that breaks the rule, numbered from 1; one past the last where `end` is
-    /// missing.
+    /// missing. A relation with the name of an earlier one breaks it.
     #[error("line {line} breaks the rule of a schema")]
     Line { line: u64 },
+    /// 2: a line that declares a ninth relation, of a new name, and breaks no other rule.
+    #[error("line {line} declares a relation too many")]
+    TooMany { line: u64 },
     /// 3: want of memory.
     #[error("want of memory")]
     Memory,
@@ -60,8 +63,8 @@ impl From<AllocError> for SchemaFault {
     }
 }
 
-/// The most relations of a schema that can be read.
-const MOST_RELATIONS: usize = 1;
+/// The most relations of a schema.
+const MOST_RELATIONS: usize = 8;
 
 /// The most columns of a relation.
 const MOST_COLUMNS: usize = 15;
@@ -130,6 +133,12 @@ fn small(place: Option<usize>) -> Option<u8>
     }
 }
 
+fn has_relation(relations: &[Relation], name: &Name) -> bool
+    ensures { result ≡ is_declared relations.now name.now }
+{
+    relations.iter().any(|r| r.name == *name)
+}
+
 fn relation_place(relations: &[Relation], name: &Name) -> Option<usize>
     ensures { result ≡ position (λ r. same r.name name.now) relations.now }
 {
@@ -140,6 +149,25 @@ fn name_place(names: &[Name], name: &Name) -> Option<usize>
     ensures { result ≡ position (λ n. same n name.now) names.now }
 {
     names.iter().position(|n| n == name)
+}
+
+fn copy_of(relation: &Relation) -> Result<Relation, AllocError>
+    ensures { IfOk result (λ copy. copy ≡ relation.now) }
+{
+    Ok(Relation {
+        name: relation.name,
+        columns: relation.columns.duplicate()?,
+    })
+}
+
+fn copies_of(alloc: Global, relations: &[Relation]) -> Result<Vec<Relation>, AllocError>
+    ensures { IfOk result (λ copies. copies.items ≡ relations.now) }
+{
+    let mut copies = Vec::new(alloc);
+    for relation in relations {
+        copies.push(copy_of(relation)?)?;
+    }
+    Ok(copies)
 }
 
 impl Schema {
@@ -168,6 +196,14 @@ impl Schema {
         small(name_place(self.relations[relation as usize].columns.as_slice(), name))
     }
 
+    /// An equal schema of its own.
+    pub fn duplicate(&self) -> Result<Schema, AllocError>
+        ensures { IfOk result (λ schema. schema ≡ self.now) }
+    {
+        let relations = copies_of(*self.relations.allocator(), &self.relations)?;
+        Ok(Schema { relations })
+    }
+
     /// The schema at the front of a text, and how many bytes it takes, its line `end` among them.
     #[tactic(auto, unfolding(crate::specs::Schema::schema_in))]
     pub fn read(alloc: Global, text: &[u8]) -> Result<(Schema, usize), SchemaFault>
@@ -190,8 +226,11 @@ impl Schema {
                 let Some(relation) = relation_in(alloc, line)? else {
                     return Err(SchemaFault::Line { line: number });
                 };
-                if relations.len() >= MOST_RELATIONS {
+                if has_relation(&relations, &relation.name) {
                     return Err(SchemaFault::Line { line: number });
+                }
+                if relations.len() >= MOST_RELATIONS {
+                    return Err(SchemaFault::TooMany { line: number });
                 }
                 if relations.push(relation).is_err() {
                     return Err(SchemaFault::Memory);

@@ -1,5 +1,3 @@
-pub mod NumberLemmas
-pub mod LineLemmas
 pub mod ScanLemmas
 pub mod WordLemmas
 pub mod AloneLemmas

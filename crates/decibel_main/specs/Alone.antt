@@ -1,5 +1,5 @@
 -- One transaction run alone on a dataset, on a branch b. Its working table is the branch's head with the transaction's own changes over it.
-use Rattle.std.specs.Prelude.{ℕ, ◌+◌, ◌==◌, cond, List, [], ◌∷◌, ◌++◌, length, map, set, position, Option, Some, None}
+use Rattle.std.specs.Prelude.{ℕ, ◌+◌, ◌==◌, cond, Bool, true, false, List, [], ◌∷◌, ◌++◌, length, map, set, position, Option, Some, None}
 use Rattle.std.specs.Ordering.{nat_cmp}
 use Rattle.std.specs.FinMap as finite
 use Rattle.std.proofs.Common.{get_or}
@@ -18,8 +18,12 @@ use Rattle.db_value.specs.declared.reply.Refusal.{Refusal}
 use Rattle.db_value.specs.declared.reply.Refusal.TheVariants.{Line, KeyThere}
 use Rattle.db_store.specs.Table.{Contents, relation_at, rows_of, changed}
 use Rattle.db_store.specs.Dataset.{Dataset, branch_at, head_of, last_of}
-use Rattle.decibel_main.specs.declared.line.Stmt.{Stmt}
-use Rattle.decibel_main.specs.declared.line.Stmt.TheVariants.{Insert, Get, Scan}
+use Rattle.db_value.specs.declared.condition.Term.{Term}
+use Rattle.db_value.specs.declared.version.VersionName.{VersionName}
+use Rattle.stmt_text.specs.declared.stmt.Stmt.{Stmt}
+use Rattle.stmt_text.specs.declared.stmt.Stmt.TheVariants.{Insert, Get, Scan}
+use Rattle.stmt_text.specs.declared.stmt.ScanOver.{ScanOver}
+use Rattle.stmt_text.specs.declared.stmt.ScanOver.TheVariants.{Current}
 
 -- the final state of each touched key of a relation: fields, or none
 abbrev pub Overlay : Type 0
@@ -115,6 +119,11 @@ abbrev pub get_from : Dataset → ℕ → Tx → ℕ → Option ℕ → Outcome
 get_from d b tx key None = refused tx Line
 get_from d b tx key (Some r) = record { tx = tx; reply = One (record_with key (at_key d b tx r key)) }
 
+-- a look-up in a version that is named is no form that is built
+abbrev pub get_at : Dataset → ℕ → Tx → ℕ → Option VersionName → Option ℕ → Outcome
+get_at d b tx key None relation = get_from d b tx key relation
+get_at d b tx key (Some version) relation = refused tx Line
+
 -- a row of the one version that was asked for
 abbrev pub marked : Record → Marked
 marked row = record { row = row; positions = 0 ∷ [] }
@@ -123,11 +132,18 @@ abbrev pub scan_of : Dataset → ℕ → Tx → Option ℕ → Outcome
 scan_of d b tx None = refused tx Line
 scan_of d b tx (Some r) = record { tx = tx; reply = Listed [] (map marked (rows_of (working d b tx r))) }
 
--- one statement, after statements that left tx
+-- a scan of the current branch without a condition
+abbrev pub is_plain : ScanOver → List Term → Bool
+is_plain Current [] = true
+is_plain Current (t ∷ ts) = false
+is_plain _ terms = false
+
+-- One statement, after statements that left tx. A form that isn't built yet is a bad line.
 abbrev pub step : Dataset → ℕ → Tx → Stmt → Outcome
 step d b tx (Insert name key fields) = insert_into d b tx name key fields (relation_named d.schema name)
-step d b tx (Get name key) = get_from d b tx key (relation_named d.schema name)
-step d b tx (Scan name) = scan_of d b tx (relation_named d.schema name)
+step d b tx (Get name key at) = get_at d b tx key at (relation_named d.schema name)
+step d b tx (Scan name over terms) = cond (is_plain over terms) (scan_of d b tx (relation_named d.schema name)) (refused tx Line)
+step d b tx _ = refused tx Line
 
 -- a statement that is a transaction of its own
 abbrev pub alone : Dataset → ℕ → Stmt → Outcome

@@ -1,7 +1,3 @@
-pub mod Number
-pub mod Line
-pub mod Read
-pub mod ReplyText
 pub mod Alone
 pub mod Order
 pub mod Device

@@ -5,9 +5,9 @@ use Rattle.db_value.specs.declared.reply.Reply.{Reply}
 use Rattle.db_value.specs.declared.reply.Reply.TheVariants.{Refused}
 use Rattle.db_value.specs.declared.reply.Refusal.TheVariants.{Line as BadLine}
 use Rattle.db_store.specs.State.{State, dataset_of, grow}
-use Rattle.decibel_main.specs.declared.line.Stmt.{Stmt}
-use Rattle.decibel_main.specs.declared.line.Line.{Line}
-use Rattle.decibel_main.specs.Line.{line_of}
+use Rattle.stmt_text.specs.declared.stmt.Stmt.{Stmt}
+use Rattle.stmt_text.specs.declared.stmt.Line.{Line}
+use Rattle.stmt_text.specs.Line.{line_of}
 use Rattle.decibel_main.specs.Alone.{alone, entry_of}
 
 -- what the lines so far have made

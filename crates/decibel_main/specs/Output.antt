@@ -5,7 +5,7 @@ use Rattle.db_value.specs.Schema.{schema_of}
 use Rattle.db_value.specs.declared.schema.Relation.{Relation}
 use Rattle.db_store.specs.Dataset.{new_dataset}
 use Rattle.db_store.specs.State.{State, whole}
-use Rattle.decibel_main.specs.ReplyText.{echo_text, reply_text}
+use Rattle.reply_text.specs.Reply.{echo_text, reply_text}
 use Rattle.decibel_main.specs.Order.{World, opening, reply_to, next, after}
 use Rattle.decibel_main.specs.Device.{Appends, AppendsShort}
 

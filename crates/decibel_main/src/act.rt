@@ -1,20 +1,23 @@
 //! What a statement does: a transaction of its own on the first branch.
-ghost use Rattle.std.specs.Prelude.{◌≡◌, ◌<◌, ◌==◌, true, length, IfOk, IfSome, OnOk, OnErr};
+ghost use Rattle.std.specs.Prelude.{◌≡◌, ◌<◌, ◌==◌, [], None, true, length, IfOk, IfSome, OnOk, OnErr};
 ghost use Rattle.std.specs.FinMap as finite;
 ghost use Rattle.db_value.specs.Relations.{columns_at};
 ghost use Rattle.db_store.specs.Table.{relation_at};
 ghost use Rattle.db_store.specs.Dataset.{apply, head_of};
-ghost use Rattle.db_store.specs.Fits.{fits};
+ghost use Rattle.db_store.specs.Fits.{fits, IsCommit};
 ghost use Rattle.db_store.specs.State.{dataset_of, grow};
-ghost use Rattle.decibel_main.specs.Alone.{record_with, relation_named, put_of, made_next};
+ghost use Rattle.decibel_main.specs.Alone.{is_plain, record_with, relation_named, put_of, made_next};
 ghost use Rattle.decibel_main.specs.Order.{master, reply_with, state_with};
 
-use crate::line::Stmt;
 use crate::scan::{blank_record, scan};
 use db_store::{Store, View};
-use db_value::{Change, Entry, Fields, ListOf, Name, Record, Refusal, Reply, Steps, VersionPlace};
+use db_value::{
+    Change, Entry, Fields, ListOf, Name, Record, Refusal, Reply, Steps, Terms, VersionName,
+    VersionPlace,
+};
 use std::alloc::{AllocError, Global};
 use std::sync::ledger::Ledger;
+use stmt_text::{ScanOver, Stmt};
 
 /// The branch on which a session begins.
 const MASTER: u32 = 0;
@@ -22,7 +25,8 @@ const MASTER: u32 = 0;
 // Adds an entry.
 #[tactic(auto, using(db_store::proofs::StateLemmas::dataset_grows))]
 fn commit<St: Store>(store: &mut St, entry: &Entry) -> Result<(), AllocError>
-    requires { fits (dataset_of (St.state store.old)) entry.now ≡ true }
+    requires fits { fits (dataset_of (St.state store.old)) entry.now ≡ true }
+    requires commit { IsCommit entry.now }
     ensures state { OnOk result (St.state store.new ≡ grow (St.state store.old) entry.now) }
     ensures dataset { OnOk result (dataset_of (St.state store.new) ≡ apply (dataset_of (St.state store.old)) entry.now) }
     ensures err { OnErr result (St.state store.new ≡ St.state store.old) }
@@ -172,7 +176,7 @@ fn get<St: Store, L: Ledger>(
     key: u64,
     steps: &mut Steps<L>,
 ) -> Result<Reply, AllocError>
-    ensures { IfOk result (λ r. r ≡ reply_with (St.state store.now) (Some (Stmt.Get name.now key))) }
+    ensures { IfOk result (λ r. r ≡ reply_with (St.state store.now) (Some (Stmt.Get name.now key None))) }
 {
     match relation_of(store, name) {
         None => Ok(bad_line()),
@@ -190,7 +194,7 @@ fn list<St: Store, L: Ledger>(
     name: &Name,
     steps: &mut Steps<L>,
 ) -> Result<Reply, AllocError>
-    ensures { IfOk result (λ r. r ≡ reply_with (St.state store.now) (Some (Stmt.Scan name.now))) }
+    ensures { IfOk result (λ r. r ≡ reply_with (St.state store.now) (Some (Stmt.Scan name.now ScanOver.Current []))) }
 {
     match relation_of(store, name) {
         None => Ok(bad_line()),
@@ -201,6 +205,50 @@ fn list<St: Store, L: Ledger>(
             Ok(Reply::Listed { names, rows })
         }
     }
+}
+
+// A look-up in a version that is named is no form that is built.
+fn get_in<St: Store, L: Ledger>(
+    store: &St,
+    name: &Name,
+    key: u64,
+    at: &Option<VersionName>,
+    steps: &mut Steps<L>,
+) -> Result<Reply, AllocError>
+    ensures { IfOk result (λ r. r ≡ reply_with (St.state store.now) (Some (Stmt.Get name.now key at.now))) }
+{
+    match at {
+        None => get(store, name, key, steps),
+        Some(_) => Ok(bad_line()),
+    }
+}
+
+// Is it a scan of the current branch without a condition?
+fn is_plain(over: &ScanOver, terms: &Terms) -> bool
+    ensures { result ≡ is_plain over.now terms.now }
+{
+    match over {
+        ScanOver::Current => terms.as_slice().is_empty(),
+        _ => false,
+    }
+}
+
+// A scan of versions that are named, or with a condition, is no form that is built.
+fn list_over<St: Store, L: Ledger>(
+    alloc: Global,
+    store: &St,
+    name: &Name,
+    over: &ScanOver,
+    terms: &Terms,
+    steps: &mut Steps<L>,
+) -> Result<Reply, AllocError>
+    ensures { IfOk result (λ r. r ≡ reply_with (St.state store.now) (Some (Stmt.Scan name.now over.now terms.now))) }
+{
+    if !is_plain(over, terms) {
+        return Ok(bad_line());
+    }
+    let reply = list(alloc, store, name, steps)?;
+    Ok(reply)
 }
 
 fn act_on<St: Store, L: Ledger>(
@@ -219,8 +267,13 @@ fn act_on<St: Store, L: Ledger>(
             key,
             fields,
         } => insert(alloc, store, relation, *key, fields),
-        Stmt::Get { relation, key } => get(store, relation, *key, steps),
-        Stmt::Scan { relation } => list(alloc, store, relation, steps),
+        Stmt::Get { relation, key, at } => get_in(store, relation, *key, at, steps),
+        Stmt::Scan {
+            relation,
+            over,
+            terms,
+        } => list_over(alloc, store, relation, over, terms, steps),
+        _ => Ok(bad_line()),
     }
 }
 

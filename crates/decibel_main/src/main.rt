@@ -5,12 +5,9 @@
 //!
 //! | file | has |
 //! |---|---|
-//! | `specs/Line.antt`, `specs/Number.antt` | the grammar of lines |
 //! | `specs/Alone.antt` | one transaction alone on whole tables |
 //! | `specs/Order.antt`, `specs/Output.antt` | lists of lines, and what is written for them |
-//! | `specs/ReplyText.antt` | the bytes of replies |
 //! | `specs/Top.antt`, `specs/Ends.antt` | how a call ends |
-//! | `src/number.rt`, `src/line.rt`, `src/reply_text.rt` | reading and printing |
 //! | `src/scan.rt`, `src/act.rt`, `src/run.rt` | statements, and lines one after another |
 //! | `src/devices.rt`, `src/standard.rt` | devices whole, and the standard streams |
 //! | `src/top.rt` | the top call |
@@ -18,9 +15,6 @@
 
 mod act;
 mod devices;
-mod line;
-mod number;
-mod reply_text;
 mod run;
 mod scan;
 mod standard;

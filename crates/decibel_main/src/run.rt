@@ -1,22 +1,23 @@
 //! Lines run one after another on a store, each written with its reply before the next one is run.
-ghost use Rattle.std.specs.Prelude.{◌≡◌, ◌≤◌, ◌⊎◌, IfOk, OnOk, OnErr, IsErrOf, []};
+ghost use Rattle.std.specs.Prelude.{◌≡◌, ◌≤◌, ◌⊎◌, ◌++◌, IfOk, OnOk, OnErr, IsErrOf, []};
 ghost use Rattle.db_value.specs.Text.{lines};
 ghost use Rattle.db_outside.specs.Device.{Rose};
 ghost use Rattle.decibel_main.specs.Device.{Appends, AppendsFront, AppendsShort};
-ghost use Rattle.decibel_main.specs.Line.{line_of};
+ghost use Rattle.reply_text.specs.Reply.{echo_text, reply_text, NamesItsRows};
+ghost use Rattle.stmt_text.specs.Line.{line_of};
 ghost use Rattle.decibel_main.specs.Order.{opening, heard, next, after};
 ghost use Rattle.decibel_main.specs.Output.{answer_of, out, kept, IsCut, IsWhole};
 
 use crate::act::act;
 use crate::devices::put_all;
-use crate::line::{LineStop, Stmt, read_line};
-use crate::reply_text::answer;
 use db_outside::Sink;
 use db_store::Store;
-use db_value::Steps;
 use db_value::text::{first_line, passes_over};
+use db_value::{ListOf, Reply, Schema, Steps};
+use reply_text::{ReplyBytes, write_reply};
 use std::alloc::{AllocError, Global};
 use std::sync::ledger::Ledger;
+use stmt_text::{LineStop, Stmt, read_line};
 use thiserror::Error;
 
 /// Why a run stopped.
@@ -61,20 +62,34 @@ fn hear(alloc: Global, text: &[u8]) -> Result<Option<Stmt>, AllocError>
     }
 }
 
+// The echo of a line, and its reply.
+fn answer(
+    alloc: Global,
+    schema: &Schema,
+    line: &[u8],
+    reply: &Reply,
+) -> Result<ReplyBytes, AllocError>
+    requires { NamesItsRows reply.now }
+    ensures { IfOk result (λ v. v ≡ echo_text line.now ++ reply_text reply.now) }
+{
+    let line = ListOf::of(Vec::from_slice(alloc, line)?);
+    write_reply(alloc, schema, &line, reply)
+}
+
 // Runs a line, and gives its echo and reply. After want of memory it was run, or it was not.
 fn line_bytes<St: Store, L: Ledger>(
     alloc: Global,
     store: &mut St,
     line: &[u8],
     steps: &mut Steps<L>,
-) -> Result<Vec<u8>, AllocError>
-    ensures bytes { IfOk result (λ v. v.items ≡ answer_of (opening (St.state store.old)) line.now) }
+) -> Result<ReplyBytes, AllocError>
+    ensures bytes { IfOk result (λ v. v ≡ answer_of (opening (St.state store.old)) line.now) }
     ensures state { OnOk result (St.state store.new ≡ (next (opening (St.state store.old)) line.now).state) }
     ensures err { OnErr result ((St.state store.new ≡ St.state store.old) ⊎ (St.state store.new ≡ (next (opening (St.state store.old)) line.now).state)) }
 {
     let stmt = hear(alloc, line)?;
     let reply = act(alloc, store, &stmt, steps)?;
-    answer(alloc, line, &reply)
+    answer(alloc, store.schema(), line, &reply)
 }
 
 // Runs a line, and writes it with its reply.
@@ -101,7 +116,7 @@ fn run_line<St: Store, K: Sink, L: Ledger>(
     ensures later { K.faults sink.old ≤ K.faults sink.new }
 {
     let bytes = line_bytes(alloc, store, line, steps)?;
-    if put_all(sink, &bytes).is_err() {
+    if put_all(sink, bytes.as_slice()).is_err() {
         return Err(RunStop::Fault);
     }
     Ok(())

@@ -197,9 +197,14 @@ fn names_the_first_faulty_line(rt: HostRuntime) -> Result<(), Fail> {
         ("end alone", "end\n", 1),
         ("end behind a comment", "# none\n\nend\n", 3),
         (
-            "a second relation",
-            "relation items a\nrelation notes b\nend\n",
-            2,
+            "a ninth relation",
+            "relation r1 a\nrelation r2 a\nrelation r3 a\nrelation r4 a\nrelation r5 a\nrelation r6 a\nrelation r7 a\nrelation r8 a\nrelation r9 a\nend\n",
+            9,
+        ),
+        (
+            "a relation declared twice",
+            "relation items a\nrelation notes b\nrelation items c\nend\n",
+            3,
         ),
         ("no column", "relation items\nend\n", 1),
         (

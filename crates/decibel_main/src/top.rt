@@ -100,7 +100,9 @@ fn try_input<K: Sink, L: Ledger>(alloc: Global, input: &[u8], sink: &mut K, blan
 {
     let (schema, taken) = match Schema::read(alloc, input) {
         Ok(found) => found,
-        Err(SchemaFault::Line { line }) => return Status::BadLine { line },
+        Err(SchemaFault::Line { line } | SchemaFault::TooMany { line }) => {
+            return Status::BadLine { line };
+        }
         Err(SchemaFault::Memory) => return Status::Memory,
     };
     let mut store = match PlainStore::new(alloc, schema) {

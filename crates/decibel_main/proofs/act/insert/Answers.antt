@@ -5,7 +5,7 @@ use Rattle.db_value.specs.Relations.{columns_at}
 use Rattle.db_store.specs.Table.{relation_at}
 use Rattle.db_store.specs.Dataset.{head_of}
 use Rattle.db_store.specs.State.{dataset_of}
-use Rattle.decibel_main.specs.declared.line.Stmt.TheVariants.{Insert}
+use Rattle.stmt_text.specs.declared.stmt.Stmt.TheVariants.{Insert}
 use Rattle.decibel_main.specs.Alone.{Outcome, relation_named}
 use Rattle.decibel_main.specs.Order.{master}
 use Rattle.decibel_main.proofs.AloneLemmas.{no_relation, wrong_count, key_there, key_new, state_refused, state_put}

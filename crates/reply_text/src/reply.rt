@@ -1,0 +1,84 @@
+//! The echo of a line, and its reply.
+ghost use Rattle.std.specs.Prelude.{◌≡◌, ◌++◌, IfOk, OnOk};
+ghost use Rattle.reply_text.specs.Reply.{NamesItsRows, echo_text, reply_text};
+
+use crate::refusal::write_refusal;
+use crate::report::{write_log, write_log_end, write_segments};
+use crate::rows::{write_pairs, write_rows};
+use crate::writer::Writer;
+use db_value::{LineText, ListOf, Reply, Schema};
+use std::alloc::{AllocError, Global};
+
+/// The bytes that answer a line.
+pub type ReplyBytes = ListOf<u8>;
+
+fn write_echo(out: &mut Writer, line: &[u8]) -> Result<(), AllocError>
+    ensures { OnOk result (out.new ≡ out.old ++ echo_text line.now) }
+{
+    out.text(b"> ")?;
+    out.text(line)?;
+    out.end_line()
+}
+
+fn write_answer(out: &mut Writer, reply: &Reply) -> Result<(), AllocError>
+    requires { NamesItsRows reply.now }
+    ensures { OnOk result (out.new ≡ out.old ++ reply_text reply.now) }
+{
+    match reply {
+        Reply::Done => out.text(b"ok\n"),
+        Reply::Made { branch, position } => {
+            out.text(b"ok ")?;
+            out.place(branch, Some(u64::from(*position)))?;
+            out.end_line()
+        }
+        Reply::One { row: None } => out.text(b"none\n"),
+        Reply::One { row: Some(row) } => {
+            out.record(row)?;
+            out.end_line()
+        }
+        Reply::Listed { names, rows } => {
+            let rows = rows.as_slice();
+            write_rows(out, names.as_slice(), rows)?;
+            out.count(b"rows", rows.len())
+        }
+        Reply::Paired { pairs } => {
+            let pairs = pairs.as_slice();
+            write_pairs(out, pairs)?;
+            out.count(b"rows", pairs.len())
+        }
+        Reply::Versions { lines, whole } => {
+            let lines = lines.as_slice();
+            write_log(out, lines)?;
+            write_log_end(out, lines, *whole)
+        }
+        Reply::Layout { lines } => {
+            let segments = lines.as_slice();
+            write_segments(out, segments)?;
+            out.count(b"segments", segments.len())
+        }
+        Reply::Refused { why } => {
+            out.text(b"refused ")?;
+            write_refusal(out, why)?;
+            out.end_line()
+        }
+    }
+}
+
+/// The echo of a line, and its reply.
+///
+/// The schema is that of the dataset which gave the reply. No text depends on it: a reply names its
+/// relations and columns itself.
+pub fn write_reply(
+    alloc: Global,
+    _schema: &Schema,
+    line: &LineText,
+    reply: &Reply,
+) -> Result<ReplyBytes, AllocError>
+    requires { NamesItsRows reply.now }
+    ensures { IfOk result (λ bytes. bytes ≡ echo_text line.now ++ reply_text reply.now) }
+{
+    let mut out = Writer::new(alloc);
+    write_echo(&mut out, line.as_slice())?;
+    write_answer(&mut out, reply)?;
+    Ok(ListOf::of(out.into_bytes()))
+}
