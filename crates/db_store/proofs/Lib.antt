@@ -1,5 +1,9 @@
-pub mod ShelfLemmas
-pub mod PlainLemmas
-pub mod FitLemmas
 pub mod StateLemmas
 pub mod SortedRows
+pub mod SoundLemmas
+pub mod CountedLemmas
+pub mod TouchLemmas
+pub mod ChangeLemmas
+pub mod OverlayLemmas
+pub mod LayerLemmas
+pub mod WorkLemmas

@@ -1,7 +1,11 @@
 -- What growth keeps.
 use Rattle.std.specs.Prelude.{◌≡◌, ℕ, true, List}
 use Rattle.db_value.specs.declared.entry.Entry.{Entry}
-use Rattle.db_store.specs.Dataset.{apply}
+use Rattle.db_store.specs.Dataset.{Dataset, new_dataset, apply}
+use Rattle.db_store.specs.Sound.{IsSound}
+use Rattle.db_store.specs.Counted.{IsCounted}
+use Rattle.db_value.specs.Relations.{is_counted}
+use Rattle.db_value.specs.declared.schema.Relation.{Relation}
 use Rattle.db_store.specs.Fits.{fits}
 use Rattle.db_store.specs.State.{State, dataset_of, grow}
 use Rattle.db_store.specs.Parts.{Part, AreOf}
@@ -13,3 +17,18 @@ GrowthApplies = (s : State) (e : Entry) → fits (dataset_of s) e ≡ true → d
 -- growth keeps the records of every id, so that parts of a state are parts of each later one
 abbrev pub PartsStay : Type 0
 PartsStay = (s : State) (e : Entry) (parts : ℕ → List Part) → fits (dataset_of s) e ≡ true → AreOf s parts → AreOf (grow s e) parts
+
+-- growth keeps what holds of every dataset
+abbrev pub SoundStays : Type 0
+SoundStays = (d : Dataset) (e : Entry) → IsSound d → fits d e ≡ true → IsSound (apply d e)
+
+-- and a new dataset has it
+abbrev pub NewIsSound : Type 0
+NewIsSound = (schema : List Relation) → IsSound (new_dataset schema)
+
+-- growth keeps what tables keep
+abbrev pub CountedStays : Type 0
+CountedStays = (d : Dataset) (e : Entry) → IsCounted d → IsSound d → fits d e ≡ true → IsCounted (apply d e)
+
+abbrev pub NewIsCounted : Type 0
+NewIsCounted = (schema : List Relation) → is_counted schema ≡ true → IsCounted (new_dataset schema)

@@ -1,5 +1,5 @@
 //! Laws of the definitions: each function does nothing, and its contract is the law.
-ghost use Rattle.db_store.specs.Laws.{GrowthApplies, PartsStay};
+ghost use Rattle.db_store.specs.Laws.{GrowthApplies, PartsStay, SoundStays, NewIsSound, CountedStays, NewIsCounted};
 
 /// The dataset of a state grows as the model says.
 pub fn growth_applies()
@@ -9,4 +9,24 @@ pub fn growth_applies()
 /// Growth keeps the records of every id of a part.
 pub fn parts_stay()
     ensures { PartsStay }
+{}
+
+/// Growth keeps what holds of every dataset.
+pub fn sound_stays()
+    ensures { SoundStays }
+{}
+
+/// A new dataset has what holds of every dataset.
+pub fn new_is_sound()
+    ensures { NewIsSound }
+{}
+
+/// Growth keeps that tables have a field for each column, and no more keys than there can be.
+pub fn counted_stays()
+    ensures { CountedStays }
+{}
+
+/// The tables of a new dataset do.
+pub fn new_is_counted()
+    ensures { NewIsCounted }
 {}

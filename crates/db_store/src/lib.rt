@@ -1,4 +1,4 @@
-//! Stores of datasets: what a store and a view of one table are, and the plain store.
+//! What a store of a dataset and a view of one table are, and the working table of a transaction.
 //!
 //! The layers above rely on `Store` and `View` alone. A store means a state (`specs/State.antt`),
 //! which grows by entries as `apply` in `specs/Dataset.antt` says; a view is one whole table, shown
@@ -8,24 +8,27 @@
 //! |---|---|
 //! | `specs/Table.antt`, `specs/Dataset.antt` | tables and datasets |
 //! | `specs/Fits.antt` | which entries fit |
+//! | `specs/Sound.antt`, `specs/Counted.antt` | what every dataset has that entries make of a new one |
 //! | `specs/State.antt`, `specs/Laws.antt` | states, and what growth keeps |
 //! | `specs/Parts.antt` | the parts of a view |
 //! | `src/view.rt`, `src/store.rt` | the traits |
 //! | `src/laws.rt` | the laws, each the contract of a function that does nothing |
-//! | `src/shelf.rt`, `src/plain_table.rt`, `src/plain_view.rt`, `src/plain_store.rt` | the plain store, from one relation up |
-//! | `src/fit.rt` | the test of an entry's changes |
+//! | `specs/Overlay.antt`, `specs/Work.antt`, `specs/WorkParts.antt` | working tables and their parts |
+//! | `src/work.rt`, `src/work_view.rt` | the working table of a transaction, and the view that it is |
+//! | `src/layer.rt`, `src/touched.rt` | what it did to one relation, and to which keys |
+//! | `src/seen.rt` | a view that was lent, or a working table |
 #![tactic(auto)]
 
-mod fit;
 pub mod laws;
-mod plain_store;
-mod plain_table;
-mod plain_view;
-mod shelf;
+mod layer;
+mod seen;
 mod store;
+mod touched;
 mod view;
+mod work;
+mod work_view;
 
-pub use plain_store::{PlainPrepared, PlainStore};
-pub use plain_view::PlainView;
-pub use store::Store;
+pub use seen::Seen;
+pub use store::{Parents, Store};
 pub use view::{PartInfo, Spot, View};
+pub use work::{Work, WorkStop};

@@ -1,5 +1,9 @@
 pub mod Text
 pub mod Padded
 pub mod Value
+pub mod Version
+pub mod Order
+pub mod Condition
+pub mod Pred
 pub mod Relations
 pub mod Schema

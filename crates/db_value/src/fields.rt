@@ -1,6 +1,7 @@
 //! The fields of a record.
 ghost use Rattle.std.specs.Prelude.{◌≡◌, ◌<◌, ◌≤◌, ℤ, List, Some, length, IsSome, IfSome, ◌↔◌, slice_get};
 
+use std::cmp::Ordering;
 use std::marker::Model;
 
 /// The most fields that a record has.
@@ -27,6 +28,63 @@ impl Model for Fields {
     ghost inverse = { λ v. record { values = padded (pos 0) 15 v; len = length v } };
 
     ghost inverse_ok = { λ f h. λ i. record { values = sym h.2 i; len = length_of_padded (pos 0) 15 f.len f.values h.1 h.2 i } };
+}
+
+impl PartialEq for Fields {
+    ghost use Rattle.std.proofs.Common.{rules};
+    ghost use Rattle.std.specs.Cmp.Rules.{comparing};
+    ghost use Rattle.db_value.specs.Value.{fields_eq};
+
+    ghost eq = { fields_eq };
+
+    ghost laws = { Prim.search (comparing, rules) };
+
+    fn eq(&self, other: &Fields) -> bool {
+        self.as_slice() == other.as_slice()
+    }
+}
+
+impl Eq for Fields {
+    ghost use Rattle.std.proofs.Common.{rules};
+    ghost use Rattle.std.specs.Cmp.Rules.{comparing};
+
+    ghost laws = { Prim.search (comparing, rules) };
+}
+
+impl PartialOrd for Fields {
+    ghost use Rattle.std.specs.Prelude.{refl};
+    ghost use Rattle.std.specs.Ordering.{as_partial_cmp};
+    ghost use Rattle.std.specs.Cmp.{int_cmp_total, partial_order_from_agreeing_total};
+    ghost use Rattle.std.specs.Cmp.Lexicographic.{lists_total, lists_ties};
+    ghost use Rattle.db_value.specs.Value.{value_cmp, fields_cmp};
+
+    ghost partial_cmp = { as_partial_cmp fields_cmp };
+
+    ghost laws = { partial_order_from_agreeing_total fields_cmp (lists_total int_cmp_total) (λ x y. refl) (lists_ties value_cmp (λ x y. refl)) };
+
+    fn partial_cmp(&self, other: &Fields) -> Option<Ordering> {
+        Some(self.cmp(other))
+    }
+}
+
+// Fields are compared from the first one on.
+impl Ord for Fields {
+    ghost use Rattle.std.specs.Prelude.{refl};
+    ghost use Rattle.std.specs.Cmp.{int_cmp_total};
+    ghost use Rattle.std.specs.Cmp.Lexicographic.{lists_total, lists_ties};
+    ghost use Rattle.db_value.specs.Value.{value_cmp, fields_cmp};
+
+    ghost cmp = { fields_cmp };
+
+    ghost total = { lists_total int_cmp_total };
+
+    ghost matches_partial_cmp = { λ x y. refl };
+
+    ghost matches_eq = { lists_ties value_cmp (λ x y. refl) };
+
+    fn cmp(&self, other: &Fields) -> Ordering {
+        self.as_slice().cmp(other.as_slice())
+    }
 }
 
 impl Fields {

@@ -5,8 +5,9 @@ use crate::{Fields, ListOf};
 use std::alloc::Global;
 use std::marker::Model;
 
-/// A record is a key and its fields. The key identifies it across versions.
-#[derive(Clone, Copy)]
+/// A record is a key and its fields. The key identifies it across versions. Records are compared by
+/// key, and then by their fields.
+#[derive(Clone, Copy, PartialEq, Eq, PartialOrd, Ord)]
 pub struct Record {
     pub key: u64,
     pub fields: Fields,

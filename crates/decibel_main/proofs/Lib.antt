@@ -1,4 +1,7 @@
-pub mod ScanLemmas
 pub mod WordLemmas
-pub mod AloneLemmas
 pub mod OutputLemmas
+pub mod OwnLines
+pub mod StandsLemmas
+pub mod SeatLemmas
+pub mod RoomLemmas
+pub mod NamedReplies

@@ -1,5 +1,5 @@
-pub mod Alone
 pub mod Order
+pub mod Stands
 pub mod Device
 pub mod Output
 pub mod Ends

@@ -45,11 +45,15 @@ pub record IsCut (w : World) (all : List (List ℕ)) (now : State) (before writt
   pub state : now ≡ (after w (done ++ last ∷ [])).state
   pub answers : AppendsShort before written (out w done) (answer_of (after w done) last)
 
+-- it is one of two states
+abbrev pub IsOneOf : State → State → State → Type 0
+IsOneOf now a b = (now ≡ a) ⊎ (now ≡ b)
+
 -- of these lines some were run and answered whole, then at most one more was run, and no other byte was written
 pub record IsWhole (w : World) (all : List (List ℕ)) (now : State) (before written : Option (List ℕ)) : Type 0 where
   pub done : List (List ℕ)
   pub last : List ℕ
   pub later : List (List ℕ)
   pub lines : all ≡ done ++ last ∷ later
-  pub state : (now ≡ (after w done).state) ⊎ (now ≡ (after w (done ++ last ∷ [])).state)
+  pub state : IsOneOf now (after w done).state (after w (done ++ last ∷ [])).state
   pub answers : Appends before written (out w done)

@@ -5,18 +5,23 @@
 //!
 //! | file | has |
 //! |---|---|
-//! | `specs/Alone.antt` | one transaction alone on whole tables |
 //! | `specs/Order.antt`, `specs/Output.antt` | lists of lines, and what is written for them |
+//! | `specs/Stands.antt` | what a session keeps, against the lines so far |
 //! | `specs/Top.antt`, `specs/Ends.antt` | how a call ends |
-//! | `src/scan.rt`, `src/act.rt`, `src/run.rt` | statements, and lines one after another |
+//! | `src/seat.rt`, `src/session.rt` | a session's transactions and statements |
+//! | `src/run.rt` | lines one after another |
 //! | `src/devices.rt`, `src/standard.rt` | devices whole, and the standard streams |
 //! | `src/top.rt` | the top call |
 #![tactic(auto)]
 
-mod act;
 mod devices;
+#[cfg(test)]
+mod join_tests;
 mod run;
-mod scan;
+#[cfg(test)]
+mod scan_tests;
+mod seat;
+mod session;
 mod standard;
 #[cfg(test)]
 mod tests;

@@ -5,18 +5,19 @@ ghost use Rattle.db_outside.specs.Device.{Rose};
 ghost use Rattle.decibel_main.specs.Device.{Appends, AppendsFront, AppendsShort};
 ghost use Rattle.reply_text.specs.Reply.{echo_text, reply_text, NamesItsRows};
 ghost use Rattle.stmt_text.specs.Line.{line_of};
-ghost use Rattle.decibel_main.specs.Order.{opening, heard, next, after};
-ghost use Rattle.decibel_main.specs.Output.{answer_of, out, kept, IsCut, IsWhole};
+ghost use Rattle.decibel_main.specs.Order.{World, opening, heard, next, after, reply_with, next_with};
+ghost use Rattle.decibel_main.specs.Stands.{Stands, IsRoomyOf};
+ghost use Rattle.decibel_main.specs.Output.{answer_of, out, kept, IsOneOf, IsCut, IsWhole};
 
-use crate::act::act;
 use crate::devices::put_all;
+use crate::seat::refused;
+use crate::session::{Session, answer};
 use db_outside::Sink;
 use db_store::Store;
 use db_value::text::{first_line, passes_over};
-use db_value::{ListOf, Reply, Schema, Steps};
+use db_value::{ListOf, Refusal, Reply, Schema};
 use reply_text::{ReplyBytes, write_reply};
 use std::alloc::{AllocError, Global};
-use std::sync::ledger::Ledger;
 use stmt_text::{LineStop, Stmt, read_line};
 use thiserror::Error;
 
@@ -42,12 +43,16 @@ impl From<AllocError> for RunStop {
     }
 }
 
+/// The branch on which a session begins.
+const MASTER: u32 = 0;
+
 /// The one session that is built.
 const FIRST_SESSION: u32 = 1;
 
 // The statement of a line, or none in a bad one.
 fn hear(alloc: Global, text: &[u8]) -> Result<Option<Stmt>, AllocError>
-    ensures { IfOk result (λ o. o ≡ heard (line_of text.now)) }
+    ensures heard { IfOk result (λ o. o ≡ heard (line_of text.now)) }
+    ensures roomy { IfOk result IsRoomyOf }
 {
     match read_line(alloc, text) {
         Ok(line) => {
@@ -63,7 +68,7 @@ fn hear(alloc: Global, text: &[u8]) -> Result<Option<Stmt>, AllocError>
 }
 
 // The echo of a line, and its reply.
-fn answer(
+fn echo_and_reply(
     alloc: Global,
     schema: &Schema,
     line: &[u8],
@@ -76,46 +81,71 @@ fn answer(
     write_reply(alloc, schema, &line, reply)
 }
 
-// Runs a line, and gives its echo and reply. After want of memory it was run, or it was not.
-fn line_bytes<St: Store, L: Ledger>(
+// Answers a statement, or none: then the line is bad.
+fn reply_to<St: Store>(
     alloc: Global,
     store: &mut St,
+    session: &mut Session<St>,
+    stmt: &Option<Stmt>,
+) -> Result<Reply, AllocError>
+    requires stands { (w : World) × Stands w (St.state store.old) session.old.current session.old.tx }
+    requires roomy { IsRoomyOf stmt.now }
+    ensures reply { IfOk result (λ r. (w : World) → Stands w (St.state store.old) session.old.current session.old.tx → r ≡ reply_with w stmt.now) }
+    ensures stands { OnOk result ((w : World) → Stands w (St.state store.old) session.old.current session.old.tx → Stands (next_with w stmt.now) (St.state store.new) session.new.current session.new.tx) }
+    ensures err { OnErr result (St.state store.new ≡ St.state store.old) }
+    ensures named { IfOk result NamesItsRows }
+{
+    match stmt {
+        None => Ok(refused(Refusal::Line)),
+        Some(stmt) => {
+            let reply = answer(alloc, store, session, stmt)?;
+            Ok(reply)
+        }
+    }
+}
+
+// Runs a line, and gives its echo and reply. After want of memory it was run, or it was not.
+fn line_bytes<St: Store>(
+    alloc: Global,
+    store: &mut St,
+    session: &mut Session<St>,
     line: &[u8],
-    steps: &mut Steps<L>,
 ) -> Result<ReplyBytes, AllocError>
-    ensures bytes { IfOk result (λ v. v ≡ answer_of (opening (St.state store.old)) line.now) }
-    ensures state { OnOk result (St.state store.new ≡ (next (opening (St.state store.old)) line.now).state) }
-    ensures err { OnErr result ((St.state store.new ≡ St.state store.old) ⊎ (St.state store.new ≡ (next (opening (St.state store.old)) line.now).state)) }
+    requires { (w : World) × Stands w (St.state store.old) session.old.current session.old.tx }
+    ensures bytes { IfOk result (λ v. (w : World) → Stands w (St.state store.old) session.old.current session.old.tx → v ≡ answer_of w line.now) }
+    ensures stands { OnOk result ((w : World) → Stands w (St.state store.old) session.old.current session.old.tx → Stands (next w line.now) (St.state store.new) session.new.current session.new.tx) }
+    ensures err { OnErr result ((w : World) → Stands w (St.state store.old) session.old.current session.old.tx → IsOneOf (St.state store.new) w.state (next w line.now).state) }
 {
     let stmt = hear(alloc, line)?;
-    let reply = act(alloc, store, &stmt, steps)?;
-    answer(alloc, store.schema(), line, &reply)
+    let reply = reply_to(alloc, store, session, &stmt)?;
+    echo_and_reply(alloc, store.schema(), line, &reply)
 }
 
 // Runs a line, and writes it with its reply.
-fn run_line<St: Store, K: Sink, L: Ledger>(
+fn run_line<St: Store, K: Sink>(
     alloc: Global,
     store: &mut St,
+    session: &mut Session<St>,
     line: &[u8],
     sink: &mut K,
-    steps: &mut Steps<L>,
 ) -> Result<(), RunStop>
-    ensures all { OnOk result (Appends (K.written sink.old) (K.written sink.new) (answer_of (opening (St.state store.old)) line.now)) }
-    ensures state { OnOk result (St.state store.new ≡ (next (opening (St.state store.old)) line.now).state) }
+    requires { (w : World) × Stands w (St.state store.old) session.old.current session.old.tx }
+    ensures all { OnOk result ((w : World) → Stands w (St.state store.old) session.old.current session.old.tx → Appends (K.written sink.old) (K.written sink.new) (answer_of w line.now)) }
+    ensures stands { OnOk result ((w : World) → Stands w (St.state store.old) session.old.current session.old.tx → Stands (next w line.now) (St.state store.new) session.new.current session.new.tx) }
 
     // A fault of the sink comes after the line was run, and before its reply was written whole.
     ensures fault { IsErrOf result RunStop.Fault → Rose (K.faults sink.old) (K.faults sink.new) }
-    ensures short { IsErrOf result RunStop.Fault → AppendsShort (K.written sink.old) (K.written sink.new) [] (answer_of (opening (St.state store.old)) line.now) }
-    ensures run { IsErrOf result RunStop.Fault → St.state store.new ≡ (next (opening (St.state store.old)) line.now).state }
+    ensures short { IsErrOf result RunStop.Fault → (w : World) → Stands w (St.state store.old) session.old.current session.old.tx → AppendsShort (K.written sink.old) (K.written sink.new) [] (answer_of w line.now) }
+    ensures run { IsErrOf result RunStop.Fault → (w : World) → Stands w (St.state store.old) session.old.current session.old.tx → St.state store.new ≡ (next w line.now).state }
 
-    ensures front { OnErr result (AppendsFront (K.written sink.old) (K.written sink.new) (answer_of (opening (St.state store.old)) line.now)) }
+    ensures front { OnErr result ((w : World) → Stands w (St.state store.old) session.old.current session.old.tx → AppendsFront (K.written sink.old) (K.written sink.new) (answer_of w line.now)) }
 
     // After want of memory the line was run, or it was not, and nothing of it was written.
     ensures quiet { IsErrOf result RunStop.Memory → sink.new ≡ sink.old }
-    ensures memory { IsErrOf result RunStop.Memory → (St.state store.new ≡ St.state store.old) ⊎ (St.state store.new ≡ (next (opening (St.state store.old)) line.now).state) }
+    ensures memory { IsErrOf result RunStop.Memory → (w : World) → Stands w (St.state store.old) session.old.current session.old.tx → IsOneOf (St.state store.new) w.state (next w line.now).state }
     ensures later { K.faults sink.old ≤ K.faults sink.new }
 {
-    let bytes = line_bytes(alloc, store, line, steps)?;
+    let bytes = line_bytes(alloc, store, session, line)?;
     if put_all(sink, bytes.as_slice()).is_err() {
         return Err(RunStop::Fault);
     }
@@ -123,12 +153,11 @@ fn run_line<St: Store, K: Sink, L: Ledger>(
 }
 
 /// Runs the lines of a script, and writes each with its reply before the next one is run.
-pub fn run_script<St: Store, K: Sink, L: Ledger>(
+pub fn run_script<St: Store, K: Sink>(
     alloc: Global,
     store: &mut St,
     script: &[u8],
     sink: &mut K,
-    steps: &mut Steps<L>,
 ) -> Result<(), RunStop>
     ensures all { OnOk result (Appends (K.written sink.old) (K.written sink.new) (out (opening (St.state store.old)) (kept (lines script.now)))) }
     ensures state { OnOk result (St.state store.new ≡ (after (opening (St.state store.old)) (kept (lines script.now))).state) }
@@ -143,6 +172,10 @@ pub fn run_script<St: Store, K: Sink, L: Ledger>(
     ensures whole { IsErrOf result RunStop.Memory → IsWhole (opening (St.state store.old)) (kept (lines script.now)) (St.state store.new) (K.written sink.old) (K.written sink.new) }
     ensures later { K.faults sink.old ≤ K.faults sink.new }
 {
+    let mut session = Session {
+        current: MASTER,
+        tx: None,
+    };
     let mut rest = script;
     while !rest.is_empty() {
         let (line, more) = first_line(rest);
@@ -150,7 +183,7 @@ pub fn run_script<St: Store, K: Sink, L: Ledger>(
         if passes_over(line) {
             continue;
         }
-        match run_line(alloc, store, line, sink, steps) {
+        match run_line(alloc, store, &mut session, line, sink) {
             Ok(()) => {}
             Err(stop) => return Err(stop),
         }

@@ -94,35 +94,185 @@ fn refuses_what_is_in_no_form(rt: HostRuntime) -> Result<(), Fail> {
         "1 ",
         " 1 scan items",
         "1 scan items ",
-        "1  scan items",
         "01 scan items",
         "0 scan items",
+        "65 begin",
         "2 scan items",
-        "65 scan items",
-        "1 scan",
-        "1 scan things",
         "1 scan Items",
-        "1 scan items in master",
-        "1 get items",
+        "1 begin 65537",
         "1 get items 01",
-        "1 get items +1",
-        "1 get items -1",
         "1 get items 18446744073709551616",
-        "1 insert items 1 1",
-        "1 insert items 1 1 1 1",
-        "1 insert items 1",
+        "1 insert items 01 1 1",
         "1 insert items 1 -0 1",
         "1 insert items 1 1 9223372036854775808",
-        "1 insert items 1 -9223372036854775809 1",
-        "1 insert items 1 1 --1",
-        "1 begin",
-        "1 insert things 1 1 1",
+        "1 graph",
+        "1 merge master",
+        "1 scan items in master",
+        "1 scan items where a = 1",
     ];
     for line in lines {
         let input = format!(in rt.alloc(); "relation items a b\nend\n{line}\n")?;
         let output = format!(in rt.alloc(); "> {line}\nrefused 1 bad line\n")?;
         let call = try_with(line, input.as_str());
         ends(&rt, rt.alloc(), &call, Status::Done, output.as_str())?;
+    }
+    Ok(())
+}
+
+// Echoes and replies; the script is the echoed lines.
+const CURATION: &str = "\
+> 1 begin
+ok
+> 1 insert items 1 10 20
+ok
+> 1 insert items 1 11 21
+refused 6 key there items 1
+> 1 delete items 2
+refused 7 key missing items 2
+> 1 commit
+ok master@1
+> 1 begin 2
+ok
+> 1 insert items 2 1 1
+ok
+> 1 insert items 3 2 2
+ok
+> 1 insert items 4 3 3
+refused 12 room 2
+> 1 update items 2 a=9
+ok
+> 1 get items 2
+row 2 9 1
+> 1 commit
+ok master@2
+> 1 delete items 3
+ok master@3
+> 1 begin
+ok
+> 1 delete items 1
+ok
+> 1 abort
+ok
+> 1 begin
+ok
+> 1 commit
+ok
+> 1 scan items
+row 1 10 20
+row 2 9 1
+rows 2
+";
+
+const BRANCHES: &str = "\
+> 1 insert items 1 1 1
+ok master@1
+> 1 insert items 2 2 2
+ok master@2
+> 1 insert items 3 3 3
+ok master@3
+> 1 branch dev of master@1
+ok dev@0
+> 1 log dev
+dev@0 is master@1
+positions 1
+> 1 on dev
+ok
+> 1 scan items
+row 1 1 1
+rows 1
+> 1 update items 1 b=7
+ok dev@1
+> 1 get items 1 in dev@0
+row 1 1 1
+> 1 get items 2 in master
+row 2 2 2
+> 1 get items 2 in master@1
+none
+> 1 branch sub of dev@0
+ok sub@0
+> 1 log sub
+sub@0 is master@1
+positions 1
+> 1 log dev
+dev@1 of master@1
+dev@0 is master@1
+positions 2
+> 1 log master
+master@3 of master@2
+master@2 of master@1
+master@1 of master@0
+master@0 root
+positions 4
+";
+
+const REFUSED: &str = "\
+> 1 insert items 1 1
+refused 21 value count items 2
+> 1 scan nothing
+refused 2 no relation nothing
+> 1 update items 1 z=1
+refused 3 no column z
+> 1 update nothing 1 z=1
+refused 2 no relation nothing
+> 1 update items 1 a=1
+refused 7 key missing items 1
+> 1 commit
+refused 11 no transaction
+> 1 abort
+refused 11 no transaction
+> 1 branch master of master
+refused 14 branch there master
+> 1 branch dev of nobody
+refused 4 no branch nobody
+> 1 on dev
+refused 4 no branch dev
+> 1 log dev
+refused 4 no branch dev
+> 1 get items 1 in master@9
+refused 5 no version master@9
+> 1 get nothing 1 in master@9
+refused 2 no relation nothing
+> 1 begin
+ok
+> 1 begin
+refused 10 in transaction
+> 1 on master
+refused 10 in transaction
+> 1 branch x of nobody
+refused 10 in transaction
+> 1 insert items 1 1 1
+ok
+> 1 get items 1 in master
+row 1 1 1
+> 1 get items 1 in master@0
+none
+> 1 commit
+ok master@1
+";
+
+// The lines that are echoed.
+fn script_of(alloc: Global, output: &str) -> Result<String, Fail> {
+    let mut script = String::from_str(alloc, "relation items a b\nend\n")?;
+    for line in output.lines() {
+        if let Some(said) = line.strip_prefix("> ") {
+            script.push_str(said)?;
+            script.push_str("\n")?;
+        }
+    }
+    Ok(script)
+}
+
+#[test]
+fn curates_by_one_session(rt: HostRuntime) -> Result<(), Fail> {
+    let runs = [
+        ("changes and transactions", CURATION),
+        ("versions and branches", BRANCHES),
+        ("refusals in their order", REFUSED),
+    ];
+    for (name, output) in runs {
+        let script = script_of(rt.alloc(), output)?;
+        let call = try_with(name, script.as_str());
+        ends(&rt, rt.alloc(), &call, Status::Done, output)?;
     }
     Ok(())
 }

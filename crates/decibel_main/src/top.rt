@@ -11,12 +11,10 @@ ghost use Rattle.decibel_main.specs.Ends.{IsRunStatus, BreaksOffIn, number_of};
 use crate::devices::{InputStop, read_all};
 use crate::run::{RunStop, run_script};
 use db_outside::{Sink, Source};
-use db_store::PlainStore;
-use db_value::{Schema, SchemaFault, Steps};
+use db_value::{Schema, SchemaFault};
+use plain_store::PlainStore;
 use std::alloc::Global;
 use std::fmt;
-use std::marker::Brand;
-use std::sync::ledger::{Blank, Ledger};
 
 /// How a call of the program ended.
 #[derive(Clone, Copy, Debug, PartialEq, Eq)]
@@ -85,10 +83,7 @@ fn are_try(words: &[String]) -> bool
 }
 
 // Runs an input's schema and script on a new dataset.
-fn try_input<K: Sink, L: Ledger>(alloc: Global, input: &[u8], sink: &mut K, blank: Blank) -> Status
-    requires name { blank.name ≡ L.name }
-    requires parts { blank.parts ≡ L.parts }
-    requires some { 0 < L.parts }
+fn try_input<K: Sink>(alloc: Global, input: &[u8], sink: &mut K) -> Status
     ensures ends { IsRunStatus result }
     ensures done { result ≡ Status.Done → Appends (K.written sink.old) (K.written sink.new) (output_of input.now) }
     ensures front { AppendsFront (K.written sink.old) (K.written sink.new) (output_of input.now) }
@@ -109,8 +104,7 @@ fn try_input<K: Sink, L: Ledger>(alloc: Global, input: &[u8], sink: &mut K, blan
         Ok(store) => store,
         Err(_) => return Status::Memory,
     };
-    let mut steps = Steps::<L>::open(blank);
-    match run_script(alloc, &mut store, &input[taken..], sink, &mut steps) {
+    match run_script(alloc, &mut store, &input[taken..], sink) {
         Ok(()) => Status::Done,
         Err(RunStop::Fault) => Status::WriteFault,
         Err(RunStop::Memory) => Status::Memory,
@@ -162,5 +156,5 @@ pub fn decibel<S: Source, K: Sink>(
         Err(InputStop::TooLong) => return Status::TooLong,
         Err(InputStop::Memory) => return Status::Memory,
     };
-    try_input::<K, Brand>(alloc, &input, sink, Blank::new(1))
+    try_input(alloc, &input, sink)
 }

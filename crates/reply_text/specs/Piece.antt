@@ -1,10 +1,9 @@
 -- What the lines of replies are made of: numbers, names, fields and records.
-use Rattle.std.specs.Prelude.{ℕ, List, [], ◌∷◌, ◌++◌, Option, Some, None, codes}
+use Rattle.std.specs.Prelude.{ℕ, List, [], ◌∷◌, ◌++◌, codes}
 use Rattle.std.specs.List.{flat_map}
 use Rattle.std.specs.Fmt.{decimal, signed_decimal}
 use Rattle.db_value.specs.Value.{Value}
 use Rattle.db_value.specs.declared.record.Record.{Record}
-use Rattle.db_value.specs.declared.version.VersionName.{VersionName}
 
 -- the byte that ends each line
 abbrev pub line_end : List ℕ
@@ -13,15 +12,6 @@ line_end = 10 ∷ []
 -- a name and a number
 abbrev pub numbered_text : List ℕ → ℕ → List ℕ
 numbered_text name n = name ++ 32 ∷ decimal n
-
--- a version by its branch: `b`, or `b@n` where there is a position
-abbrev pub place_text : List ℕ → Option ℕ → List ℕ
-place_text branch None = branch
-place_text branch (Some n) = branch ++ 64 ∷ decimal n
-
--- a version as it was named
-abbrev pub version_text : VersionName → List ℕ
-version_text v = place_text v.branch v.position
 
 -- a field behind a space
 abbrev pub field_text : Value → List ℕ

@@ -3,7 +3,8 @@ use Rattle.std.specs.Prelude.{ℕ, List, ◌∷◌, ◌++◌, Option, Some, None
 use Rattle.std.specs.Fmt.{decimal}
 use Rattle.db_value.specs.declared.reply.Refusal.{Refusal}
 use Rattle.db_value.specs.declared.reply.Refusal.TheVariants.{Line, NoRelation, NoColumn, NoBranch, NoVersion, KeyThere, KeyMissing, Held, Conflict, InTransaction, NoTransaction, Room, NotFirst, BranchThere, BranchesFull, VersionsFull, TableFull, Skipped, FaultDisk, ValueCount}
-use Rattle.reply_text.specs.Piece.{numbered_text, place_text}
+use Rattle.db_value.specs.Version.{place_text}
+use Rattle.reply_text.specs.Piece.{numbered_text}
 
 -- the field in which two sides differ, or a star for the whole record
 abbrev pub differing_text : Option (List ℕ) → List ℕ

@@ -3,7 +3,8 @@ use Rattle.std.specs.Prelude.{ℕ, List, ◌++◌, length, Some, None, codes}
 use Rattle.std.specs.List.{All, flat_map}
 use Rattle.db_value.specs.declared.reply.Reply.{Reply}
 use Rattle.db_value.specs.declared.reply.Reply.TheVariants.{Done, Made, One, Listed, Paired, Versions, Layout, Refused}
-use Rattle.reply_text.specs.Piece.{line_end, place_text, record_text, count_text}
+use Rattle.db_value.specs.Version.{place_text}
+use Rattle.reply_text.specs.Piece.{line_end, record_text, count_text}
 use Rattle.reply_text.specs.Rows.{HasNames, marked_text, pair_text}
 use Rattle.reply_text.specs.Report.{log_text, log_end, segment_text}
 use Rattle.reply_text.specs.Refusal.{refusal_text}

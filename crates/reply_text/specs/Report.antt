@@ -7,7 +7,8 @@ use Rattle.db_value.specs.declared.report.LogLine.TheVariants.{Root, Same, Made}
 use Rattle.db_value.specs.declared.report.Live.{Live}
 use Rattle.db_value.specs.declared.report.LayoutLine.{LayoutLine}
 use Rattle.db_value.specs.declared.version.VersionName.{VersionName}
-use Rattle.reply_text.specs.Piece.{line_end, place_text, version_text, numbered_text, count_text}
+use Rattle.db_value.specs.Version.{place_text, version_text}
+use Rattle.reply_text.specs.Piece.{line_end, numbered_text, count_text}
 
 -- the second parent of a merge
 abbrev pub second_text : Option VersionName → List ℕ

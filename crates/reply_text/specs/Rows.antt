@@ -6,7 +6,8 @@ use Rattle.std.proofs.Common.{get_or, None}
 use Rattle.db_value.specs.declared.record.Marked.{Marked}
 use Rattle.db_value.specs.declared.report.Pair.{Pair}
 use Rattle.db_value.specs.declared.version.VersionName.{VersionName}
-use Rattle.reply_text.specs.Piece.{line_end, version_text, field_text, record_text}
+use Rattle.db_value.specs.Version.{version_text}
+use Rattle.reply_text.specs.Piece.{line_end, field_text, record_text}
 
 -- each position of a row has a name, or it is 0 alone where there are no names
 pub record HasNames (names : List VersionName) (positions : List ℕ) : Type 0 where

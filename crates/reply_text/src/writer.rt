@@ -2,7 +2,8 @@
 ghost use Rattle.std.specs.Prelude.{◌≡◌, ◌++◌, ◌∷◌, [], OnOk};
 ghost use Rattle.std.specs.Fmt.{decimal};
 ghost use Rattle.std.specs.List.{flat_map};
-ghost use Rattle.reply_text.specs.Piece.{line_end, numbered_text, place_text, version_text, field_text, record_text, count_text};
+ghost use Rattle.db_value.specs.Version.{place_text, version_text};
+ghost use Rattle.reply_text.specs.Piece.{line_end, numbered_text, field_text, record_text, count_text};
 
 use db_value::{Name, Record, VersionName};
 use std::alloc::{AllocError, Global};

@@ -31,4 +31,4 @@ mod write;
 
 pub use read::{LineStop, read_line};
 pub use stmt::{Line, NamedSet, NamedSets, ScanOver, Stmt};
-pub use write::{LineText, spelling_law, write_line};
+pub use write::{spelling_law, write_line};

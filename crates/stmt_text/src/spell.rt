@@ -2,7 +2,8 @@
 ghost use Rattle.std.specs.Prelude.{◌≡◌, ◌++◌, ◌∷◌, [], codes, map, OnOk};
 ghost use Rattle.std.specs.List.{flat_map};
 ghost use Rattle.std.specs.Fmt.{decimal, signed_decimal};
-ghost use Rattle.stmt_text.specs.Spelling.{version_text, next_version, versions_text, set_text, op_text, column_text, term_words, next_words, condition_words, over_words, behind_spaces};
+ghost use Rattle.db_value.specs.Version.{version_text};
+ghost use Rattle.stmt_text.specs.Spelling.{next_version, versions_text, set_text, op_text, column_text, term_words, next_words, condition_words, over_words, behind_spaces};
 
 use crate::stmt::{NamedSet, ScanOver};
 use db_value::{Name, Op, Term, VersionName};

@@ -9,11 +9,8 @@ use crate::spell::{
     push_condition, push_number, push_over, push_sets, push_values, push_version, push_word,
 };
 use crate::stmt::{Line, NamedSet, ScanOver, Stmt};
-use db_value::{Fields, ListOf, Name, Prefer, Term, VersionName};
+use db_value::{Fields, LineText, ListOf, Name, Prefer, Term, VersionName};
 use std::alloc::{AllocError, Global};
-
-/// The bytes of a line.
-pub type LineText = ListOf<u8>;
 
 fn push_begin(alloc: Global, out: &mut Vec<u8>, room: Option<u32>) -> Result<(), AllocError>
     ensures { OnOk result (out.new.items ≡ out.old.items ++ behind_spaces (stmt_words (Begin room))) }

@@ -5,13 +5,14 @@ use Rattle.db_value.specs.Text.{lines}
 use Rattle.db_store.specs.State.{State}
 use Rattle.decibel_main.specs.Device.{Appends, AppendsFront, AppendsShort}
 use Rattle.decibel_main.specs.Order.{World, opening, next, after}
-use Rattle.decibel_main.specs.Output.{kept, answer_of, out}
+use Rattle.decibel_main.specs.Stands.{Stands}
+use Rattle.decibel_main.specs.Output.{kept, answer_of, out, IsOneOf}
 use Rattle.decibel_main.proofs.OutputLemmas.{kept_line, lines_empty, after_more, out_end, out_more, out_front, appends_then, short_then, front_here, front_then}
 use Rattle.decibel_main.proofs.run.run_script.Goals as goal
 
 pub loop-rest-init : goal.loop-rest-init
 loop-rest-init g c = record {
-  ran = ([], refl, refl, λ old h. h ∙ ap Some (sym (append-nil old) ∙ ap (λ t. old ++ t) (sym (out_end _))));
+  ran = ([], refl, record { state = refl; current_is = refl; within = (g.met.St.Store.sound c.args.store.now).some; roomy = tt; lines = tt }, λ old h. h ∙ ap Some (sym (append-nil old) ∙ ap (λ t. old ++ t) (sym (out_end _))));
   later = omega arith;
 }
 
@@ -19,9 +20,10 @@ loop-rest-init g c = record {
 more_lines : (all rest : List ℕ) (ran : List (List ℕ)) (line : List ℕ) (more : List (List ℕ)) → kept (lines all) ≡ ran ++ kept (lines rest) → lines rest ≡ line ∷ more → kept (line ∷ more) ≡ line ∷ kept more → kept (lines all) ≡ ran ++ line ∷ kept more
 more_lines all rest ran line more e f k = e ∙ ap (λ t. ran ++ kept t) f ∙ ap (λ t. ran ++ t) k
 
--- the state after one line more
-next_state : (w : World) (ran : List (List ℕ)) (line : List ℕ) (before now : State) → opening before ≡ after w ran → now ≡ (next (opening before) line).state → now ≡ (after w (ran ++ line ∷ [])).state
-next_state w ran line before now e n = n ∙ ap (λ (v : World). (next v line).state) e ∙ ap (λ (v : World). v.state) (sym (after_more w ran line))
+pub run_line-requires : goal.run_line-requires
+run_line-requires g c =
+    let r = c.loop-rest.invariant.ran in
+    (after (opening (g.St.Store.state c.args.store.now)) r.0, r.2)
 
 pub loop-rest-preserved : goal.loop-rest-preserved
 loop-rest-preserved g c =
@@ -34,9 +36,9 @@ loop-rest-preserved g c =
       ran = (
         r.0 ++ line ∷ [],
         more_lines c.args.script.now c.loop-rest.rest.now r.0 line more r.1 c.first_line.ensures.lines not_passed ∙ sym (append_assoc r.0 (line ∷ []) (kept more)),
-        ap opening (next_state w r.0 line _ _ r.2 c.in-Ok.ensures.state),
-        subst (λ t. Appends (g.K.Sink.written c.args.sink.now) (g.K.Sink.written c.run_line.new.sink) t) (ap (λ v. out w r.0 ++ answer_of v line) r.2 ∙ sym (out_more w r.0 line))
-            (appends_then _ _ _ (out w r.0) _ r.3 c.in-Ok.ensures.all),
+        subst (λ (v : World). Stands v (g.St.Store.state c.run_line.new.store) c.run_line.new.session.current c.run_line.new.session.tx) (sym (after_more w r.0 line)) (c.in-Ok.ensures.stands (after w r.0) r.2),
+        subst (λ t. Appends (g.K.Sink.written c.args.sink.now) (g.K.Sink.written c.run_line.new.sink) t) (sym (out_more w r.0 line))
+            (appends_then _ _ _ (out w r.0) _ r.3 (c.in-Ok.ensures.all (after w r.0) r.2)),
       );
       later = omega arith;
     }
@@ -48,9 +50,12 @@ returns-in-Err-clause-front g c =
     let line = c.first_line.result.0.now in
     let more = lines c.first_line.result.1.now in
     let not_passed = kept_line line more (sym c.passes_over.ensures ∙ c.if-passes_over.false) in
-    front_then _ _ _ (out w r.0) (answer_of (after w r.0) line) _ _ r.3
-    (subst (λ v. AppendsFront (g.K.Sink.written c.loop-rest.sink) (g.K.Sink.written c.run_line.new.sink) (answer_of v line)) r.2 c.in-Err.ensures.front)
+    front_then _ _ _ (out w r.0) (answer_of (after w r.0) line) _ _ r.3 (c.in-Err.ensures.front (after w r.0) r.2)
     (ap (out w) (more_lines c.args.script.now c.loop-rest.rest.now r.0 line more r.1 c.first_line.ensures.lines not_passed) ∙ out_front w r.0 line (kept more))
+
+-- the state after one line more
+next_state : (w : World) (ran : List (List ℕ)) (line : List ℕ) → (next (after w ran) line).state ≡ (after w (ran ++ line ∷ [])).state
+next_state w ran line = ap (λ (v : World). v.state) (sym (after_more w ran line))
 
 pub returns-in-Err-clause-cut : goal.returns-in-Err-clause-cut
 returns-in-Err-clause-cut g c = λ f.
@@ -64,15 +69,9 @@ returns-in-Err-clause-cut g c = λ f.
       last = line;
       later = kept more;
       lines = more_lines c.args.script.now c.loop-rest.rest.now r.0 line more r.1 c.first_line.ensures.lines not_passed;
-      state = next_state w r.0 line _ _ r.2 (c.in-Err.ensures.run f);
-      answers = short_then _ _ _ (out w r.0) (answer_of (after w r.0) line) r.3
-          (subst (λ v. AppendsShort (g.K.Sink.written c.loop-rest.sink) (g.K.Sink.written c.run_line.new.sink) [] (answer_of v line)) r.2 (c.in-Err.ensures.short f));
+      state = c.in-Err.ensures.run f (after w r.0) r.2 ∙ next_state w r.0 line;
+      answers = short_then _ _ _ (out w r.0) (answer_of (after w r.0) line) r.3 (c.in-Err.ensures.short f (after w r.0) r.2);
     }
-
--- the state where the next line was run, or was not
-either_state : (w : World) (ran : List (List ℕ)) (line : List ℕ) (before now : State) → opening before ≡ after w ran → (now ≡ before) ⊎ (now ≡ (next (opening before) line).state) → (now ≡ (after w ran).state) ⊎ (now ≡ (after w (ran ++ line ∷ [])).state)
-either_state w ran line before now e (inl n) = inl (n ∙ ap (λ (v : World). v.state) e)
-either_state w ran line before now e (inr n) = inr (next_state w ran line before now e n)
 
 pub returns-in-Err-clause-whole : goal.returns-in-Err-clause-whole
 returns-in-Err-clause-whole g c = λ f.
@@ -86,7 +85,7 @@ returns-in-Err-clause-whole g c = λ f.
       last = line;
       later = kept more;
       lines = more_lines c.args.script.now c.loop-rest.rest.now r.0 line more r.1 c.first_line.ensures.lines not_passed;
-      state = either_state w r.0 line _ _ r.2 (c.in-Err.ensures.memory f);
+      state = subst (λ (t : State). IsOneOf (g.St.Store.state c.run_line.new.store) (after w r.0).state t) (next_state w r.0 line) (c.in-Err.ensures.memory f (after w r.0) r.2);
       answers = subst (λ k. Appends (g.K.Sink.written c.args.sink.now) (g.K.Sink.written k) (out w r.0)) (sym (c.in-Err.ensures.quiet f)) r.3;
     }
 

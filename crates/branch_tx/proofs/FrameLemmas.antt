@@ -1,0 +1,162 @@
+-- Lines of one transaction give the same before and after entries that spare their needs.
+use Rattle.std.proofs.Common.{◌≡◌, ℕ, ◌<◌, Bool, true, false, cond, List, [], ◌∷◌, length, refl, ap, sym, ◌∙◌, subst, Option, Some, None}
+use Rattle.db_value.specs.declared.schema.Relation.{Relation}
+use Rattle.db_value.specs.declared.version.VersionName.{VersionName}
+use Rattle.db_value.specs.declared.entry.Entry.{Entry}
+use Rattle.db_value.specs.declared.reply.Reply.{Reply}
+use Rattle.db_value.specs.declared.reply.Reply.TheVariants.{Done}
+use Rattle.db_value.specs.declared.reply.Refusal.TheVariants.{Line, InTransaction, NoTransaction}
+use Rattle.db_store.specs.Overlay.{Overlay}
+use Rattle.db_store.specs.Dataset.{Dataset, branch_named, head_of, apply}
+use Rattle.db_store.specs.Sound.{IsSound}
+use Rattle.db_store.proofs.SoundLemmas.{sound_stays}
+use Rattle.stmt_text.specs.declared.stmt.Stmt.{Stmt}
+use Rattle.stmt_text.specs.declared.stmt.Stmt.TheVariants.{Begin, Commit, Abort, On, LogOf, Branch, Insert, Update, Delete, Get, Scan}
+use Rattle.branch_tx.specs.Keeping.{Keeping, over_table}
+use Rattle.branch_tx.specs.Found.{Found, Source, Own, Other, Lacking, found, lack, source_of}
+use Rattle.branch_tx.specs.Act.{Tx, Outcome, relation_named, refused, answered, get_from, get_of, act}
+use Rattle.branch_tx.specs.Alone.{ground_of, told_of, made_next, log_of, place_in, on_of, branch_as, branch_of, overlaid}
+use Rattle.branch_tx.specs.Needs.{catalogue, lock_of, found_needs, source_needs, on_needs, log_needs, is_early, stmt_needs, needs, exclusive}
+use Rattle.branch_tx.specs.Frame.{Whole, and_then, step_over, whole, apply_all, AllFit, Within, AllWithin, AllSpare, LockOf, FrameLaw}
+use Rattle.branch_tx.proofs.Entries.{Frame, frame_entry, named_there}
+use Rattle.branch_tx.proofs.Early.{early_why, early_refused, told_answer, told_refusal}
+use Rattle.branch_tx.proofs.LogsStay.{log_stays}
+use Rattle.branch_tx.proofs.ReadsStay.{found_stays, named_stays, head_stays, ground_stays, next_stays, told_stays, from_stays}
+use Rattle.branch_tx.proofs.LineKeeps.{is_changed, changed_needed, within_any}
+
+-- the transaction of lines run alone is the one with changes over the head
+pub whole_overlaid : (d : Dataset) (b : ℕ) (xs : List Stmt) → (whole d b xs).tx ≡ overlaid d b xs
+whole_overlaid d b [] = refl
+whole_overlaid d b (x ∷ xs) = ap (λ (tx : Tx (List Overlay)). (step_over d b tx x).tx) (whole_overlaid d b xs)
+
+module _ (N : ℕ → Type 0) (s t : Dataset) (f : Frame N s t) (sound : IsSound s) (b : ℕ) (there : b < length s.branches) where
+  -- ---- the reply to a line
+
+  -- a line that needs the current branch
+  act_stays : (tx : Tx (List Overlay)) (x : Stmt) (sources : VersionName → Source) → N (lock_of b)
+      → told_of t b tx.begun (act (over_table (head_of t b)) (ground_of t b) sources tx x) ≡ told_of s b tx.begun (act (over_table (head_of s b)) (ground_of s b) sources tx x)
+  act_stays tx x sources h =
+      let head = head_stays N s t f b there h in
+      let ground = ground_stays N s t f b there h in
+      (λ i. told_of t b tx.begun (act (over_table (head i)) (ground i) sources tx x))
+      ∙ told_stays N s t f b tx.begun (act (over_table (head_of s b)) (ground_of s b) sources tx x) there h
+
+  -- a look-up tells no version
+  from_told : (d : Dataset) (k : Keeping (List Overlay)) (q : Bool) (tx : Tx (List Overlay)) (r key : ℕ) (x : Source) → told_of d b q (get_from k tx r key x) ≡ get_from k tx r key x
+  from_told d k q tx r key Own = told_answer k d b q _ refl
+  from_told d k q tx r key (Other table) = told_answer k d b q _ refl
+  from_told d k q tx r key (Lacking why) = told_answer k d b q _ refl
+
+  look_stays : (tx : Tx (List Overlay)) (name : List ℕ) (key : ℕ) (v : VersionName) (o : Option ℕ) → Within N (found_needs (found s v))
+      → told_of t b tx.begun (get_of (over_table (head_of t b)) (λ u. source_of b (found t u)) tx name key (Some v) o)
+      ≡ told_of s b tx.begun (get_of (over_table (head_of s b)) (λ u. source_of b (found s u)) tx name key (Some v) o)
+  look_stays tx name key v None w = told_refusal (over_table (head_of t b)) t b tx.begun tx _ ∙ sym (told_refusal (over_table (head_of s b)) s b tx.begun tx _)
+  look_stays tx name key v (Some r) w =
+      from_told t (over_table (head_of t b)) tx.begun tx r key (source_of b (found t v))
+      ∙ ap (λ (x : Found). get_from (over_table (head_of t b)) tx r key (source_of b x)) (found_stays N s t f v w)
+      ∙ from_stays N s t f b r key tx (found s v) there w
+      ∙ sym (from_told s (over_table (head_of s b)) tx.begun tx r key (source_of b (found s v)))
+
+  get_stays : (tx : Tx (List Overlay)) (name : List ℕ) (key : ℕ) (at : Option VersionName) → Within N (source_needs s b at) → step_over t b tx (Get name key at) ≡ step_over s b tx (Get name key at)
+  get_stays tx name key None w = act_stays tx (Get name key None) (λ u. source_of b (found s u)) w.0
+  get_stays tx name key (Some v) w =
+      ap (λ (schema : List Relation). told_of t b tx.begun (get_of (over_table (head_of t b)) (λ u. source_of b (found t u)) tx name key (Some v) (relation_named schema name))) f.schema
+      ∙ look_stays tx name key v (relation_named s.schema name) w
+
+  -- `commit` tells a version where something was changed
+  commit_at : (tx : Tx (List Overlay)) (q : Bool) → is_changed tx ≡ q → (is_changed tx ≡ true → N (lock_of b)) → cond (is_changed tx) (made_next t b) Done ≡ cond (is_changed tx) (made_next s b) Done
+  commit_at tx true e h = ap (λ (r : Reply). cond (is_changed tx) r Done) (next_stays N s t f b there (h e))
+  commit_at tx false e h = ap (λ (q : Bool). cond q (made_next t b) Done) e ∙ sym (ap (λ (q : Bool). cond q (made_next s b) Done) e)
+
+  on_stays : (tx : Tx (List Overlay)) (name : List ℕ) (o : Option ℕ) → branch_named s name ≡ o → Within N (on_needs o) → on_of tx name (branch_named t name) ≡ on_of tx name o
+  on_stays tx name None e w = ap (on_of tx name) (f.unnamed w.0 name e)
+  on_stays tx name (Some c) e w = ap (on_of tx name) (f.named name c e)
+
+  log_same : (name : List ℕ) (o : Option ℕ) → branch_named s name ≡ o → Within N (log_needs o) → log_of t name (branch_named t name) ≡ log_of s name o
+  log_same name None e w = ap (log_of t name) (f.unnamed w.0 name e)
+  log_same name (Some c) e w = ap (log_of t name) (f.named name c e) ∙ log_stays N s t f sound name c (named_there s name c e) w.0
+
+  branch_stays : (tx : Tx (List Overlay)) (name : List ℕ) (v : VersionName) → N catalogue → Within N (found_needs (found s v)) → branch_of t tx name (found t v) ≡ branch_of s tx name (found s v)
+  branch_stays tx name v h w =
+      let same = found_stays N s t f v w in
+      let named = named_stays N s t f h name in
+      let count = f.count h in
+      λ i. branch_as tx name (place_in (same i)) (lack (same i)) (named i) (count i)
+
+  late_stays : (tx : Tx (List Overlay)) (x : Stmt) → (is_changed tx ≡ true → N (lock_of b)) → Within N (stmt_needs s b x) → step_over t b tx x ≡ step_over s b tx x
+  late_stays tx (Begin room) h w = refl
+  late_stays tx Commit h w = ap (λ (r : Reply). cond tx.begun (answered tx r) (refused tx NoTransaction)) (commit_at tx (is_changed tx) refl h)
+  late_stays tx Abort h w = refl
+  late_stays tx (On name) h w = ap (λ (o : Outcome (List Overlay)). cond tx.begun (refused tx InTransaction) o) (on_stays tx name (branch_named s name) refl w)
+  late_stays tx (LogOf name) h w = ap (answered tx) (log_same name (branch_named s name) refl w)
+  late_stays tx (Branch name origin) h w = ap (λ (o : Outcome (List Overlay)). cond tx.begun (refused tx InTransaction) o) (branch_stays tx name origin w.0 w.1)
+  late_stays tx (Insert name key fields) h w = act_stays tx (Insert name key fields) (λ u. source_of b (found s u)) w.0
+  late_stays tx (Update name key sets) h w = act_stays tx (Update name key sets) (λ u. source_of b (found s u)) w.0
+  late_stays tx (Delete name key) h w = act_stays tx (Delete name key) (λ u. source_of b (found s u)) w.0
+  late_stays tx (Get name key at) h w = get_stays tx name key at w
+  late_stays tx (Scan name over terms) h w = act_stays tx (Scan name over terms) (λ u. source_of b (found s u)) w.0
+  late_stays tx _ h w = told_refusal (over_table (head_of t b)) t b tx.begun tx Line ∙ sym (told_refusal (over_table (head_of s b)) s b tx.begun tx Line)
+
+  early_stays : (tx : Tx (List Overlay)) (x : Stmt) → is_early s.schema tx.begun x ≡ true → step_over t b tx x ≡ step_over s b tx x
+  early_stays tx x e =
+      early_refused (over_table (head_of t b)) t b tx x (ap (λ (schema : List Relation). is_early schema tx.begun x) f.schema ∙ e)
+      ∙ ap (λ (schema : List Relation). refused tx (early_why schema x)) f.schema
+      ∙ sym (early_refused (over_table (head_of s b)) s b tx x e)
+
+  step_at : (tx : Tx (List Overlay)) (x : Stmt) (q : Bool) → is_early s.schema tx.begun x ≡ q → (is_changed tx ≡ true → N (lock_of b)) → Within N (cond q [] (stmt_needs s b x)) → step_over t b tx x ≡ step_over s b tx x
+  step_at tx x true e h w = early_stays tx x e
+  step_at tx x false e h w = late_stays tx x h w
+
+  -- ---- its needs
+
+  source_same : (at : Option VersionName) → Within N (source_needs s b at) → source_needs t b at ≡ source_needs s b at
+  source_same None w = refl
+  source_same (Some v) w = ap found_needs (found_stays N s t f v w)
+
+  on_same : (name : List ℕ) (o : Option ℕ) → branch_named s name ≡ o → Within N (on_needs o) → on_needs (branch_named t name) ≡ on_needs o
+  on_same name None e w = ap on_needs (f.unnamed w.0 name e)
+  on_same name (Some c) e w = ap on_needs (f.named name c e)
+
+  log_needs_same : (name : List ℕ) (o : Option ℕ) → branch_named s name ≡ o → Within N (log_needs o) → log_needs (branch_named t name) ≡ log_needs o
+  log_needs_same name None e w = ap log_needs (f.unnamed w.0 name e)
+  log_needs_same name (Some c) e w = ap log_needs (f.named name c e)
+
+  late_needs : (x : Stmt) → Within N (stmt_needs s b x) → stmt_needs t b x ≡ stmt_needs s b x
+  late_needs (On name) w = on_same name (branch_named s name) refl w
+  late_needs (LogOf name) w = log_needs_same name (branch_named s name) refl w
+  late_needs (Branch name origin) w = ap (λ (x : Found). exclusive catalogue ∷ found_needs x) (found_stays N s t f origin w.1)
+  late_needs (Get name key at) w = source_same at w
+  late_needs _ w = refl
+
+  needs_at : (x : Stmt) (begun q : Bool) → is_early s.schema begun x ≡ q → Within N (cond q [] (stmt_needs s b x)) → cond q [] (stmt_needs t b x) ≡ cond q [] (stmt_needs s b x)
+  needs_at x begun true e w = refl
+  needs_at x begun false e w = late_needs x w
+
+  needs_stay : (x : Stmt) (begun : Bool) → Within N (needs s b begun x) → needs t b begun x ≡ needs s b begun x
+  needs_stay x begun w =
+      ap (λ (schema : List Relation). cond (is_early schema begun x) [] (stmt_needs t b x)) f.schema
+      ∙ needs_at x begun (is_early s.schema begun x) refl w
+
+  -- ---- lines
+
+  whole_stays : (xs : List Stmt) → AllWithin N (whole s b xs).needs → whole t b xs ≡ whole s b xs
+  whole_stays [] w = refl
+  whole_stays (x ∷ xs) w =
+      let tx : Tx (List Overlay) = (whole s b xs).tx in
+      let line = step_at tx x (is_early s.schema tx.begun x) refl (λ e. within_any N (whole s b xs).needs (exclusive (lock_of b)) w.1 (changed_needed s b xs e)) w.0 in
+      let own = needs_stay x tx.begun w.0 in
+      ap (λ (v : Whole). and_then v (step_over t b v.tx x) (needs t b v.tx.begun x)) (whole_stays xs w.1)
+      ∙ (λ i. and_then (whole s b xs) (line i) (own i))
+
+-- ---- entries
+
+pub whole_kept : (N : ℕ → Type 0) (s : Dataset) (es : List Entry) → IsSound s → AllFit s es → AllSpare N es → (b : ℕ) (xs : List Stmt) → b < length s.branches → AllWithin N (whole s b xs).needs
+    → whole (apply_all s es) b xs ≡ whole s b xs
+whole_kept N s [] sound fit free b xs l w = refl
+whole_kept N s (e ∷ es) sound fit free b xs l w =
+    let f : Frame N s (apply s e) = frame_entry N s e free.0 in
+    let one : whole (apply s e) b xs ≡ whole s b xs = whole_stays N s (apply s e) f sound b l xs w in
+    whole_kept N (apply s e) es (sound_stays s e sound fit.0) fit.1 free.1 b xs (f.there b l) (subst (λ (v : Whole). AllWithin N v.needs) (sym one) w) ∙ one
+
+pub frame_law : FrameLaw
+frame_law s b lines locks es sound fit l w free = whole_kept (LockOf locks) s es sound fit free b lines l w

@@ -1,0 +1,136 @@
+-- A line does the same to a private table as to the changes that make it.
+use Rattle.std.proofs.Common.{◌≡◌, ℕ, ◌<◌, ◌≤◌, ◌==◌, nat_lt, Bool, true, false, cond, ◌||◌, is_some, List, length, Option, Some, None, Result, Ok, Err, refl, ap, ◌∙◌, arith}
+use Rattle.std.proofs.lemmas.List.Quantifiers.{position-Some}
+use Rattle.db_value.specs.Value.{Value}
+use Rattle.db_value.specs.Relations.{columns_at, no_relation}
+use Rattle.db_value.specs.Schema.{most_relations}
+use Rattle.db_value.specs.declared.schema.Relation.{Relation}
+use Rattle.db_value.specs.declared.condition.Set.{Set}
+use Rattle.db_value.specs.declared.version.VersionName.{VersionName}
+use Rattle.db_value.specs.declared.version.VersionPlace.{VersionPlace}
+use Rattle.db_value.specs.declared.reply.Reply.TheVariants.{Done}
+use Rattle.db_value.specs.declared.reply.Refusal.{Refusal}
+use Rattle.db_store.specs.Table.{Table}
+use Rattle.db_store.specs.Overlay.{Overlay}
+use Rattle.db_store.specs.Dataset.{Dataset, branch_named}
+use Rattle.db_store.specs.Fits.{most_branches}
+use Rattle.stmt_text.specs.declared.stmt.Stmt.{Stmt}
+use Rattle.stmt_text.specs.declared.stmt.Stmt.TheVariants.{Begin, Commit, Abort, On, LogOf, Branch, Insert, Update, Delete, Get, Scan}
+use Rattle.stmt_text.specs.declared.stmt.NamedSet.{NamedSet}
+use Rattle.branch_tx.specs.Keeping.{Private, privately, over_table}
+use Rattle.branch_tx.specs.Found.{found, lack, Source, Own, Other, Lacking, source_of}
+use Rattle.branch_tx.specs.Act.{Tx, Outcome, Ground, relation_named, resolved, updated, insert_refusal, change_refusal, is_plain, answered, unless_full, fields_at, has_space, has_room, changed_to, insert_in, insert_of, update_in, update_of, delete_of, get_from, source_at, get_of, scan_of, act}
+use Rattle.branch_tx.specs.Alone.{ground_of, told_of, place_in, has_changed, on_of, branch_as, step, made_next}
+use Rattle.branch_tx.specs.Laws.{as_private}
+use Rattle.branch_tx.proofs.Private.{State, touched_same, touches_same, put_same}
+
+-- the outcome on the private table
+abbrev pub image : Table → Outcome (List Overlay) → Outcome Private
+image t o = record { tx = as_private t o.tx; reply = o.reply }
+
+-- the work has an overlay for each relation of the table
+pub record IsWide (t : Table) (tx : Tx (List Overlay)) : Type 0 where
+  pub table : length t ≤ most_relations
+  pub work : length tx.work ≡ most_relations
+
+cond_image : (t : Table) (q : Bool) (x y : Outcome (List Overlay)) → cond q (image t x) (image t y) ≡ image t (cond q x y)
+cond_image t true x y = refl
+cond_image t false x y = refl
+
+cond_same : (t : Table) (q : Bool) (a b : Outcome Private) (x y : Outcome (List Overlay)) → a ≡ image t x → b ≡ image t y → cond q a b ≡ image t (cond q x y)
+cond_same t true a b x y e f = e
+cond_same t false a b x y e f = f
+
+room_same : (t : Table) (tx : Tx (List Overlay)) (r key : ℕ) → has_room privately (as_private t tx) r key ≡ has_room (over_table t) tx r key
+room_same t tx r key = λ i. touched_same t tx.work r key i || nat_lt (touches_same tx.work i) tx.room
+
+changed_same : (t : Table) (tx : Tx (List Overlay)) (r key : ℕ) (st : State) (o : Option Refusal) → IsWide t tx → r < length t → changed_to privately (as_private t tx) r key st o ≡ image t (changed_to (over_table t) tx r key st o)
+changed_same t tx r key st (Some why) w h = refl
+changed_same t tx r key st None w h = ap (λ (p : Private). answered (record (as_private t tx) { work = p }) Done) (put_same t tx.work r key st h (let a = w.table in let b = w.work in omega arith))
+
+unless_same : (t : Table) (g : Ground) (tx : Tx (List Overlay)) (a : Outcome Private) (x : Outcome (List Overlay)) → a ≡ image t x → unless_full g (as_private t tx) a ≡ image t (unless_full g tx x)
+unless_same t g tx a x e = cond_same t g.full _ _ _ _ refl e
+
+insert_in_same : (t : Table) (g : Ground) (tx : Tx (List Overlay)) (r : ℕ) (name : List ℕ) (key : ℕ) (fields : List Value) → IsWide t tx → r < length t → insert_in privately g (as_private t tx) r name key fields ≡ image t (insert_in (over_table t) g tx r name key fields)
+insert_in_same t g tx r name key fields w h = unless_same t g tx _ _
+    (ap (λ q. changed_to privately (as_private t tx) r key (Some fields) (insert_refusal name key tx.room (fields_at (over_table t) tx r key) (has_space (over_table t) tx r) q)) (room_same t tx r key)
+    ∙ changed_same t tx r key (Some fields) (insert_refusal name key tx.room (fields_at (over_table t) tx r key) (has_space (over_table t) tx r) (has_room (over_table t) tx r key)) w h)
+
+-- a statement whose relation, where it is there, is one of the table
+abbrev InTable : Table → Option ℕ → Type 0
+InTable t o = (r : ℕ) → o ≡ Some r → r < length t
+
+insert_same : (t : Table) (g : Ground) (tx : Tx (List Overlay)) (name : List ℕ) (key : ℕ) (fields : List Value) (o : Option ℕ) → IsWide t tx → InTable t o → insert_of privately g (as_private t tx) name key fields o ≡ image t (insert_of (over_table t) g tx name key fields o)
+insert_same t g tx name key fields None w h = refl
+insert_same t g tx name key fields (Some r) w h = cond_same t (length fields == length (columns_at g.schema r)) _ _ _ _ (insert_in_same t g tx r name key fields w (h r refl)) refl
+
+change_same : (t : Table) (g : Ground) (tx : Tx (List Overlay)) (r : ℕ) (name : List ℕ) (key : ℕ) (st : State) → IsWide t tx → r < length t
+    → unless_full g (as_private t tx) (changed_to privately (as_private t tx) r key st (change_refusal name key tx.room (fields_at (over_table t) tx r key) (has_room privately (as_private t tx) r key)))
+    ≡ image t (unless_full g tx (changed_to (over_table t) tx r key st (change_refusal name key tx.room (fields_at (over_table t) tx r key) (has_room (over_table t) tx r key))))
+change_same t g tx r name key st w h = unless_same t g tx _ _
+    (ap (λ q. changed_to privately (as_private t tx) r key st (change_refusal name key tx.room (fields_at (over_table t) tx r key) q)) (room_same t tx r key)
+    ∙ changed_same t tx r key st (change_refusal name key tx.room (fields_at (over_table t) tx r key) (has_room (over_table t) tx r key)) w h)
+
+update_in_same : (t : Table) (g : Ground) (tx : Tx (List Overlay)) (r : ℕ) (name : List ℕ) (key : ℕ) (sets : Result (List Set) (List ℕ)) → IsWide t tx → r < length t → update_in privately g (as_private t tx) r name key sets ≡ image t (update_in (over_table t) g tx r name key sets)
+update_in_same t g tx r name key (Err column) w h = refl
+update_in_same t g tx r name key (Ok sets) w h = change_same t g tx r name key (updated sets (fields_at (over_table t) tx r key)) w h
+
+update_same : (t : Table) (g : Ground) (tx : Tx (List Overlay)) (name : List ℕ) (key : ℕ) (sets : List NamedSet) (o : Option ℕ) → IsWide t tx → InTable t o → update_of privately g (as_private t tx) name key sets o ≡ image t (update_of (over_table t) g tx name key sets o)
+update_same t g tx name key sets None w h = refl
+update_same t g tx name key sets (Some r) w h = update_in_same t g tx r name key (resolved (columns_at g.schema r) sets) w (h r refl)
+
+delete_same : (t : Table) (g : Ground) (tx : Tx (List Overlay)) (name : List ℕ) (key : ℕ) (o : Option ℕ) → IsWide t tx → InTable t o → delete_of privately g (as_private t tx) name key o ≡ image t (delete_of (over_table t) g tx name key o)
+delete_same t g tx name key None w h = refl
+delete_same t g tx name key (Some r) w h = change_same t g tx r name key None w (h r refl)
+
+from_same : (t : Table) (tx : Tx (List Overlay)) (r key : ℕ) (s : Source) → get_from privately (as_private t tx) r key s ≡ image t (get_from (over_table t) tx r key s)
+from_same t tx r key Own = refl
+from_same t tx r key (Other table) = refl
+from_same t tx r key (Lacking why) = refl
+
+source_same : (sources : VersionName → Source) (at : Option VersionName) (t : Table) → source_at privately sources at ≡ source_at (over_table t) sources at
+source_same sources None t = refl
+source_same sources (Some v) t = refl
+
+get_same : (t : Table) (sources : VersionName → Source) (tx : Tx (List Overlay)) (name : List ℕ) (key : ℕ) (at : Option VersionName) (o : Option ℕ) → get_of privately sources (as_private t tx) name key at o ≡ image t (get_of (over_table t) sources tx name key at o)
+get_same t sources tx name key at None = refl
+get_same t sources tx name key at (Some r) = ap (get_from privately (as_private t tx) r key) (source_same sources at t) ∙ from_same t tx r key (source_at (over_table t) sources at)
+
+scan_same : (t : Table) (tx : Tx (List Overlay)) (name : List ℕ) (o : Option ℕ) → scan_of privately (as_private t tx) name o ≡ image t (scan_of (over_table t) tx name o)
+scan_same t tx name None = refl
+scan_same t tx name (Some r) = refl
+
+-- the relation of a name is one of the schema
+pub named_within : (schema : List Relation) (name : List ℕ) (r : ℕ) → relation_named schema name ≡ Some r → r < length schema
+named_within schema name r e = (position-Some _ schema r no_relation e).0
+
+act_same : (t : Table) (g : Ground) (sources : VersionName → Source) (tx : Tx (List Overlay)) (x : Stmt) → IsWide t tx → length t ≡ length g.schema → act privately g sources (as_private t tx) x ≡ image t (act (over_table t) g sources tx x)
+act_same t g sources tx (Insert name key fields) w e = insert_same t g tx name key fields (relation_named g.schema name) w (λ r f. let n = named_within g.schema name r f in omega (arith, n, e))
+act_same t g sources tx (Update name key sets) w e = update_same t g tx name key sets (relation_named g.schema name) w (λ r f. let n = named_within g.schema name r f in omega (arith, n, e))
+act_same t g sources tx (Delete name key) w e = delete_same t g tx name key (relation_named g.schema name) w (λ r f. let n = named_within g.schema name r f in omega (arith, n, e))
+act_same t g sources tx (Get name key at) w e = get_same t sources tx name key at (relation_named g.schema name)
+act_same t g sources tx (Scan name over terms) w e = cond_same t (is_plain over terms) _ _ _ _ (scan_same t tx name (relation_named g.schema name)) refl
+act_same t g sources tx _ w e = refl
+
+on_same : (t : Table) (tx : Tx (List Overlay)) (name : List ℕ) (o : Option ℕ) → on_of (as_private t tx) name o ≡ image t (on_of tx name o)
+on_same t tx name None = refl
+on_same t tx name (Some b) = refl
+
+branch_as_same : (t : Table) (tx : Tx (List Overlay)) (name : List ℕ) (at : VersionPlace) (o : Option Refusal) (there : Option ℕ) (count : ℕ) → branch_as (as_private t tx) name at o there count ≡ image t (branch_as tx name at o there count)
+branch_as_same t tx name at (Some why) there count = refl
+branch_as_same t tx name at None (Some old) count = refl
+branch_as_same t tx name at None None count = cond_same t (nat_lt count most_branches) _ _ _ _ refl refl
+
+-- it has something to commit where the other has
+pub changed_alike : (t : Table) (tx : Tx (List Overlay)) → has_changed privately (as_private t tx) ≡ has_changed (over_table t) tx
+changed_alike t tx = ap (λ n. nat_lt 0 n || is_some tx.second) (touches_same tx.work)
+
+-- one line
+pub step_same : (t : Table) (d : Dataset) (b : ℕ) (tx : Tx (List Overlay)) (x : Stmt) → IsWide t tx → length t ≡ length d.schema → step privately d b (as_private t tx) x ≡ image t (step (over_table t) d b tx x)
+step_same t d b tx (Begin room) w e = cond_same t tx.begun _ _ _ _ refl refl
+step_same t d b tx Commit w e = cond_same t tx.begun _ _ _ _ (ap (λ q. answered (as_private t tx) (cond q (made_next d b) Done)) (changed_alike t tx)) refl
+step_same t d b tx Abort w e = cond_same t tx.begun _ _ _ _ refl refl
+step_same t d b tx (On name) w e = cond_same t tx.begun _ _ _ _ refl (on_same t tx name (branch_named d name))
+step_same t d b tx (LogOf name) w e = refl
+step_same t d b tx (Branch name origin) w e = cond_same t tx.begun _ _ _ _ refl (branch_as_same t tx name (place_in (found d origin)) (lack (found d origin)) (branch_named d name) (length d.branches))
+step_same t d b tx x w e = ap (told_of d b tx.begun) (act_same t (ground_of d b) (λ v. source_of b (found d v)) tx x w e)

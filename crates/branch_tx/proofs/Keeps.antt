@@ -1,0 +1,147 @@
+-- What stands of a transaction stands after a line, if it does after each thing that a line may do.
+use Rattle.std.proofs.Common.{◌≡◌, ℕ, ◌<◌, ◌==◌, nat_lt, Bool, true, false, cond, List, length, Option, Some, None, Result, Ok, Err, refl, ap, ◌∙◌}
+use Rattle.std.proofs.lemmas.Bool.{eqb-true}
+use Rattle.db_value.specs.Value.{Value}
+use Rattle.db_value.specs.Relations.{columns_at}
+use Rattle.db_value.specs.declared.condition.Set.{Set}
+use Rattle.db_value.specs.declared.version.VersionName.{VersionName}
+use Rattle.db_value.specs.declared.version.VersionPlace.{VersionPlace}
+use Rattle.db_value.specs.declared.reply.Refusal.{Refusal}
+use Rattle.db_store.specs.Dataset.{Dataset, branch_named}
+use Rattle.db_store.specs.Fits.{most_branches}
+use Rattle.stmt_text.specs.declared.stmt.Stmt.{Stmt}
+use Rattle.stmt_text.specs.declared.stmt.Stmt.TheVariants.{Begin, Commit, Abort, On, LogOf, Branch, Insert, Update, Delete, Get, Scan}
+use Rattle.stmt_text.specs.declared.stmt.NamedSet.{NamedSet}
+use Rattle.branch_tx.specs.Keeping.{Keeping}
+use Rattle.branch_tx.specs.Found.{Found, found, lack, Source, Own, Other, Lacking, source_of}
+use Rattle.branch_tx.specs.Act.{Tx, Outcome, Ground, relation_named, resolved, updated, insert_refusal, change_refusal, is_plain, unless_full, fields_at, has_space, has_room, changed_to, insert_of, update_in, update_of, delete_of, get_from, source_at, get_of, scan_of, act}
+use Rattle.branch_tx.specs.Alone.{ground_of, place_in, room_of, on_of, branch_as, step}
+use Rattle.branch_tx.proofs.Private.{State}
+use Rattle.branch_tx.proofs.Images.{named_within}
+use Rattle.branch_tx.proofs.WithSets.{length-with_sets}
+
+-- What may be set where a key has a state: a new record has a field for each column, and there is space for it; another one has as many fields as before.
+abbrev pub MayBe : ℕ → Bool → State → State → Type 0
+MayBe columns space None None = ⊥
+MayBe columns space None (Some fields) = (space ≡ true) × (length fields ≡ columns)
+MayBe columns space (Some old) None = Unit {0}
+MayBe columns space (Some old) (Some fields) = length fields ≡ length old
+
+-- a change that a transaction accepts
+pub record IsChange {W : Type 0} (k : Keeping W) (g : Ground) (tx : Tx W) (r key : ℕ) (st : State) : Type 0 where
+  pub within : r < length g.schema
+  pub open_branch : g.full ≡ false
+  pub room : has_room k tx r key ≡ true
+  pub state : MayBe (length (columns_at g.schema r)) (has_space k tx r) (fields_at k tx r key) st
+
+-- a branch that can be made
+pub record IsBranch (d : Dataset) (name : List ℕ) (f : Found) : Type 0 where
+  pub origin : lack f ≡ None
+  pub new : branch_named d name ≡ None
+  pub room : nat_lt (length d.branches) most_branches ≡ true
+
+module _ {W : Type 0} (k : Keeping W) (P : Tx W → Type 0) where
+  pub cond_keeps : (q : Bool) (x y : Outcome W) → P x.tx → P y.tx → P (cond q x y).tx
+  cond_keeps true x y h f = h
+  cond_keeps false x y h f = f
+
+  cond_by : (q : Bool) (x y : Outcome W) → (q ≡ true → P x.tx) → (q ≡ false → P y.tx) → P (cond q x y).tx
+  cond_by true x y h f = h refl
+  cond_by false x y h f = f refl
+
+  changed_keeps : (tx : Tx W) (r key : ℕ) (st : State) (o : Option Refusal) → P tx → (o ≡ None → P (record tx { work = k.put tx.work r key st })) → P (changed_to k tx r key st o).tx
+  changed_keeps tx r key st (Some why) h f = h
+  changed_keeps tx r key st None h f = f refl
+
+  -- what an accepted change keeps
+  abbrev Changes : Ground → Tx W → Type 0
+  Changes g tx = (r key : ℕ) (st : State) → IsChange k g tx r key st → P (record tx { work = k.put tx.work r key st })
+
+  insert_accepted : (columns room : ℕ) (name : List ℕ) (key : ℕ) (old : State) (space free : Bool) (fields : List Value) → length fields ≡ columns → insert_refusal name key room old space free ≡ None → (free ≡ true) × MayBe columns space old (Some fields)
+  insert_accepted columns room name key (Some old) space free fields n e = absurd cc
+  insert_accepted columns room name key None false free fields n e = absurd cc
+  insert_accepted columns room name key None true false fields n e = absurd cc
+  insert_accepted columns room name key None true true fields n e = (refl, (refl, n))
+
+  change_accepted : (columns room : ℕ) (name : List ℕ) (key : ℕ) (old st : State) (space free : Bool) → ((fields : List Value) → old ≡ Some fields → MayBe columns space (Some fields) st) → change_refusal name key room old free ≡ None → (free ≡ true) × MayBe columns space old st
+  change_accepted columns room name key None st space free f e = absurd cc
+  change_accepted columns room name key (Some old) st space false f e = absurd cc
+  change_accepted columns room name key (Some old) st space true f e = (refl, f old refl)
+
+  insert_keeps : (g : Ground) (tx : Tx W) (name : List ℕ) (key : ℕ) (fields : List Value) (o : Option ℕ) → relation_named g.schema name ≡ o → P tx → Changes g tx → P (insert_of k g tx name key fields o).tx
+  insert_keeps g tx name key fields None e h f = h
+  insert_keeps g tx name key fields (Some r) e h f = cond_by (length fields == length (columns_at g.schema r)) _ _ (λ n. cond_by g.full _ _ (λ q. h) (λ q. changed_keeps tx r key (Some fields) _ h (λ a.
+      let both = insert_accepted (length (columns_at g.schema r)) tx.room name key (fields_at k tx r key) (has_space k tx r) (has_room k tx r key) fields (eqb-true _ _ n) a in
+      f r key (Some fields) (record { within = named_within g.schema name r e; open_branch = q; room = both.0; state = both.1 })))) (λ n. h)
+
+  change_keeps : (g : Ground) (tx : Tx W) (r : ℕ) (name : List ℕ) (key : ℕ) (st : State) → r < length g.schema → P tx → Changes g tx
+      → ((fields : List Value) → fields_at k tx r key ≡ Some fields → MayBe (length (columns_at g.schema r)) (has_space k tx r) (Some fields) st)
+      → P (unless_full g tx (changed_to k tx r key st (change_refusal name key tx.room (fields_at k tx r key) (has_room k tx r key)))).tx
+  change_keeps g tx r name key st l h f s = cond_by g.full _ _ (λ q. h) (λ q. changed_keeps tx r key st _ h (λ a.
+      let both = change_accepted (length (columns_at g.schema r)) tx.room name key (fields_at k tx r key) st (has_space k tx r) (has_room k tx r key) s a in
+      f r key st (record { within = l; open_branch = q; room = both.0; state = both.1 })))
+
+  updated_may : (columns : ℕ) (space : Bool) (sets : List Set) (o : State) (fields : List Value) → o ≡ Some fields → MayBe columns space (Some fields) (updated sets o)
+  updated_may columns space sets None fields e = absurd cc
+  updated_may columns space sets (Some old) fields e = length-with_sets old sets ∙ same old fields e
+    where
+      same : (a b : List Value) → Some a ≡ Some b → length a ≡ length b
+      same a b e = let q : a ≡ b = cc in ap length q
+
+  update_keeps : (g : Ground) (tx : Tx W) (r : ℕ) (name : List ℕ) (key : ℕ) (sets : Result (List Set) (List ℕ)) → r < length g.schema → P tx → Changes g tx → P (update_in k g tx r name key sets).tx
+  update_keeps g tx r name key (Err column) l h f = h
+  update_keeps g tx r name key (Ok sets) l h f = change_keeps g tx r name key (updated sets (fields_at k tx r key)) l h f (updated_may (length (columns_at g.schema r)) (has_space k tx r) sets (fields_at k tx r key))
+
+  update_of_keeps : (g : Ground) (tx : Tx W) (name : List ℕ) (key : ℕ) (sets : List NamedSet) (o : Option ℕ) → relation_named g.schema name ≡ o → P tx → Changes g tx → P (update_of k g tx name key sets o).tx
+  update_of_keeps g tx name key sets None e h f = h
+  update_of_keeps g tx name key sets (Some r) e h f = update_keeps g tx r name key (resolved (columns_at g.schema r) sets) (named_within g.schema name r e) h f
+
+  delete_keeps : (g : Ground) (tx : Tx W) (name : List ℕ) (key : ℕ) (o : Option ℕ) → relation_named g.schema name ≡ o → P tx → Changes g tx → P (delete_of k g tx name key o).tx
+  delete_keeps g tx name key None e h f = h
+  delete_keeps g tx name key (Some r) e h f = change_keeps g tx r name key None (named_within g.schema name r e) h f (λ fields q. tt)
+
+  from_keeps : (tx : Tx W) (r key : ℕ) (s : Source) → P tx → P (get_from k tx r key s).tx
+  from_keeps tx r key Own h = h
+  from_keeps tx r key (Other table) h = h
+  from_keeps tx r key (Lacking why) h = h
+
+  pub get_keeps : (sources : VersionName → Source) (tx : Tx W) (name : List ℕ) (key : ℕ) (at : Option VersionName) (o : Option ℕ) → P tx → P (get_of k sources tx name key at o).tx
+  get_keeps sources tx name key at None h = h
+  get_keeps sources tx name key at (Some r) h = from_keeps tx r key (source_at k sources at) h
+
+  pub scan_keeps : (tx : Tx W) (name : List ℕ) (o : Option ℕ) → P tx → P (scan_of k tx name o).tx
+  scan_keeps tx name None h = h
+  scan_keeps tx name (Some r) h = h
+
+  pub act_keeps : (g : Ground) (sources : VersionName → Source) (tx : Tx W) (x : Stmt) → P tx → Changes g tx → P (act k g sources tx x).tx
+  act_keeps g sources tx (Insert name key fields) h f = insert_keeps g tx name key fields (relation_named g.schema name) refl h f
+  act_keeps g sources tx (Update name key sets) h f = update_of_keeps g tx name key sets (relation_named g.schema name) refl h f
+  act_keeps g sources tx (Delete name key) h f = delete_keeps g tx name key (relation_named g.schema name) refl h f
+  act_keeps g sources tx (Get name key at) h f = get_keeps sources tx name key at (relation_named g.schema name) h
+  act_keeps g sources tx (Scan name over terms) h f = cond_keeps (is_plain over terms) _ _ (scan_keeps tx name (relation_named g.schema name) h) h
+  act_keeps g sources tx _ h f = h
+
+  pub on_keeps : (tx : Tx W) (name : List ℕ) (o : Option ℕ) → P tx → ((i : ℕ) → o ≡ Some i → P (record tx { moved = Some i })) → P (on_of tx name o).tx
+  on_keeps tx name None h f = h
+  on_keeps tx name (Some i) h f = f i refl
+
+  pub branch_keeps : (tx : Tx W) (name : List ℕ) (at : VersionPlace) (o : Option Refusal) (there : Option ℕ) (count : ℕ) → P tx → (o ≡ None → there ≡ None → nat_lt count most_branches ≡ true → P (record tx { made = Some (name, at) })) → P (branch_as tx name at o there count).tx
+  branch_keeps tx name at (Some why) there count h f = h
+  branch_keeps tx name at None (Some old) count h f = h
+  branch_keeps tx name at None None count h f = cond_by (nat_lt count most_branches) _ _ (f refl refl) (λ q. h)
+
+  -- what stands of a transaction stands after a line
+  pub step_keeps : (d : Dataset) (b : ℕ) (tx : Tx W) (x : Stmt) → P tx
+      → ((room : Option ℕ) → x ≡ Begin room → P (record tx { begun = true; room = room_of room }))
+      → ((r key : ℕ) (st : State) → IsChange k (ground_of d b) tx r key st → P (record tx { work = k.put tx.work r key st }))
+      → ((name : List ℕ) (origin : VersionName) → IsBranch d name (found d origin) → P (record tx { made = Some (name, place_in (found d origin)) }))
+      → ((name : List ℕ) (i : ℕ) → branch_named d name ≡ Some i → P (record tx { moved = Some i }))
+      → P (step k d b tx x).tx
+  step_keeps d b tx (Begin room) h begin change new move = cond_keeps tx.begun _ _ h (begin room refl)
+  step_keeps d b tx Commit h begin change new move = cond_keeps tx.begun _ _ h h
+  step_keeps d b tx Abort h begin change new move = cond_keeps tx.begun _ _ h h
+  step_keeps d b tx (On name) h begin change new move = cond_keeps tx.begun _ _ h (on_keeps tx name (branch_named d name) h (move name))
+  step_keeps d b tx (LogOf name) h begin change new move = h
+  step_keeps d b tx (Branch name origin) h begin change new move = cond_keeps tx.begun _ _ h
+      (branch_keeps tx name (place_in (found d origin)) (lack (found d origin)) (branch_named d name) (length d.branches) h (λ a c e. new name origin (record { origin = a; new = c; room = e })))
+  step_keeps d b tx x h begin change new move = act_keeps (ground_of d b) (λ v. source_of b (found d v)) tx x h change

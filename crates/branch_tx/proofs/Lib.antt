@@ -1,0 +1,17 @@
+pub mod SetLemmas
+pub mod Private
+pub mod Images
+pub mod WithSets
+pub mod Keeps
+pub mod Alike
+pub mod Tables
+pub mod Fitting
+pub mod Ends
+pub mod LogLemmas
+pub mod Acts
+pub mod Entries
+pub mod Early
+pub mod LogsStay
+pub mod ReadsStay
+pub mod LineKeeps
+pub mod FrameLemmas

@@ -1,0 +1,99 @@
+-- What stands of a transaction stands after a line, by what the line needs. So a transaction that changes something has needed its branch exclusively, and one that makes a branch the catalogue.
+use Rattle.std.proofs.Common.{◌≡◌, ◌⊎◌, inl, inr, ⊎_elim, ℕ, suc, nat_lt, ◌||◌, is_some, Bool, true, false, cond, List, [], ◌∷◌, length, refl, ap, sym, ◌∙◌, subst, Option, Some, None}
+use Rattle.std.proofs.lemmas.Bool.{false≢true}
+use Rattle.db_value.specs.declared.version.VersionName.{VersionName}
+use Rattle.db_value.specs.declared.version.VersionPlace.{VersionPlace}
+use Rattle.db_store.specs.Overlay.{Overlay, count_touched}
+use Rattle.db_store.specs.Dataset.{Dataset, branch_named, head_of}
+use Rattle.db_store.proofs.OverlayLemmas.{count_untouched}
+use Rattle.lock_table.specs.declared.need.Need.{Need}
+use Rattle.lock_table.specs.Grants.{Has}
+use Rattle.stmt_text.specs.declared.stmt.Stmt.{Stmt}
+use Rattle.stmt_text.specs.declared.stmt.Stmt.TheVariants.{Begin, Commit, Abort, On, LogOf, Branch, Insert, Update, Delete, Get, Scan}
+use Rattle.branch_tx.specs.Keeping.{Keeping, over_table}
+use Rattle.branch_tx.specs.Found.{Source, found, lack, source_of}
+use Rattle.branch_tx.specs.Act.{Tx, Outcome, relation_named, is_plain}
+use Rattle.branch_tx.specs.Alone.{ground_of, room_of, place_in}
+use Rattle.branch_tx.specs.Needs.{catalogue, lock_of, exclusive, is_early, stmt_needs, needs}
+use Rattle.branch_tx.specs.Frame.{whole, step_over, Within, AllWithin}
+use Rattle.branch_tx.proofs.Keeps.{IsBranch, cond_keeps, act_keeps, get_keeps, scan_keeps, on_keeps, branch_keeps}
+use Rattle.branch_tx.proofs.Early.{early_refused}
+
+-- ---- one line
+
+module _ (P : Tx (List Overlay) → Type 0) (d : Dataset) (b : ℕ) (tx : Tx (List Overlay)) (h : P tx) (opens : (room : ℕ) → P (record tx { begun = true; room = room }))
+    (moves : (name : List ℕ) (i : ℕ) → branch_named d name ≡ Some i → P (record tx { moved = Some i })) where
+  abbrev Changes : List Need → Type 0
+  Changes ns = Has ns (exclusive (lock_of b)) → (work : List Overlay) → P (record tx { work = work })
+
+  abbrev Makes : List Need → Type 0
+  Makes ns = Has ns (exclusive catalogue) → (name : List ℕ) (v : VersionName) → IsBranch d name (found d v) → P (record tx { made = Some (name, place_in (found d v)) })
+
+  abbrev k : Keeping (List Overlay)
+  k = over_table (head_of d b)
+
+  abbrev sources : VersionName → Source
+  sources v = source_of b (found d v)
+
+  late_keeps : (x : Stmt) → Changes (stmt_needs d b x) → Makes (stmt_needs d b x) → P (step_over d b tx x).tx
+  late_keeps (Begin room) change make = cond_keeps k P tx.begun _ _ h (opens (room_of room))
+  late_keeps Commit change make = cond_keeps k P tx.begun _ _ h h
+  late_keeps Abort change make = cond_keeps k P tx.begun _ _ h h
+  late_keeps (On name) change make = cond_keeps k P tx.begun _ _ h (on_keeps k P tx name (branch_named d name) h (moves name))
+  late_keeps (LogOf name) change make = h
+  late_keeps (Branch name origin) change make = cond_keeps k P tx.begun _ _ h
+      (branch_keeps k P tx name (place_in (found d origin)) (lack (found d origin)) (branch_named d name) (length d.branches) h
+      (λ a c l. make (inl refl) name origin (record { origin = a; new = c; room = l })))
+  late_keeps (Insert name key fields) change make = act_keeps k P (ground_of d b) sources tx (Insert name key fields) h (λ r key st is. change (inl refl) (k.put tx.work r key st))
+  late_keeps (Update name key sets) change make = act_keeps k P (ground_of d b) sources tx (Update name key sets) h (λ r key st is. change (inl refl) (k.put tx.work r key st))
+  late_keeps (Delete name key) change make = act_keeps k P (ground_of d b) sources tx (Delete name key) h (λ r key st is. change (inl refl) (k.put tx.work r key st))
+  late_keeps (Get name key at) change make = get_keeps k P sources tx name key at (relation_named d.schema name) h
+  late_keeps (Scan name over terms) change make = cond_keeps k P (is_plain over terms) _ _ (scan_keeps k P tx name (relation_named d.schema name) h) h
+  late_keeps _ change make = h
+
+  line_at : (x : Stmt) (q : Bool) → is_early d.schema tx.begun x ≡ q → Changes (cond q [] (stmt_needs d b x)) → Makes (cond q [] (stmt_needs d b x)) → P (step_over d b tx x).tx
+  line_at x true e change make = subst (λ (o : Outcome (List Overlay)). P o.tx) (sym (early_refused k d b tx x e)) h
+  line_at x false e change make = late_keeps x change make
+
+  -- what stands of a transaction stands after a line
+  pub line_keeps : (x : Stmt) → Changes (needs d b tx.begun x) → Makes (needs d b tx.begun x) → P (step_over d b tx x).tx
+  line_keeps x change make = line_at x (is_early d.schema tx.begun x) refl change make
+
+-- ---- many lines
+
+-- one of the lines has this need
+abbrev pub AnyHas : List (List Need) → Need → Type 0
+AnyHas [] n = ⊥
+AnyHas (ns ∷ more) n = Has ns n ⊎ AnyHas more n
+
+-- whether something was changed, which depends on no table
+abbrev pub is_changed : Tx (List Overlay) → Bool
+is_changed tx = nat_lt 0 (count_touched tx.work) || is_some tx.second
+
+-- a transaction that changed something has needed its branch exclusively
+pub changed_needed : (d : Dataset) (b : ℕ) (xs : List Stmt) → is_changed (whole d b xs).tx ≡ true → AnyHas (whole d b xs).needs (exclusive (lock_of b))
+changed_needed d b [] e = false≢true (sym (ap (λ n. nat_lt 0 n || false) count_untouched) ∙ e)
+changed_needed d b (x ∷ xs) e =
+    let tx : Tx (List Overlay) = (whole d b xs).tx in
+    let old : is_changed tx ≡ true → AnyHas (whole d b (x ∷ xs)).needs (exclusive (lock_of b)) = λ g. inr (changed_needed d b xs g) in
+    line_keeps (λ (t : Tx (List Overlay)). is_changed t ≡ true → AnyHas (whole d b (x ∷ xs)).needs (exclusive (lock_of b))) d b tx old (λ room. old) (λ name i is. old) x
+    (λ has work g. inl has) (λ has name v is. old) e
+
+-- one that makes a branch has needed the catalogue exclusively
+pub made_needed : (d : Dataset) (b : ℕ) (xs : List Stmt) → is_some (whole d b xs).tx.made ≡ true → AnyHas (whole d b xs).needs (exclusive catalogue)
+made_needed d b [] e = false≢true e
+made_needed d b (x ∷ xs) e =
+    let tx : Tx (List Overlay) = (whole d b xs).tx in
+    let old : is_some tx.made ≡ true → AnyHas (whole d b (x ∷ xs)).needs (exclusive catalogue) = λ g. inr (made_needed d b xs g) in
+    line_keeps (λ (t : Tx (List Overlay)). is_some t.made ≡ true → AnyHas (whole d b (x ∷ xs)).needs (exclusive catalogue)) d b tx old (λ room. old) (λ name i is. old) x
+    (λ has work. old) (λ has name v is g. inl has) e
+
+-- ---- needs within locks
+
+within_has : (N : ℕ → Type 0) (ns : List Need) (n : Need) → Within N ns → Has ns n → N n.lock
+within_has N [] n w h = absurd h
+within_has N (m ∷ ms) n w h = ⊎_elim (λ (e : m ≡ n). subst (λ (k : Need). N k.lock) e w.0) (λ (g : Has ms n). within_has N ms n w.1 g) h
+
+pub within_any : (N : ℕ → Type 0) (ns : List (List Need)) (n : Need) → AllWithin N ns → AnyHas ns n → N n.lock
+within_any N [] n w h = absurd h
+within_any N (m ∷ ms) n w h = ⊎_elim (λ (g : Has m n). within_has N m n w.0 g) (λ (g : AnyHas ms n). within_any N ms n w.1 g) h

@@ -1,0 +1,183 @@
+-- What a statement that reads or changes records does in a transaction.
+use Rattle.std.specs.Prelude.{ℕ, ◌==◌, ◌||◌, nat_lt, cond, Bool, true, false, List, [], ◌∷◌, length, map, position, Option, Some, None, Result, Ok, Err}
+use Rattle.std.specs.FinMap as finite
+use Rattle.db_value.specs.Value.{Value}
+use Rattle.db_value.specs.Text.{same}
+use Rattle.db_value.specs.Relations.{columns_at}
+use Rattle.db_value.specs.declared.schema.Relation.{Relation}
+use Rattle.db_value.specs.declared.record.Record.{Record}
+use Rattle.db_value.specs.declared.condition.Set.{Set}
+use Rattle.db_value.specs.declared.condition.Term.{Term}
+use Rattle.db_value.specs.declared.version.VersionName.{VersionName}
+use Rattle.db_value.specs.declared.version.VersionPlace.{VersionPlace}
+use Rattle.db_value.specs.declared.reply.Reply.{Reply}
+use Rattle.db_value.specs.declared.reply.Reply.TheVariants.{Done, One, Listed, Refused}
+use Rattle.db_value.specs.declared.reply.Refusal.{Refusal}
+use Rattle.db_value.specs.declared.reply.Refusal.TheVariants.{Line, NoRelation, NoColumn, KeyThere, KeyMissing, Room, VersionsFull, TableFull, ValueCount}
+use Rattle.db_store.specs.Table.{relation_at, rows_of}
+use Rattle.db_store.specs.Fits.{most_keys}
+use Rattle.db_store.specs.Work.{with_sets}
+pub use Rattle.multi_scan.specs.Multi.{marked}
+use Rattle.stmt_text.specs.declared.stmt.Stmt.{Stmt}
+use Rattle.stmt_text.specs.declared.stmt.Stmt.TheVariants.{Insert, Update, Delete, Get, Scan}
+use Rattle.stmt_text.specs.declared.stmt.NamedSet.{NamedSet}
+use Rattle.stmt_text.specs.declared.stmt.ScanOver.{ScanOver}
+use Rattle.stmt_text.specs.declared.stmt.ScanOver.TheVariants.{Current}
+use Rattle.branch_tx.specs.Keeping.{Keeping}
+use Rattle.branch_tx.specs.Found.{Source, Own, Other, Lacking}
+
+-- a transaction: whether `begin` opened it, its room for touched keys, and how it keeps its working table; the second parent that a merge gives, a branch that it makes, and the branch to which it moves its session
+pub record Tx (W : Type 0) : Type 0 where
+  pub begun : Bool
+  pub room : ℕ
+  pub work : W
+  pub second : Option VersionPlace
+  pub made : Option (List ℕ × VersionPlace)
+  pub moved : Option ℕ
+
+-- a transaction after a line, and the line's reply
+pub record Outcome (W : Type 0) : Type 0 where
+  pub tx : Tx W
+  pub reply : Reply
+
+-- what a transaction knows of the branch that it works on: the schema, the branch's name, and whether it has as many versions as it can have
+pub record Ground : Type 0 where
+  pub schema : List Relation
+  pub name : List ℕ
+  pub full : Bool
+
+-- the number of the relation with a name
+abbrev pub relation_named : List Relation → List ℕ → Option ℕ
+relation_named schema name = position (λ r. same r.name name) schema
+
+-- the number of the column with a name
+abbrev pub column_named : List (List ℕ) → List ℕ → Option ℕ
+column_named columns name = position (λ c. same c name) columns
+
+-- a new value of a column
+abbrev pub set_at : ℕ → NamedSet → Set
+set_at column s = record { column = column; value = s.value }
+
+-- a new value of the column with a name, in front of others
+abbrev pub set_onto : NamedSet → Option ℕ → Result (List Set) (List ℕ) → Result (List Set) (List ℕ)
+set_onto s None rest = Err s.column
+set_onto s (Some c) (Err name) = Err name
+set_onto s (Some c) (Ok sets) = Ok (set_at c s ∷ sets)
+
+-- new values by the numbers of their columns, or the first name that no column has
+abbrev pub resolved : List (List ℕ) → List NamedSet → Result (List Set) (List ℕ)
+resolved columns [] = Ok []
+resolved columns (s ∷ ss) = set_onto s (column_named columns s.column) (resolved columns ss)
+
+-- why a record isn't inserted: the branch is full, the key is there, the relation is full, or the room is used up
+abbrev pub insert_refusal : List ℕ → ℕ → ℕ → Option (List Value) → Bool → Bool → Option Refusal
+insert_refusal name key room (Some old) space free = Some (KeyThere name key)
+insert_refusal name key room None false free = Some (TableFull name)
+insert_refusal name key room None true false = Some (Room room)
+insert_refusal name key room None true true = None
+
+-- why a record isn't updated or deleted: the branch is full, the key isn't there, or the room is used up
+abbrev pub change_refusal : List ℕ → ℕ → ℕ → Option (List Value) → Bool → Option Refusal
+change_refusal name key room None free = Some (KeyMissing name key)
+change_refusal name key room (Some old) false = Some (Room room)
+change_refusal name key room (Some old) true = None
+
+-- fields with new values
+abbrev pub updated : List Set → Option (List Value) → Option (List Value)
+updated sets None = None
+updated sets (Some old) = Some (with_sets old sets)
+
+abbrev pub record_with : ℕ → Option (List Value) → Option Record
+record_with key None = None
+record_with key (Some fields) = Some (record { key = key; fields = fields })
+
+-- a scan of the current branch without a condition
+abbrev pub is_plain : ScanOver → List Term → Bool
+is_plain Current [] = true
+is_plain Current (t ∷ ts) = false
+is_plain _ terms = false
+
+-- a refused statement leaves the transaction
+abbrev pub refused : {W : Type 0} → Tx W → Refusal → Outcome W
+refused tx why = record { tx = tx; reply = Refused why }
+
+abbrev pub answered : {W : Type 0} → Tx W → Reply → Outcome W
+answered tx reply = record { tx = tx; reply = reply }
+
+-- a branch with as many versions as it can have takes no change
+abbrev pub unless_full : {W : Type 0} → Ground → Tx W → Outcome W → Outcome W
+unless_full g tx o = cond g.full (refused tx (VersionsFull g.name)) o
+
+module _ {W : Type 0} (k : Keeping W) where
+  -- what the working table has at a key
+  abbrev pub fields_at : Tx W → ℕ → ℕ → Option (List Value)
+  fields_at tx r key = finite.get (k.contents tx.work r) key
+
+  -- there is space for one key more
+  abbrev pub has_space : Tx W → ℕ → Bool
+  has_space tx r = nat_lt (finite.len (k.contents tx.work r)) most_keys
+
+  -- a key that is touched already needs no room
+  abbrev pub has_room : Tx W → ℕ → ℕ → Bool
+  has_room tx r key = k.is_touched tx.work r key || nat_lt (k.touches tx.work) tx.room
+
+  -- an accepted change sets one key and touches it
+  abbrev pub changed_to : Tx W → ℕ → ℕ → Option (List Value) → Option Refusal → Outcome W
+  changed_to tx r key state (Some why) = refused tx why
+  changed_to tx r key state None = answered (record tx { work = k.put tx.work r key state }) Done
+
+  -- a change on a branch that isn't full
+  abbrev pub insert_free : Tx W → ℕ → List ℕ → ℕ → List Value → Outcome W
+  insert_free tx r name key fields = changed_to tx r key (Some fields) (insert_refusal name key tx.room (fields_at tx r key) (has_space tx r) (has_room tx r key))
+
+  abbrev pub update_free : Tx W → ℕ → List ℕ → ℕ → List Set → Outcome W
+  update_free tx r name key sets = changed_to tx r key (updated sets (fields_at tx r key)) (change_refusal name key tx.room (fields_at tx r key) (has_room tx r key))
+
+  abbrev pub delete_free : Tx W → ℕ → List ℕ → ℕ → Outcome W
+  delete_free tx r name key = changed_to tx r key None (change_refusal name key tx.room (fields_at tx r key) (has_room tx r key))
+
+  abbrev pub insert_in : Ground → Tx W → ℕ → List ℕ → ℕ → List Value → Outcome W
+  insert_in g tx r name key fields = unless_full g tx (insert_free tx r name key fields)
+
+  abbrev pub insert_of : Ground → Tx W → List ℕ → ℕ → List Value → Option ℕ → Outcome W
+  insert_of g tx name key fields None = refused tx (NoRelation name)
+  insert_of g tx name key fields (Some r) = cond (length fields == length (columns_at g.schema r)) (insert_in g tx r name key fields) (refused tx (ValueCount name (length (columns_at g.schema r))))
+
+  abbrev pub update_in : Ground → Tx W → ℕ → List ℕ → ℕ → Result (List Set) (List ℕ) → Outcome W
+  update_in g tx r name key (Err column) = refused tx (NoColumn column)
+  update_in g tx r name key (Ok sets) = unless_full g tx (update_free tx r name key sets)
+
+  abbrev pub update_of : Ground → Tx W → List ℕ → ℕ → List NamedSet → Option ℕ → Outcome W
+  update_of g tx name key sets None = refused tx (NoRelation name)
+  update_of g tx name key sets (Some r) = update_in g tx r name key (resolved (columns_at g.schema r) sets)
+
+  abbrev pub delete_of : Ground → Tx W → List ℕ → ℕ → Option ℕ → Outcome W
+  delete_of g tx name key None = refused tx (NoRelation name)
+  delete_of g tx name key (Some r) = unless_full g tx (delete_free tx r name key)
+
+  abbrev pub get_from : Tx W → ℕ → ℕ → Source → Outcome W
+  get_from tx r key Own = answered tx (One (record_with key (fields_at tx r key)))
+  get_from tx r key (Other table) = answered tx (One (record_with key (finite.get (relation_at table r) key)))
+  get_from tx r key (Lacking why) = refused tx why
+
+  -- where a look-up reads: the working table, where no version is named
+  abbrev pub source_at : (VersionName → Source) → Option VersionName → Source
+  source_at sources None = Own
+  source_at sources (Some v) = sources v
+
+  abbrev pub get_of : (VersionName → Source) → Tx W → List ℕ → ℕ → Option VersionName → Option ℕ → Outcome W
+  get_of sources tx name key at None = refused tx (NoRelation name)
+  get_of sources tx name key at (Some r) = get_from tx r key (source_at sources at)
+
+  abbrev pub scan_of : Tx W → List ℕ → Option ℕ → Outcome W
+  scan_of tx name None = refused tx (NoRelation name)
+  scan_of tx name (Some r) = answered tx (Listed [] (map marked (rows_of (k.contents tx.work r))))
+
+  -- A statement that reads or changes records. A form that isn't built yet is a bad line.
+  abbrev pub act : Ground → (VersionName → Source) → Tx W → Stmt → Outcome W
+  act g sources tx (Insert name key fields) = insert_of g tx name key fields (relation_named g.schema name)
+  act g sources tx (Update name key sets) = update_of g tx name key sets (relation_named g.schema name)
+  act g sources tx (Delete name key) = delete_of g tx name key (relation_named g.schema name)
+  act g sources tx (Get name key at) = get_of sources tx name key at (relation_named g.schema name)
+  act g sources tx (Scan name over terms) = cond (is_plain over terms) (scan_of tx name (relation_named g.schema name)) (refused tx Line)
+  act g sources tx _ = refused tx Line

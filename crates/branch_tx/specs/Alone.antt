@@ -1,0 +1,144 @@
+-- One transaction run alone on a dataset, on a branch b. Lists of lines are newest first.
+use Rattle.std.specs.Prelude.{ℕ, zero, suc, ◌==◌, ◌||◌, nat_lt, nat_le, is_some, cond, Bool, true, false, List, [], ◌∷◌, length, Option, Some, None}
+use Rattle.db_value.specs.declared.version.VersionName.{VersionName}
+use Rattle.db_value.specs.declared.version.VersionPlace.{VersionPlace}
+use Rattle.db_value.specs.declared.entry.Entry.{Entry}
+use Rattle.db_value.specs.declared.entry.Entry.TheVariants.{Commit as CommitEntry, Branch as BranchEntry}
+use Rattle.db_value.specs.declared.report.LogLine.{LogLine}
+use Rattle.db_value.specs.declared.report.LogLine.TheVariants.{Root, Same as SameAs, Made as MadeAt}
+use Rattle.db_value.specs.declared.reply.Reply.{Reply}
+use Rattle.db_value.specs.declared.reply.Reply.TheVariants.{Done, Made, Versions, Refused}
+use Rattle.db_value.specs.declared.reply.Refusal.{Refusal}
+use Rattle.db_value.specs.declared.reply.Refusal.TheVariants.{NoBranch as RefusedBranch, InTransaction, NoTransaction, BranchThere, BranchesFull}
+use Rattle.db_store.specs.Overlay.{Overlay, untouched}
+use Rattle.db_store.specs.Dataset.{Dataset, branch_at, branch_named, head_of, last_of, first_parent, second_parent}
+use Rattle.db_store.specs.Fits.{most_branches, most_versions}
+use Rattle.stmt_text.specs.declared.stmt.Stmt.{Stmt}
+use Rattle.stmt_text.specs.declared.stmt.Stmt.TheVariants.{Begin, Commit, Abort, On, LogOf, Branch}
+use Rattle.branch_tx.specs.Keeping.{Keeping, Private, private_copy, privately, over_table}
+use Rattle.branch_tx.specs.Found.{Found, Fixed, Head, NoBranch, NoPosition, found, lack, source_of}
+use Rattle.branch_tx.specs.Act.{Tx, Outcome, Ground, refused, answered, act}
+
+-- the room of a transaction for which none is told
+abbrev pub usual_room : ℕ
+usual_room = 1024
+
+abbrev pub room_of : Option ℕ → ℕ
+room_of None = usual_room
+room_of (Some n) = n
+
+-- a transaction that has done nothing
+abbrev pub fresh : {W : Type 0} → W → Tx W
+fresh work = record { begun = false; room = usual_room; work = work; second = None; made = None; moved = None }
+
+-- the branch's name and fullness, and the schema
+abbrev pub ground_of : Dataset → ℕ → Ground
+ground_of d b = record { schema = d.schema; name = (branch_at d b).name; full = nat_le most_versions (length (branch_at d b).versions) }
+
+-- the version that a branch gets next
+abbrev pub made_next : Dataset → ℕ → Reply
+made_next d b = Made (branch_at d b).name (length (branch_at d b).versions)
+
+-- a change that is a transaction of its own tells the version that it made
+abbrev pub told : Dataset → ℕ → Bool → Reply → Reply
+told d b true reply = reply
+told d b false Done = made_next d b
+told d b false reply = reply
+
+abbrev pub told_of : {W : Type 0} → Dataset → ℕ → Bool → Outcome W → Outcome W
+told_of d b begun o = record { tx = o.tx; reply = told d b begun o.reply }
+
+-- the name of a version by its place
+abbrev pub name_of : Dataset → VersionPlace → VersionName
+name_of d at = record { branch = (branch_at d at.branch).name; position = Some at.position }
+
+abbrev pub name_if : Dataset → Option VersionPlace → Option VersionName
+name_if d None = None
+name_if d (Some at) = Some (name_of d at)
+
+-- a version that a commit made, where its first parent is told
+abbrev pub made_line : Dataset → VersionPlace → Option VersionPlace → LogLine
+made_line d at None = Root
+made_line d at (Some parent) = MadeAt (name_of d at) (name_of d parent) (name_if d (second_parent d at))
+
+-- the version at a position of a branch, as a log tells it
+abbrev pub log_line : Dataset → ℕ → ℕ → LogLine
+log_line d b zero = cond (b == 0) Root (SameAs (branch_at d b).name (name_of d (branch_at d b).base))
+log_line d b (suc n) = made_line d (record { branch = b; position = suc n }) (first_parent d (record { branch = b; position = suc n }))
+
+-- the versions of a branch from a position down to 0
+abbrev pub log_down : Dataset → ℕ → ℕ → List LogLine
+log_down d b zero = log_line d b zero ∷ []
+log_down d b (suc n) = log_line d b (suc n) ∷ log_down d b n
+
+abbrev pub log_of : Dataset → List ℕ → Option ℕ → Reply
+log_of d name None = Refused (RefusedBranch name)
+log_of d name (Some b) = Versions (log_down d b (last_of d b)) false
+
+abbrev pub place_in : Found → VersionPlace
+place_in (NoBranch name) = record { branch = 0; position = 0 }
+place_in (NoPosition b name n) = record { branch = b; position = 0 }
+place_in (Head at table) = at
+place_in (Fixed at table) = at
+
+abbrev pub on_of : {W : Type 0} → Tx W → List ℕ → Option ℕ → Outcome W
+on_of tx name None = refused tx (RefusedBranch name)
+on_of tx name (Some b) = answered (record tx { moved = Some b }) Done
+
+-- a new branch of a version: the version's name is looked at first, then the branch's, then the number of branches
+abbrev pub branch_as : {W : Type 0} → Tx W → List ℕ → VersionPlace → Option Refusal → Option ℕ → ℕ → Outcome W
+branch_as tx name at (Some why) there count = refused tx why
+branch_as tx name at None (Some old) count = refused tx (BranchThere name)
+branch_as tx name at None None count = cond (nat_lt count most_branches) (answered (record tx { made = Some (name, at) }) (Made name 0)) (refused tx BranchesFull)
+
+abbrev pub branch_of : {W : Type 0} → Dataset → Tx W → List ℕ → Found → Outcome W
+branch_of d tx name f = branch_as tx name (place_in f) (lack f) (branch_named d name) (length d.branches)
+
+module _ {W : Type 0} (k : Keeping W) where
+  -- a transaction has something to commit where it touched a key or merged
+  abbrev pub has_changed : Tx W → Bool
+  has_changed tx = nat_lt 0 (k.touches tx.work) || is_some tx.second
+
+  abbrev pub commit_reply : Dataset → ℕ → Tx W → Reply
+  commit_reply d b tx = cond (has_changed tx) (made_next d b) Done
+
+  -- one line, after lines that left tx
+  abbrev pub step : Dataset → ℕ → Tx W → Stmt → Outcome W
+  step d b tx (Begin room) = cond tx.begun (refused tx InTransaction) (answered (record tx { begun = true; room = room_of room }) Done)
+  step d b tx Commit = cond tx.begun (answered tx (commit_reply d b tx)) (refused tx NoTransaction)
+  step d b tx Abort = cond tx.begun (answered tx Done) (refused tx NoTransaction)
+  step d b tx (On name) = cond tx.begun (refused tx InTransaction) (on_of tx name (branch_named d name))
+  step d b tx (LogOf name) = answered tx (log_of d name (branch_named d name))
+  step d b tx (Branch name origin) = cond tx.begun (refused tx InTransaction) (branch_of d tx name (found d origin))
+  step d b tx x = told_of d b tx.begun (act k (ground_of d b) (λ v. source_of b (found d v)) tx x)
+
+  abbrev pub after_lines : W → Dataset → ℕ → List Stmt → Tx W
+  after_lines start d b [] = fresh start
+  after_lines start d b (x ∷ xs) = (step d b (after_lines start d b xs) x).tx
+
+  -- the reply to a line after others of its transaction
+  abbrev pub reply_after : W → Dataset → ℕ → List Stmt → Stmt → Reply
+  reply_after start d b xs x = (step d b (after_lines start d b xs) x).reply
+
+  abbrev pub commit_entry : ℕ → Tx W → Option Entry
+  commit_entry b tx = cond (has_changed tx) (Some (CommitEntry b tx.second (k.changes tx.work))) None
+
+  abbrev pub entry_made : ℕ → Tx W → Option (List ℕ × VersionPlace) → Option Entry
+  entry_made b tx None = commit_entry b tx
+  entry_made b tx (Some new) = Some (BranchEntry new.0 new.1)
+
+  -- the entry of a transaction that ends
+  abbrev pub entry_of : ℕ → Tx W → Option Entry
+  entry_of b tx = entry_made b tx tx.made
+
+-- a transaction's lines on a whole private table, which is a copy of the branch's head
+abbrev pub alone : Dataset → ℕ → List Stmt → Tx Private
+alone d b xs = after_lines privately (private_copy (head_of d b)) d b xs
+
+-- the reply to a line after others of its transaction
+abbrev pub reply_alone : Dataset → ℕ → List Stmt → Stmt → Reply
+reply_alone d b xs x = reply_after privately (private_copy (head_of d b)) d b xs x
+
+-- the same with changes over the head
+abbrev pub overlaid : Dataset → ℕ → List Stmt → Tx (List Overlay)
+overlaid d b xs = after_lines (over_table (head_of d b)) untouched d b xs

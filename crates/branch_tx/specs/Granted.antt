@@ -1,0 +1,113 @@
+-- A granted transaction by itself: what it holds of its branch, what it has changed, and which versions were lent to it.
+use Rattle.std.specs.Prelude.{ℕ, ◌==◌, ◌&&◌, not, is_some, cond, Bool, true, false, List, [], ◌∷◌, Option, Some, None, refl}
+use Rattle.std.specs.FinMap as finite
+use Rattle.std.specs.Coded.{Coded, code_by, coded×, coded_ℕ, coded_bool, coded_list, coded_option}
+use Rattle.db_value.specs.Text.{same}
+use Rattle.db_value.specs.declared.schema.Relation.{Relation}
+use Rattle.db_value.specs.declared.record.Record.{Record}
+use Rattle.db_value.specs.declared.condition.Set.{Set}
+use Rattle.db_value.specs.declared.version.VersionName.{VersionName}
+use Rattle.db_value.specs.declared.reply.Refusal.TheVariants.{Line}
+use Rattle.db_store.specs.Table.{Table, table_code, relation_at}
+use Rattle.db_store.specs.Overlay.{Overlay, overlay_code}
+use Rattle.stmt_text.specs.declared.stmt.Stmt.{Stmt}
+use Rattle.branch_tx.specs.Keeping.{over_table}
+use Rattle.branch_tx.specs.Found.{Source, Own, Other, Lacking}
+use Rattle.branch_tx.specs.Act.{Tx, Outcome, Ground, act, insert_free, update_free, delete_free, record_with}
+
+pub record Granted : Type 0 where
+  pub schema : List Relation
+  -- the branch that it works on
+  pub name : List ℕ
+  -- once the branch is granted: whether exclusively, and whether it has as many versions as it can have
+  pub held : Option (Bool × Bool)
+  -- the branch's table, what was changed over it, and room for touched keys
+  pub head : Table
+  pub overlays : List Overlay
+  pub room : ℕ
+  -- the versions that were lent, with their tables
+  pub lent : List (VersionName × Table)
+
+abbrev pub relation_code : Coded Relation
+relation_code = code_by (List ℕ × List (List ℕ)) (coded× (coded_list coded_ℕ) (coded_list (coded_list coded_ℕ))) (λ r. (r.name, r.columns)) (λ p. record { name = p.0; columns = p.1 }) (λ _. refl)
+
+abbrev pub version_code : Coded VersionName
+version_code = code_by (List ℕ × Option ℕ) (coded× (coded_list coded_ℕ) (coded_option coded_ℕ)) (λ v. (v.branch, v.position)) (λ p. record { branch = p.0; position = p.1 }) (λ _. refl)
+
+-- a granted transaction can be told apart from others
+abbrev pub granted_code : Coded Granted
+granted_code = code_by
+    (List Relation × (List ℕ × (Option (Bool × Bool) × (Table × (List Overlay × (ℕ × List (VersionName × Table)))))))
+    (coded× (coded_list relation_code) (coded× (coded_list coded_ℕ) (coded× (coded_option (coded× coded_bool coded_bool)) (coded× table_code (coded× (coded_list overlay_code) (coded× coded_ℕ (coded_list (coded× version_code table_code))))))))
+    (λ g. (g.schema, (g.name, (g.held, (g.head, (g.overlays, (g.room, g.lent)))))))
+    (λ p. record { schema = p.0; name = p.1.0; held = p.1.1.0; head = p.1.1.1.0; overlays = p.1.1.1.1.0; room = p.1.1.1.1.1.0; lent = p.1.1.1.1.1.1 })
+    (λ _. refl)
+
+-- a transaction to which nothing is granted yet
+abbrev pub ungranted : List Relation → List ℕ → Table → List Overlay → ℕ → Granted
+ungranted schema name head overlays room = record { schema = schema; name = name; held = None; head = head; overlays = overlays; room = room; lent = [] }
+
+abbrev pub held_full : Option (Bool × Bool) → Bool
+held_full None = false
+held_full (Some h) = h.1
+
+abbrev pub same_position : Option ℕ → Option ℕ → Bool
+same_position None None = true
+same_position None (Some m) = false
+same_position (Some n) None = false
+same_position (Some n) (Some m) = n == m
+
+-- two spellings are one
+abbrev pub same_version : VersionName → VersionName → Bool
+same_version a b = same a.branch b.branch && same_position a.position b.position
+
+-- the table of the version that was lent under a name
+abbrev pub lent_table : List (VersionName × Table) → VersionName → Option Table
+lent_table [] v = None
+lent_table (l ∷ ls) v = cond (same_version l.0 v) (Some l.1) (lent_table ls v)
+
+-- the plain name of the branch that it works on
+abbrev pub is_current : Granted → VersionName → Bool
+is_current g v = same v.branch g.name && not (is_some v.position)
+
+-- a version that wasn't lent is lacking
+abbrev pub lent_source : Option Table → Source
+lent_source None = Lacking Line
+lent_source (Some t) = Other t
+
+abbrev pub source_in : Granted → VersionName → Source
+source_in g v = cond (is_current g v) Own (lent_source (lent_table g.lent v))
+
+abbrev pub ground_in : Granted → Ground
+ground_in g = record { schema = g.schema; name = g.name; full = held_full g.held }
+
+abbrev pub tx_in : Granted → Tx (List Overlay)
+tx_in g = record { begun = true; room = g.room; work = g.overlays; second = None; made = None; moved = None }
+
+-- what a statement does in it
+abbrev pub acted : Granted → Stmt → Outcome (List Overlay)
+acted g x = act (over_table g.head) (ground_in g) (source_in g) (tx_in g) x
+
+-- it after what was done in it
+abbrev pub with_work : Granted → Outcome (List Overlay) → Granted
+with_work g o = record g { overlays = o.tx.work }
+
+-- it after a statement
+abbrev pub left : Granted → Stmt → Granted
+left g x = with_work g (acted g x)
+
+-- what an insertion does where the branch isn't full
+abbrev pub placed : Granted → ℕ → List ℕ → Record → Outcome (List Overlay)
+placed g r name row = insert_free (over_table g.head) (tx_in g) r name row.key row.fields
+
+-- an update and a deletion likewise
+abbrev pub renewed : Granted → ℕ → List ℕ → ℕ → List Set → Outcome (List Overlay)
+renewed g r name key sets = update_free (over_table g.head) (tx_in g) r name key sets
+
+abbrev pub removed : Granted → ℕ → List ℕ → ℕ → Outcome (List Overlay)
+removed g r name key = delete_free (over_table g.head) (tx_in g) r name key
+
+-- the record with a key in a table, if there is one
+abbrev pub record_in : ℕ → ℕ → Option Table → Option (Option Record)
+record_in r key None = None
+record_in r key (Some t) = Some (record_with key (finite.get (relation_at t r) key))

@@ -1,0 +1,10 @@
+pub mod Keeping
+pub mod Found
+pub mod Act
+pub mod Alone
+pub mod Granted
+pub mod Stops
+pub mod TxState
+pub mod Needs
+pub mod Frame
+pub mod Laws

@@ -1,0 +1,447 @@
+//! A granted transaction.
+ghost use Rattle.std.specs.Prelude.{◌≡◌, ◌++◌, ◌∷◌, [], None, Some, length, IfOk, OnOk, OnErr, map};
+ghost use Rattle.db_store.specs.Overlay.{untouched};
+ghost use Rattle.db_store.specs.Parts.{IsViewable};
+ghost use Rattle.db_store.specs.WorkState.{under_of, overlays_of, room_of};
+ghost use Rattle.branch_tx.specs.Keeping.{over_table};
+ghost use Rattle.branch_tx.specs.Alone.{commit_entry};
+ghost use Rattle.branch_tx.specs.Granted.{ungranted, tx_in, acted, left, lent_table};
+
+use crate::look::{Lent, find_lent, find_record, is_lent, is_plain, list_rows};
+use crate::refuse::{no_column, no_relation, refusal_of, refused, value_count, versions_full};
+use crate::sets::resolve;
+use db_store::{Store, View, Work};
+use db_value::{
+    Entry, Fields, ListOf, Name, Record, Refusal, Reply, Rows, Schema, Sets, Terms, VersionName,
+};
+use std::alloc::{AllocError, Global};
+use std::marker::Model;
+use stmt_text::{NamedSets, ScanOver, Stmt};
+
+/// How the branch that a transaction works on was granted.
+#[derive(Clone, Copy)]
+struct Held {
+    exclusive: bool,
+    full: bool,
+}
+
+/// A granted transaction: its working table, the views that were lent to it, and how its branch is
+/// held. It answers by itself, and looks at no store.
+#[derive(Drop)]
+pub struct Tx<St: Store> {
+    schema: Schema,
+    current: Name,
+    work: Work<St::View>,
+    held: Option<Held>,
+    lent: Vec<Lent<St::View>>,
+}
+
+impl<St: Store> Model for Tx<St> {
+    ghost use Rattle.std.specs.Prelude.{◌≡◌, length, map};
+    ghost use Rattle.db_store.specs.WorkState.{under_of, overlays_of, room_of};
+    ghost use Rattle.branch_tx.specs.Granted.{Granted, granted_code};
+    ghost use Rattle.branch_tx.specs.TxState.{held_of, AllWide};
+
+    ghost Value = { Granted };
+
+    ghost coded = { granted_code };
+
+    ghost view = { λ t. record {
+      schema = t.schema;
+      name = t.current;
+      held = held_of t.held;
+      head = St.View.table (under_of t.work);
+      overlays = overlays_of t.work;
+      room = room_of t.work;
+      lent = map (λ l. (l.name, St.View.table l.view)) t.lent.items;
+    } };
+
+    ghost invariant = { λ t. (length (St.View.table (under_of t.work)) ≡ length t.schema) × AllWide (length t.schema) (map (λ l. St.View.table l.view) t.lent.items) };
+}
+
+impl<St: Store> Tx<St> {
+    ghost use Rattle.std.specs.Prelude.{◌<◌, ◌≤◌, Ok, Err, IfSome, is_some};
+    ghost use Rattle.db_store.specs.Work.{insert_stop};
+    ghost use Rattle.branch_tx.specs.Act.{insert_of, insert_in, update_of, update_in, delete_of, get_of, get_from, scan_of, source_at};
+    ghost use Rattle.branch_tx.specs.Granted.{ground_in, source_in, with_work, placed, renewed, removed, is_current, record_in};
+    ghost use Rattle.std.specs.FinMap as finite;
+    ghost use Rattle.db_store.specs.Table.{relation_at, rows_of};
+    ghost use Rattle.db_store.specs.Overlay.{laid};
+    ghost use Rattle.branch_tx.specs.Act.{record_with, marked, resolved};
+    ghost use Rattle.db_value.specs.Relations.{columns_at};
+    ghost use Rattle.branch_tx.specs.Act.{relation_named};
+
+    /// A transaction on the branch of this name, to which nothing is granted yet.
+    pub fn over(
+        alloc: Global,
+        schema: &Schema,
+        work: Work<St::View>,
+        current: Name,
+    ) -> Result<Tx<St>, AllocError>
+        requires { length (St.View.table (under_of work)) ≡ length schema.now }
+        ensures { IfOk result (λ t. t ≡ ungranted schema.now current (St.View.table (under_of work)) (overlays_of work) (room_of work)) }
+    {
+        let schema = schema.duplicate()?;
+        let lent = Vec::new(alloc);
+        Ok(Tx {
+            schema,
+            current,
+            work,
+            held: None,
+            lent,
+        })
+    }
+
+    /// Puts the granted head of its branch under the working table, before anything is touched. It
+    /// takes no memory.
+    pub fn hold(&mut self, view: St::View, exclusive: bool, full: bool)
+        requires untouched { self.old.overlays ≡ untouched }
+        requires viewable { IsViewable (St.View.table view) (St.View.parts_of view) }
+        requires wide { length (St.View.table view) ≡ length self.old.schema }
+        ensures { self.new ≡ record self.old { held = Some (exclusive, full); head = St.View.table view } }
+    {
+        self.work.rest_on(view);
+        self.held = Some(Held { exclusive, full });
+    }
+
+    /// Lends it the view of a version under its name.
+    pub fn lend(&mut self, name: VersionName, view: St::View) -> Result<(), AllocError>
+        requires { length (St.View.table view) ≡ length self.old.schema }
+        ensures ok { OnOk result (self.new ≡ record self.old { lent = self.old.lent ++ (name, St.View.table view) ∷ [] }) }
+        ensures err { OnErr result (self.new ≡ self.old) }
+    {
+        self.lent.push(Lent { name, view })?;
+        Ok(())
+    }
+
+    /// The entry of its changes as a commit on a branch, if there are any.
+    pub fn entry(&self, branch: u32) -> Result<Option<Entry>, AllocError>
+        ensures { IfOk result (λ e. e ≡ commit_entry (over_table self.now.head) branch (tx_in self.now)) }
+    {
+        if self.work.touched() == 0 {
+            return Ok(None);
+        }
+        let changes = self.work.changes()?;
+        Ok(Some(Entry::Commit {
+            branch,
+            second: None,
+            changes,
+        }))
+    }
+
+    // Has its branch as many versions as it can have?
+    fn is_full(&self) -> bool
+        ensures { result ≡ (ground_in self.now).full }
+    {
+        match self.held {
+            None => false,
+            Some(held) => held.full,
+        }
+    }
+
+    // The number of a relation.
+    fn relation_of(&self, name: &Name) -> Option<u8>
+        ensures place { result ≡ relation_named self.now.schema name.now }
+        ensures within { IfSome result (λ r. r < length self.now.schema) }
+    {
+        self.schema.relation(name)
+    }
+
+    // How many columns a relation has.
+    fn column_count(&self, relation: u8) -> usize
+        requires { relation < length self.now.schema }
+        ensures count { result ≡ length (columns_at self.now.schema relation) }
+        ensures few { result ≤ 15 }
+    {
+        let relations = self.schema.relations();
+        relations[relation as usize].columns.as_slice().len()
+    }
+
+    // Puts a record whose key isn't there, on a branch that isn't full.
+    fn place(&mut self, relation: u8, name: Name, row: &Record) -> Result<Reply, AllocError>
+        requires { relation < length self.old.schema }
+        ensures reply { IfOk result (λ r. r ≡ (placed self.old relation name row.now).reply) }
+        ensures left { OnOk result (self.new ≡ with_work self.old (placed self.old relation name row.now)) }
+        ensures err { OnErr result (self.new ≡ self.old) }
+    {
+        match self.work.insert(relation, row) {
+            Ok(()) => Ok(Reply::Done),
+            Err(stop) => {
+                let why = refusal_of(stop, name, row.key, self.work.room())?;
+                Ok(refused(why))
+            }
+        }
+    }
+
+    // Inserts into a relation with as many columns as there are values.
+    fn insert_in(
+        &mut self,
+        relation: u8,
+        name: Name,
+        key: u64,
+        fields: &Fields,
+    ) -> Result<Reply, AllocError>
+        requires { relation < length self.old.schema }
+        ensures reply { IfOk result (λ r. r ≡ (insert_in (over_table self.old.head) (ground_in self.old) (tx_in self.old) relation name key fields.now).reply) }
+        ensures left { OnOk result (self.new ≡ with_work self.old (insert_in (over_table self.old.head) (ground_in self.old) (tx_in self.old) relation name key fields.now)) }
+        ensures err { OnErr result (self.new ≡ self.old) }
+    {
+        if self.is_full() {
+            return Ok(versions_full(self.current));
+        }
+        let fields = *fields;
+        let reply = self.place(relation, name, &Record { key, fields })?;
+        Ok(reply)
+    }
+
+    fn insert(&mut self, name: &Name, key: u64, fields: &Fields) -> Result<Reply, AllocError>
+        ensures reply { IfOk result (λ r. r ≡ (acted self.old (Stmt.Insert name.now key fields.now)).reply) }
+        ensures left { OnOk result (self.new ≡ left self.old (Stmt.Insert name.now key fields.now)) }
+        ensures err { OnErr result (self.new ≡ self.old) }
+    {
+        let Some(relation) = self.relation_of(name) else {
+            return Ok(no_relation(*name));
+        };
+        let columns = self.column_count(relation);
+        if fields.count() != columns {
+            return Ok(value_count(*name, columns as u32));
+        }
+        let reply = self.insert_in(relation, *name, key, fields)?;
+        Ok(reply)
+    }
+
+    // Gives a record new values, on a branch that isn't full.
+    fn renew(
+        &mut self,
+        relation: u8,
+        name: Name,
+        key: u64,
+        sets: &Sets,
+    ) -> Result<Reply, AllocError>
+        requires { relation < length self.old.schema }
+        ensures reply { IfOk result (λ r. r ≡ (renewed self.old relation name key sets.now).reply) }
+        ensures left { OnOk result (self.new ≡ with_work self.old (renewed self.old relation name key sets.now)) }
+        ensures err { OnErr result (self.new ≡ self.old) }
+    {
+        match self.work.update(relation, key, sets) {
+            Ok(()) => Ok(Reply::Done),
+            Err(stop) => {
+                let why = refusal_of(stop, name, key, self.work.room())?;
+                Ok(refused(why))
+            }
+        }
+    }
+
+    // Updates a record with these new values, or tells the column that isn't there.
+    fn update_in(
+        &mut self,
+        relation: u8,
+        name: Name,
+        key: u64,
+        sets: &Result<Sets, Name>,
+    ) -> Result<Reply, AllocError>
+        requires { relation < length self.old.schema }
+        ensures reply { IfOk result (λ r. r ≡ (update_in (over_table self.old.head) (ground_in self.old) (tx_in self.old) relation name key sets.now).reply) }
+        ensures left { OnOk result (self.new ≡ with_work self.old (update_in (over_table self.old.head) (ground_in self.old) (tx_in self.old) relation name key sets.now)) }
+        ensures err { OnErr result (self.new ≡ self.old) }
+    {
+        match sets {
+            Err(column) => Ok(no_column(*column)),
+            Ok(sets) => {
+                if self.is_full() {
+                    return Ok(versions_full(self.current));
+                }
+                let reply = self.renew(relation, name, key, sets)?;
+                Ok(reply)
+            }
+        }
+    }
+
+    fn update(&mut self, name: &Name, key: u64, sets: &NamedSets) -> Result<Reply, AllocError>
+        ensures reply { IfOk result (λ r. r ≡ (acted self.old (Stmt.Update name.now key sets.now)).reply) }
+        ensures left { OnOk result (self.new ≡ left self.old (Stmt.Update name.now key sets.now)) }
+        ensures err { OnErr result (self.new ≡ self.old) }
+    {
+        let Some(relation) = self.relation_of(name) else {
+            return Ok(no_relation(*name));
+        };
+        let sets = self.resolved(relation, sets)?;
+        let reply = self.update_in(relation, *name, key, &sets)?;
+        Ok(reply)
+    }
+
+    // New values by the numbers of their columns, or the first column that isn't there.
+    fn resolved(&self, relation: u8, sets: &NamedSets) -> Result<Result<Sets, Name>, AllocError>
+        requires { relation < length self.now.schema }
+        ensures { IfOk result (λ r. r ≡ resolved (columns_at self.now.schema relation) sets.now) }
+    {
+        resolve(
+            *self.lent.allocator(),
+            &self.schema,
+            relation,
+            sets.as_slice(),
+        )
+    }
+
+    // Takes a record away, on a branch that isn't full.
+    fn remove(&mut self, relation: u8, name: Name, key: u64) -> Result<Reply, AllocError>
+        requires { relation < length self.old.schema }
+        ensures reply { IfOk result (λ r. r ≡ (removed self.old relation name key).reply) }
+        ensures left { OnOk result (self.new ≡ with_work self.old (removed self.old relation name key)) }
+        ensures err { OnErr result (self.new ≡ self.old) }
+    {
+        match self.work.delete(relation, key) {
+            Ok(()) => Ok(Reply::Done),
+            Err(stop) => {
+                let why = refusal_of(stop, name, key, self.work.room())?;
+                Ok(refused(why))
+            }
+        }
+    }
+
+    fn delete(&mut self, name: &Name, key: u64) -> Result<Reply, AllocError>
+        ensures reply { IfOk result (λ r. r ≡ (acted self.old (Stmt.Delete name.now key)).reply) }
+        ensures left { OnOk result (self.new ≡ left self.old (Stmt.Delete name.now key)) }
+        ensures err { OnErr result (self.new ≡ self.old) }
+    {
+        let Some(relation) = self.relation_of(name) else {
+            return Ok(no_relation(*name));
+        };
+        if self.is_full() {
+            return Ok(versions_full(self.current));
+        }
+        let reply = self.remove(relation, *name, key)?;
+        Ok(reply)
+    }
+
+    // The record with a key in the working table.
+    #[tactic(auto, using(db_store::proofs::OverlayLemmas::length_laid))]
+    fn get_own(&self, relation: u8, key: u64) -> Option<Record>
+        requires { relation < length self.now.schema }
+        ensures { result ≡ record_with key (finite.get (relation_at (laid self.now.head self.now.overlays) relation) key) }
+    {
+        find_record(&self.work, relation, key)
+    }
+
+    // The record with a key in a version that was lent; none if it wasn't.
+    fn get_lent(&self, relation: u8, key: u64, version: &VersionName) -> Option<Option<Record>>
+        requires { relation < length self.now.schema }
+        ensures { result ≡ record_in relation key (lent_table self.now.lent version.now) }
+    {
+        find_lent(&self.lent, relation, key, version)
+    }
+
+    /// Is it the plain name of its branch?
+    pub fn is_current(&self, version: &VersionName) -> bool
+        ensures { result ≡ is_current self.now version.now }
+    {
+        version.branch == self.current && version.position.is_none()
+    }
+
+    /// Was a version lent to it under this name?
+    pub fn has_lent(&self, version: &VersionName) -> bool
+        ensures { result ≡ is_some (lent_table self.now.lent version.now) }
+    {
+        is_lent(&self.lent, version)
+    }
+
+    // The record with a key in a version that is named.
+    fn get_named(&self, relation: u8, key: u64, version: &VersionName) -> Reply
+        requires { relation < length self.now.schema }
+        ensures { result ≡ (get_from (over_table self.now.head) (tx_in self.now) relation key (source_in self.now version.now)).reply }
+    {
+        if self.is_current(version) {
+            let row = self.get_own(relation, key);
+            return Reply::One { row };
+        }
+        match self.get_lent(relation, key, version) {
+            None => refused(Refusal::Line),
+            Some(row) => Reply::One { row },
+        }
+    }
+
+    // The record with a key, in a version where one is named.
+    fn get_at(&self, relation: u8, key: u64, at: &Option<VersionName>) -> Reply
+        requires { relation < length self.now.schema }
+        ensures { result ≡ (get_from (over_table self.now.head) (tx_in self.now) relation key (source_at (over_table self.now.head) (source_in self.now) at.now)).reply }
+    {
+        match at {
+            None => {
+                let row = self.get_own(relation, key);
+                Reply::One { row }
+            }
+            Some(version) => self.get_named(relation, key, version),
+        }
+    }
+
+    fn get(&self, name: &Name, key: u64, at: &Option<VersionName>) -> Reply
+        ensures { result ≡ (acted self.now (Stmt.Get name.now key at.now)).reply }
+    {
+        match self.relation_of(name) {
+            None => no_relation(*name),
+            Some(relation) => self.get_at(relation, key, at),
+        }
+    }
+
+    // The rows of the working table.
+    #[tactic(auto, using(db_store::proofs::OverlayLemmas::length_laid))]
+    fn list(&self, relation: u8) -> Result<Rows, AllocError>
+        requires { relation < length self.now.schema }
+        ensures { IfOk result (λ rows. rows ≡ map marked (rows_of (relation_at (laid self.now.head self.now.overlays) relation))) }
+    {
+        let rows = list_rows(*self.lent.allocator(), &self.work, relation)?;
+        Ok(rows)
+    }
+
+    fn scan_own(&self, name: &Name) -> Result<Reply, AllocError>
+        ensures { IfOk result (λ r. r ≡ (scan_of (over_table self.now.head) (tx_in self.now) name.now (relation_named self.now.schema name.now)).reply) }
+    {
+        match self.relation_of(name) {
+            None => Ok(no_relation(*name)),
+            Some(relation) => {
+                let rows = self.list(relation)?;
+                let names = ListOf::of(Vec::new(*self.lent.allocator()));
+                Ok(Reply::Listed { names, rows })
+            }
+        }
+    }
+
+    fn scan(&self, name: &Name, over: &ScanOver, terms: &Terms) -> Result<Reply, AllocError>
+        ensures { IfOk result (λ r. r ≡ (acted self.now (Stmt.Scan name.now over.now terms.now)).reply) }
+    {
+        if !is_plain(over, terms) {
+            return Ok(refused(Refusal::Line));
+        }
+        let reply = self.scan_own(name)?;
+        Ok(reply)
+    }
+
+    /// Answers a statement that reads or changes records. A refused statement leaves everything as
+    /// before, and so does want of memory.
+    pub fn act(&mut self, stmt: &Stmt) -> Result<Reply, AllocError>
+        ensures reply { IfOk result (λ r. r ≡ (acted self.old stmt.now).reply) }
+        ensures left { OnOk result (self.new ≡ left self.old stmt.now) }
+        ensures err { OnErr result (self.new ≡ self.old) }
+    {
+        match stmt {
+            Stmt::Insert {
+                relation,
+                key,
+                fields,
+            } => self.insert(relation, *key, fields),
+            Stmt::Update {
+                relation,
+                key,
+                sets,
+            } => self.update(relation, *key, sets),
+            Stmt::Delete { relation, key } => self.delete(relation, *key),
+            Stmt::Get { relation, key, at } => Ok(self.get(relation, *key, at)),
+            Stmt::Scan {
+                relation,
+                over,
+                terms,
+            } => self.scan(relation, over, terms),
+            _ => Ok(refused(Refusal::Line)),
+        }
+    }
+}

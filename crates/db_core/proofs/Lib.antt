@@ -1,0 +1,9 @@
+pub mod Rows
+pub mod Runs
+pub mod Worlds
+pub mod Until
+pub mod Older
+pub mod Boards
+pub mod Held
+pub mod Rooms
+pub mod Examples

@@ -1,0 +1,4 @@
+pub mod Ends
+pub mod Order
+pub mod Board
+pub mod Laws

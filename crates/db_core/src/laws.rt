@@ -1,0 +1,27 @@
+//! Laws of lists of lines: each function does nothing, and its contract is the law.
+ghost use Rattle.db_core.specs.Laws.{RoomLaw, MachineLaw, StateLaw, GrowthLaw, RowsLaw};
+
+/// A line that is read has a room that can be.
+pub fn room_law()
+    ensures { RoomLaw }
+{}
+
+/// A machine that answers each line at once gives the replies of whole transactions.
+pub fn machine_law()
+    ensures { MachineLaw }
+{}
+
+/// The machine's state is the one that these transactions make.
+pub fn state_law()
+    ensures { StateLaw }
+{}
+
+/// Replies stand when the list grows.
+pub fn growth_law()
+    ensures { GrowthLaw }
+{}
+
+/// What a line may be held by are the needs of earlier lines whose transactions are open.
+pub fn rows_law()
+    ensures { RowsLaw }
+{}

@@ -1,0 +1,5 @@
+pub mod Runs
+pub mod Sorted
+pub mod Union
+pub mod Pairs
+pub mod Views

@@ -1,0 +1,287 @@
+-- Rows with positions: one by one, and joined by rows.
+use Rattle.std.proofs.Common.{◌≡◌, ℕ, ◌+◌, ◌<◌, ◌≤◌, ◌==◌, Bool, true, false, cond, ◌&&◌, ◌||◌, List, [], ◌∷◌, ◌++◌, length, map, ap, sym, ◌∙◌, refl, arith, nat_cmp, Ordering, Less, Equal, Greater}
+use Rattle.std.specs.List.{AllByRecursion, IsDistinct, list_any}
+use Rattle.std.specs.List.Sorted.{IsStrictlySortedBy, IsSorted, IsPermutation}
+use Rattle.std.specs.Ordering.{eq_by_cmp, is_eq, ordering_then}
+use Rattle.std.specs.Cmp.{IsTotalOrder, nat_cmp_total, on_total, then_total, unsigned_ties, tied_itself, eq_by_cmp_equiv}
+use Rattle.std.specs.FinMap.{IsAntisymmetric, nat_cmp-IsAntisymmetric}
+use Rattle.std.proofs.lemmas.Bool.{lt-ltb}
+use Rattle.std.proofs.lemmas.List.Folds.{list_any-append}
+use Rattle.std.proofs.lemmas.List.Sorted.{list_any-IsPermutation}
+use Rattle.std.proofs.lemmas.Map.Keys.{IsDistinct-IsPermutation}
+use Rattle.db_value.specs.Order.{record_eq, record_cmp}
+use Rattle.db_value.proofs.OrderLemmas.{record_total, record_exact, record_ties, record_same, record_is, both_tie, tied}
+use Rattle.db_value.specs.declared.record.Record.{Record}
+use Rattle.db_value.specs.declared.record.Marked.{Marked}
+use Rattle.multi_scan.specs.declared.found.Found.{Found}
+use Rattle.multi_scan.specs.Found.{joined, found_cmp}
+use Rattle.multi_scan.specs.Multi.{has, union_of, positions_from, marked_in, union_marked}
+use Rattle.multi_scan.proofs.Sorted.{same_sorted, strictly_sorted, sorted_append, sorted_nil, sorted_cons, distinct_append, distinct_nil, all_append, all_map}
+use Rattle.multi_scan.proofs.Union.{anywhere, has_union, sorted_union, each_member}
+
+abbrev pub pair : ℕ → Record → Found
+pair n row = record { row = row; position = n }
+
+-- the rows of lists, the first of which has number n
+abbrev pub pairs_from : ℕ → List (List Record) → List Found
+pairs_from n [] = []
+pairs_from n (rows ∷ lists) = map (pair n) rows ++ pairs_from (n + 1) lists
+
+-- list k has the row, where the first list has number n
+abbrev pub at : ℕ → ℕ → Record → List (List Record) → Bool
+at n k row [] = false
+at n k row (rows ∷ lists) = (k == n && has row rows) || at (n + 1) k row lists
+
+-- ---- the order of pairs
+
+pub found_total : IsTotalOrder found_cmp
+found_total = then_total (on_total (λ (f : Found). f.row) record_total) (on_total (λ (f : Found). f.position) nat_cmp_total)
+
+pub found_exact : IsAntisymmetric found_cmp
+found_exact a b e =
+    let two : (record_cmp a.row b.row ≡ Equal) × (nat_cmp a.position b.position ≡ Equal) = both_tie _ _ e in
+    let row : a.row ≡ b.row = record_exact a.row b.row two.0 in
+    let position : a.position ≡ b.position = nat_cmp-IsAntisymmetric a.position b.position two.1 in
+    λ i. record { row = row i; position = position i }
+
+pair_eq : (k n : ℕ) (row r : Record) → eq_by_cmp found_cmp (pair k row) (pair n r) ≡ (record_eq row r && k == n)
+pair_eq k n row r =
+    let rows : record_eq row r ≡ eq_by_cmp record_cmp row r = record_ties row r in
+    let numbers : (k == n) ≡ eq_by_cmp nat_cmp k n = unsigned_ties k n in
+    sym ((λ i. rows i && numbers i) ∙ tied (record_cmp row r) (nat_cmp k n))
+
+less_is : (a b : ℕ) → a < b → nat_cmp a b ≡ Less
+less_is a b h = let l = lt-ltb a b h in rw l refl
+
+-- ---- which pairs there are
+
+and_false : (b : Bool) → false ≡ (b && false)
+and_false true = refl
+and_false false = refl
+
+gathers : (a b c : Bool) → ((a && b) || (b && c)) ≡ (b && (a || c))
+gathers true true c = refl
+gathers true false c = refl
+gathers false b c = refl
+
+among_row : (k n : ℕ) (row : Record) (rows : List Record) → list_any (eq_by_cmp found_cmp (pair k row)) (map (pair n) rows) ≡ (k == n && has row rows)
+among_row k n row [] = and_false (k == n)
+among_row k n row (r ∷ rows) =
+    let head : eq_by_cmp found_cmp (pair k row) (pair n r) ≡ (record_eq row r && k == n) = pair_eq k n row r in
+    let tail : list_any (eq_by_cmp found_cmp (pair k row)) (map (pair n) rows) ≡ (k == n && has row rows) = among_row k n row rows in
+    (λ i. head i || tail i) ∙ gathers (record_eq row r) (k == n) (has row rows)
+
+among_pairs : (n k : ℕ) (row : Record) (lists : List (List Record)) → list_any (eq_by_cmp found_cmp (pair k row)) (pairs_from n lists) ≡ at n k row lists
+among_pairs n k row [] = refl
+among_pairs n k row (rows ∷ lists) =
+    let here : list_any (eq_by_cmp found_cmp (pair k row)) (map (pair n) rows) ≡ (k == n && has row rows) = among_row k n row rows in
+    let later : list_any (eq_by_cmp found_cmp (pair k row)) (pairs_from (n + 1) lists) ≡ at (n + 1) k row lists = among_pairs (n + 1) k row lists in
+    list_any-append (eq_by_cmp found_cmp (pair k row)) (map (pair n) rows) (pairs_from (n + 1) lists) ∙ (λ i. here i || later i)
+
+among_positions : (n k : ℕ) (row : Record) (lists : List (List Record)) → list_any (λ i. k == i) (positions_from n row lists) ≡ at n k row lists
+among_positions n k row [] = refl
+among_positions n k row (rows ∷ lists) = elim (has row rows) as (λ b. list_any (λ i. k == i) (cond b (n ∷ positions_from (n + 1) row lists) (positions_from (n + 1) row lists)) ≡ ((k == n && b) || at (n + 1) k row lists)) [
+  | true ↦ (λ j. and_true (k == n) j || among_positions (n + 1) k row lists j)
+  | false ↦ among_positions (n + 1) k row lists ∙ ap (λ b. b || at (n + 1) k row lists) (and_false (k == n))
+]
+  where
+    and_true : (b : Bool) → b ≡ (b && true)
+    and_true true = refl
+    and_true false = refl
+
+-- the pairs that marked rows stand for
+abbrev pub spread : List Marked → List Found
+spread [] = []
+spread (m ∷ ms) = map (λ i. pair i m.row) m.positions ++ spread ms
+
+among_marked : (k : ℕ) (row r : Record) (ps : List ℕ) → list_any (eq_by_cmp found_cmp (pair k row)) (map (λ i. pair i r) ps) ≡ (record_eq row r && list_any (λ i. k == i) ps)
+among_marked k row r [] = and_false (record_eq row r)
+among_marked k row r (p ∷ ps) =
+    let head : eq_by_cmp found_cmp (pair k row) (pair p r) ≡ (record_eq row r && k == p) = pair_eq k p row r in
+    let tail : list_any (eq_by_cmp found_cmp (pair k row)) (map (λ i. pair i r) ps) ≡ (record_eq row r && list_any (λ i. k == i) ps) = among_marked k row r ps in
+    (λ i. head i || tail i) ∙ splits (record_eq row r) (k == p) (list_any (λ i. k == i) ps)
+  where
+    splits : (a b c : Bool) → ((a && b) || (a && c)) ≡ (a && (b || c))
+    splits true b c = refl
+    splits false b c = refl
+
+-- a pair of a marked row is one of its list
+row_and_list : (k : ℕ) (row r : Record) (lists : List (List Record)) → (record_eq row r && at 0 k r lists) ≡ (record_eq row r && at 0 k row lists)
+row_and_list k row r lists = elim (record_eq row r) as (λ b. record_eq row r ≡ b → (b && at 0 k r lists) ≡ (b && at 0 k row lists)) [
+  | true ↦ λ e. ap (λ (x : Record). at 0 k x lists) (sym (record_is row r e))
+  | false ↦ λ e. refl
+] refl
+
+among_spread : (k : ℕ) (row : Record) (lists : List (List Record)) (rows : List Record) → list_any (eq_by_cmp found_cmp (pair k row)) (spread (map (marked_in lists) rows)) ≡ (has row rows && at 0 k row lists)
+among_spread k row lists [] = refl
+among_spread k row lists (r ∷ rows) =
+    let head : list_any (eq_by_cmp found_cmp (pair k row)) (map (λ i. pair i r) (positions_from 0 r lists)) ≡ (record_eq row r && at 0 k row lists) = among_marked k row r (positions_from 0 r lists) ∙ ap (λ b. record_eq row r && b) (among_positions 0 k r lists) ∙ row_and_list k row r lists in
+    let tail : list_any (eq_by_cmp found_cmp (pair k row)) (spread (map (marked_in lists) rows)) ≡ (has row rows && at 0 k row lists) = among_spread k row lists rows in
+    list_any-append (eq_by_cmp found_cmp (pair k row)) (map (λ i. pair i r) (positions_from 0 r lists)) (spread (map (marked_in lists) rows)) ∙ (λ i. head i || tail i) ∙ splits (record_eq row r) (has row rows) (at 0 k row lists)
+  where
+    splits : (a b c : Bool) → ((a && c) || (b && c)) ≡ ((a || b) && c)
+    splits true true true = refl
+    splits true true false = refl
+    splits true false true = refl
+    splits true false false = refl
+    splits false b c = refl
+
+at_anywhere : (n k : ℕ) (row : Record) (lists : List (List Record)) → at n k row lists ≡ (anywhere row lists && at n k row lists)
+at_anywhere n k row [] = refl
+at_anywhere n k row (rows ∷ lists) = covers (k == n) (has row rows) (anywhere row lists) (at (n + 1) k row lists) (at_anywhere (n + 1) k row lists)
+  where
+    covers : (a b c d : Bool) → d ≡ (c && d) → ((a && b) || d) ≡ ((b || c) && ((a && b) || d))
+    covers true true c d e = refl
+    covers true false c d e = e
+    covers false true c d e = refl
+    covers false false c d e = e
+
+-- what lists have in common, list by list
+abbrev pub Alike : List (List Record) → List (List Record) → Type 0
+Alike [] [] = Unit {0}
+Alike (xs ∷ xss) (ys ∷ yss) = ((row : Record) → has row xs ≡ has row ys) × Alike xss yss
+Alike _ _ = ⊥
+
+at_alike : (n k : ℕ) (row : Record) (xss yss : List (List Record)) → Alike xss yss → at n k row xss ≡ at n k row yss
+at_alike n k row [] [] a = refl
+at_alike n k row [] (ys ∷ yss) a = absurd a
+at_alike n k row (xs ∷ xss) [] a = absurd a
+at_alike n k row (xs ∷ xss) (ys ∷ yss) a = λ i. (k == n && a.0 row i) || at_alike (n + 1) k row xss yss a.1 i
+
+-- ---- no pair twice
+
+all_of : {K : Type 0} (P : K → Type 0) → ((x : K) → P x) → (xs : List K) → AllByRecursion P xs
+all_of P h [] = tt
+all_of P h (x ∷ xs) = (h x, all_of P h xs)
+
+all_imply : {K : Type 0} (P Q : K → Type 0) → ((x : K) → P x → Q x) → (xs : List K) → AllByRecursion P xs → AllByRecursion Q xs
+all_imply P Q h [] a = tt
+all_imply P Q h (x ∷ xs) a = (h x a.0, all_imply P Q h xs a.1)
+
+later : (n m : ℕ) (lists : List (List Record)) → n ≤ m → AllByRecursion (λ f. n ≤ f.position) (pairs_from m lists)
+later n m [] h = tt
+later n m (rows ∷ lists) h = all_append (λ f. n ≤ f.position) (map (pair m) rows) (pairs_from (m + 1) lists) (all_map (λ (f : Found). n ≤ f.position) (pair m) rows (all_of (λ (r : Record). n ≤ m) (λ r. h) rows)) (later n (m + 1) lists (omega arith))
+
+-- pairs differ where their numbers do
+apart_numbers : (n : ℕ) (row : Record) (f : Found) → n + 1 ≤ f.position → eq_by_cmp found_cmp (pair n row) f ≡ false
+apart_numbers n row f h = by_number (record_cmp row f.row) (nat_cmp n f.position) (less_is n f.position (omega (arith, h)))
+  where
+    by_number : (a b : Ordering) → b ≡ Less → is_eq (ordering_then a b) ≡ false
+    by_number Less b e = refl
+    by_number Equal b e = ap is_eq e
+    by_number Greater b e = refl
+
+apart_rows : (n : ℕ) (r s : Record) → record_eq r s ≡ false → eq_by_cmp found_cmp (pair n r) (pair n s) ≡ false
+apart_rows n r s e = pair_eq n n r s ∙ ap (λ b. b && n == n) e
+
+distinct_row : (n : ℕ) (rows : List Record) → IsDistinct record_eq rows → IsDistinct (eq_by_cmp found_cmp) (map (pair n) rows)
+unfolding IsDistinct
+distinct_row n [] d = tt
+distinct_row n (r ∷ rows) d = (all_map (λ (f : Found). eq_by_cmp found_cmp (pair n r) f ≡ false) (pair n) rows (all_imply (λ (s : Record). record_eq r s ≡ false) (λ (s : Record). eq_by_cmp found_cmp (pair n r) (pair n s) ≡ false) (λ s e. apart_rows n r s e) rows d.0), distinct_row n rows d.1)
+
+distinct_pairs : (n : ℕ) (lists : List (List Record)) → AllByRecursion (IsDistinct record_eq) lists → IsDistinct (eq_by_cmp found_cmp) (pairs_from n lists)
+distinct_pairs n [] d = distinct_nil (eq_by_cmp found_cmp)
+distinct_pairs n (rows ∷ lists) d =
+    let Apart : Record → Type 0 = λ r. AllByRecursion (λ f. eq_by_cmp found_cmp (pair n r) f ≡ false) (pairs_from (n + 1) lists) in
+    let apart : (r : Record) → Apart r = λ r. all_imply (λ (f : Found). n + 1 ≤ f.position) (λ (f : Found). eq_by_cmp found_cmp (pair n r) f ≡ false) (λ f h. apart_numbers n r f h) (pairs_from (n + 1) lists) (later (n + 1) (n + 1) lists (omega arith)) in
+    distinct_append (eq_by_cmp found_cmp) (map (pair n) rows) (pairs_from (n + 1) lists) (distinct_row n rows d.0) (distinct_pairs (n + 1) lists d.1)
+    (all_map (λ (x : Found). AllByRecursion (λ f. eq_by_cmp found_cmp x f ≡ false) (pairs_from (n + 1) lists)) (pair n) rows (all_of Apart apart rows))
+
+-- ---- marked rows in order
+
+from_number : (n m : ℕ) (row : Record) (lists : List (List Record)) → n ≤ m → AllByRecursion (λ k. n ≤ k) (positions_from m row lists)
+from_number n m row [] h = tt
+from_number n m row (rows ∷ lists) h = elim (has row rows) as (λ b. AllByRecursion (λ k. n ≤ k) (cond b (m ∷ positions_from (m + 1) row lists) (positions_from (m + 1) row lists))) [
+  | true ↦ (h, from_number n (m + 1) row lists (omega arith))
+  | false ↦ from_number n (m + 1) row lists (omega arith)
+]
+
+sorted_positions : (n : ℕ) (row : Record) (lists : List (List Record)) → IsStrictlySortedBy nat_cmp (positions_from n row lists)
+sorted_positions n row [] = sorted_nil nat_cmp
+sorted_positions n row (rows ∷ lists) = elim (has row rows) as (λ b. IsStrictlySortedBy nat_cmp (cond b (n ∷ positions_from (n + 1) row lists) (positions_from (n + 1) row lists))) [
+  | true ↦ sorted_cons nat_cmp n (positions_from (n + 1) row lists) (all_imply (λ (k : ℕ). n + 1 ≤ k) (λ (k : ℕ). nat_cmp n k ≡ Less) (λ k h. less_is n k (omega (arith, h))) (positions_from (n + 1) row lists) (from_number (n + 1) (n + 1) row lists (omega arith))) (sorted_positions (n + 1) row lists)
+  | false ↦ sorted_positions (n + 1) row lists
+]
+
+sorted_marked : (row : Record) (ps : List ℕ) → IsStrictlySortedBy nat_cmp ps → IsStrictlySortedBy found_cmp (map (λ i. pair i row) ps)
+unfolding IsStrictlySortedBy
+sorted_marked row [] s = tt
+sorted_marked row (p ∷ ps) s =
+    let same : record_cmp row row ≡ Equal = tied_itself record_total row in
+    (all_map (λ (f : Found). found_cmp (pair p row) f ≡ Less) (λ i. pair i row) ps (all_imply (λ (k : ℕ). nat_cmp p k ≡ Less) (λ (k : ℕ). found_cmp (pair p row) (pair k row) ≡ Less) (λ k e. ap (λ o. ordering_then o (nat_cmp p k)) same ∙ e) ps s.0), sorted_marked row ps s.1)
+
+-- what holds of each row holds of each of their pairs
+rows_of_spread : (P : Record → Type 0) (lists : List (List Record)) (rows : List Record) → AllByRecursion P rows → AllByRecursion (λ f. P f.row) (spread (map (marked_in lists) rows))
+rows_of_spread P lists [] a = tt
+rows_of_spread P lists (r ∷ rows) a = all_append (λ f. P f.row) (map (λ i. pair i r) (positions_from 0 r lists)) (spread (map (marked_in lists) rows)) (all_map (λ (f : Found). P f.row) (λ i. pair i r) (positions_from 0 r lists) (all_of (λ (i : ℕ). P r) (λ i. a.0) (positions_from 0 r lists))) (rows_of_spread P lists rows a.1)
+
+sorted_spread : (lists : List (List Record)) (rows : List Record) → IsStrictlySortedBy record_cmp rows → IsStrictlySortedBy found_cmp (spread (map (marked_in lists) rows))
+unfolding IsStrictlySortedBy
+sorted_spread lists [] s = tt
+sorted_spread lists (r ∷ rows) s =
+    let rest = spread (map (marked_in lists) rows) in
+    let Before : ℕ → Type 0 = λ i. AllByRecursion (λ f. found_cmp (pair i r) f ≡ Less) rest in
+    let before : (i : ℕ) → Before i = λ i. all_imply (λ (f : Found). record_cmp r f.row ≡ Less) (λ (f : Found). found_cmp (pair i r) f ≡ Less) (λ f e. ap (λ o. ordering_then o (nat_cmp i f.position)) e) rest (rows_of_spread (λ (x : Record). record_cmp r x ≡ Less) lists rows s.0) in
+    sorted_append found_cmp (map (λ i. pair i r) (positions_from 0 r lists)) rest (sorted_marked r (positions_from 0 r lists) (sorted_positions 0 r lists)) (sorted_spread lists rows s.1)
+    (all_map (λ (x : Found). AllByRecursion (λ f. found_cmp x f ≡ Less) rest) (λ i. pair i r) (positions_from 0 r lists) (all_of Before before (positions_from 0 r lists)))
+
+-- ---- joining what was spread
+
+abbrev Differs : Record → List Marked → Type 0
+Differs row [] = Unit {0}
+Differs row (m ∷ ms) = record_eq row m.row ≡ false
+
+abbrev IsRun : Record → List ℕ → List Found → List Marked → Type 0
+IsRun row ps rest ms = joined (map (λ i. pair i row) ps ++ rest) ≡ record { row = row; positions = ps } ∷ ms
+
+last_joined : (row : Record) (p : ℕ) (rest : List Found) (ms : List Marked) → joined rest ≡ ms → Differs row ms → IsRun row (p ∷ []) rest ms
+last_joined row p rest [] e d = rw e refl
+last_joined row p rest (m ∷ ms) e d = rw (e, d) refl
+
+more_joined : (row : Record) (p q : ℕ) (ps : List ℕ) (rest : List Found) (ms : List Marked) → IsRun row (q ∷ ps) rest ms → IsRun row (p ∷ q ∷ ps) rest ms
+more_joined row p q ps rest ms e = rw (e, record_same row) refl
+
+run_joined : (row : Record) (p : ℕ) (ps : List ℕ) (rest : List Found) (ms : List Marked) → joined rest ≡ ms → Differs row ms → IsRun row (p ∷ ps) rest ms
+run_joined row p [] rest ms e d = last_joined row p rest ms e d
+run_joined row p (q ∷ ps) rest ms e d = more_joined row p q ps rest ms (run_joined row q ps rest ms e d)
+
+some_joined : (row : Record) (ps : List ℕ) (rest : List Found) (ms : List Marked) → 0 < length ps → joined rest ≡ ms → Differs row ms → IsRun row ps rest ms
+some_joined row [] rest ms h e d = absurd (omega arith)
+some_joined row (p ∷ ps) rest ms h e d = run_joined row p ps rest ms e d
+
+some_position : (n : ℕ) (row : Record) (lists : List (List Record)) → anywhere row lists ≡ true → 0 < length (positions_from n row lists)
+some_position n row [] e = absurd cc
+some_position n row (rows ∷ lists) e = elim (has row rows) as (λ b. (b || anywhere row lists) ≡ true → 0 < length (cond b (n ∷ positions_from (n + 1) row lists) (positions_from (n + 1) row lists))) [
+  | true ↦ λ e. omega arith
+  | false ↦ λ e. some_position (n + 1) row lists e
+] e
+
+less_differs : (a b : Record) → record_cmp a b ≡ Less → record_eq a b ≡ false
+less_differs a b e = record_ties a b ∙ ap is_eq e
+
+differs_from : (lists : List (List Record)) (row : Record) (rows : List Record) → AllByRecursion (λ r. record_cmp row r ≡ Less) rows → Differs row (map (marked_in lists) rows)
+differs_from lists row [] a = tt
+differs_from lists row (r ∷ rows) a = less_differs row r a.0
+
+joined_spread : (lists : List (List Record)) (rows : List Record) → IsStrictlySortedBy record_cmp rows → AllByRecursion (λ row. anywhere row lists ≡ true) rows → joined (spread (map (marked_in lists) rows)) ≡ map (marked_in lists) rows
+unfolding IsStrictlySortedBy
+joined_spread lists [] s a = refl
+joined_spread lists (r ∷ rows) s a = some_joined r (positions_from 0 r lists) (spread (map (marked_in lists) rows)) (map (marked_in lists) rows) (some_position 0 r lists a.0) (joined_spread lists rows s.1 a.1) (differs_from lists r rows s.0)
+
+-- ---- pairs of lists, in order and joined, are the union of the lists
+
+flips : (a b : Found) → eq_by_cmp found_cmp a b ≡ eq_by_cmp found_cmp b a
+flips a b = (eq_by_cmp_equiv found_total).symm a b
+
+any_found : Found
+any_found = record { row = record { key = 0; fields = [] }; position = 0 }
+
+pub joined_pairs : (xss lists : List (List Record)) (fs : List Found) → Alike xss lists → AllByRecursion (IsDistinct record_eq) xss → IsPermutation (pairs_from 0 xss) fs → IsSorted found_cmp fs → joined fs ≡ union_marked lists
+joined_pairs xss lists fs alike distinct moved up =
+    let rows = union_of lists in
+    let sorted : IsStrictlySortedBy found_cmp fs = strictly_sorted found_total fs any_found up (IsDistinct-IsPermutation (eq_by_cmp found_cmp) flips (pairs_from 0 xss) fs moved (distinct_pairs 0 xss distinct)) in
+    let members : (q : Found) → list_any (eq_by_cmp found_cmp q) fs ≡ list_any (eq_by_cmp found_cmp q) (spread (map (marked_in lists) rows)) = λ q.
+    (sym (list_any-IsPermutation (eq_by_cmp found_cmp q) (pairs_from 0 xss) fs moved) ∙ among_pairs 0 q.position q.row xss ∙ at_alike 0 q.position q.row xss lists alike
+    ∙ at_anywhere 0 q.position q.row lists ∙ ap (λ b. b && at 0 q.position q.row lists) (sym (has_union q.row lists)) ∙ sym (among_spread q.position q.row lists rows)) in
+    let is : fs ≡ spread (map (marked_in lists) rows) = same_sorted found_total found_exact fs (spread (map (marked_in lists) rows)) sorted (sorted_spread lists rows (sorted_union lists)) members in
+    ap joined is ∙ joined_spread lists rows (sorted_union lists) (each_member (λ row. anywhere row lists ≡ true) rows (λ q e. sym (has_union q lists) ∙ e))

@@ -1,0 +1,4 @@
+pub mod Multi
+pub mod Found
+pub mod Cost
+pub mod Laws

@@ -1,0 +1,7 @@
+pub mod ShelfLemmas
+mod MergeLemmas
+mod RunLemmas
+pub mod PlainLemmas
+pub mod FitLemmas
+pub mod CountLemmas
+mod KeptLemmas
