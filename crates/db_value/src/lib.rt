@@ -16,10 +16,13 @@
 //! | `src/version.rt`, `src/entry.rt` | versions, and what a transaction does to a dataset |
 //! | `src/condition.rt`, `src/pred.rt` | conditions, new values, the side that a merge prefers; conditions to be asked of rows |
 //! | `src/reply.rt`, `src/report.rt` | replies and refusals, and the lines of reports |
+//! | `src/step.rt` | lines with their replies |
+//! | `src/copies.rt` | copies of replies |
 //! | `src/steps.rt` | the count of records read |
 #![tactic(auto)]
 
 pub mod condition;
+mod copies;
 pub mod entry;
 pub mod fields;
 pub mod list_of;
@@ -29,6 +32,7 @@ pub mod record;
 pub mod reply;
 pub mod report;
 pub mod schema;
+pub mod step;
 pub mod steps;
 #[cfg(test)]
 mod tests;
@@ -45,5 +49,6 @@ pub use record::{Marked, Positions, Record, Rows};
 pub use reply::{Refusal, Reply};
 pub use report::{LayoutLine, LayoutLines, Live, Lives, LogLine, LogLines, Pair, Pairs};
 pub use schema::{Relation, Schema, SchemaFault};
+pub use step::Step;
 pub use steps::Steps;
 pub use version::{VersionName, VersionNames, VersionPlace};

@@ -1,8 +1,8 @@
 //! Records, and the rows of a reply.
-ghost use Rattle.std.specs.Prelude.{◌≡◌, ℕ, List, [], ◌∷◌};
+ghost use Rattle.std.specs.Prelude.{◌≡◌, ℕ, List, [], ◌∷◌, IfOk};
 
 use crate::{Fields, ListOf};
-use std::alloc::Global;
+use std::alloc::{AllocError, Global};
 use std::marker::Model;
 
 /// A record is a key and its fields. The key identifies it across versions. Records are compared by
@@ -45,6 +45,17 @@ impl Positions {
         ensures { result ≡ first ∷ others.items }
     {
         Positions { first, others }
+    }
+
+    /// Equal positions of their own.
+    pub fn duplicate(&self) -> Result<Positions, AllocError>
+        ensures { IfOk result (λ p. p ≡ self.now) }
+    {
+        let others = Vec::from_slice(*self.others.allocator(), &self.others)?;
+        Ok(Positions {
+            first: self.first,
+            others,
+        })
     }
 
     /// The least of them, and the others.
