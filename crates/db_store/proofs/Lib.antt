@@ -7,3 +7,6 @@ pub mod ChangeLemmas
 pub mod OverlayLemmas
 pub mod LayerLemmas
 pub mod WorkLemmas
+pub mod CountLemmas
+pub mod AdoptLemmas
+pub mod OrderMade

@@ -1,7 +1,10 @@
 -- What growth keeps.
 use Rattle.std.specs.Prelude.{◌≡◌, ℕ, true, List}
+use Rattle.version_graph.specs.Ancestors.{IsLastCommon}
+use Rattle.db_value.specs.declared.version.VersionPlace.{VersionPlace}
 use Rattle.db_value.specs.declared.entry.Entry.{Entry}
-use Rattle.db_store.specs.Dataset.{Dataset, new_dataset, apply}
+use Rattle.db_store.specs.Dataset.{Dataset, proper, new_dataset, apply, IsMade}
+use Rattle.db_store.specs.Order.{IsOrdered, lineage, number_of, common}
 use Rattle.db_store.specs.Sound.{IsSound}
 use Rattle.db_store.specs.Counted.{IsCounted}
 use Rattle.db_value.specs.Relations.{is_counted}
@@ -32,3 +35,22 @@ CountedStays = (d : Dataset) (e : Entry) → IsCounted d → IsSound d → fits 
 
 abbrev pub NewIsCounted : Type 0
 NewIsCounted = (schema : List Relation) → is_counted schema ≡ true → IsCounted (new_dataset schema)
+
+-- growth keeps the order made
+abbrev pub OrderedStays : Type 0
+OrderedStays = (d : Dataset) (e : Entry) → IsSound d → IsOrdered d → fits d e ≡ true → IsOrdered (apply d e)
+
+abbrev pub NewIsOrdered : Type 0
+NewIsOrdered = (schema : List Relation) → IsOrdered (new_dataset schema)
+
+-- the common ancestor is an ancestor of both, and no other was made after it
+abbrev pub CommonIsLast : Type 0
+CommonIsLast = (d : Dataset) (a b : VersionPlace) → IsOrdered d → IsMade d a → IsMade d b → IsLastCommon (lineage d) (number_of d a) (number_of d b) (number_of d (common d a b))
+
+-- it is made, and has its proper name
+abbrev pub CommonIsProper : Type 0
+CommonIsProper = (d : Dataset) (a b : VersionPlace) → IsSound d → IsOrdered d → IsMade d a → IsMade d b → IsMade d (common d a b) × (proper d (common d a b) ≡ common d a b)
+
+-- growth leaves it
+abbrev pub CommonStays : Type 0
+CommonStays = (d : Dataset) (e : Entry) (a b : VersionPlace) → IsSound d → IsOrdered d → fits d e ≡ true → IsMade d a → IsMade d b → common (apply d e) a b ≡ common d a b

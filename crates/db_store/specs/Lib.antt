@@ -21,3 +21,7 @@ pub mod WorkParts
 pub mod WorkRows
 pub mod SeenState
 pub mod SeenRows
+pub mod Rising
+pub mod Counts
+pub mod Adopt
+pub mod Order

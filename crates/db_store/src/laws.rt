@@ -1,5 +1,5 @@
 //! Laws of the definitions: each function does nothing, and its contract is the law.
-ghost use Rattle.db_store.specs.Laws.{GrowthApplies, PartsStay, SoundStays, NewIsSound, CountedStays, NewIsCounted};
+ghost use Rattle.db_store.specs.Laws.{GrowthApplies, PartsStay, SoundStays, NewIsSound, CountedStays, NewIsCounted, OrderedStays, NewIsOrdered, CommonIsLast, CommonIsProper, CommonStays};
 
 /// The dataset of a state grows as the model says.
 pub fn growth_applies()
@@ -29,4 +29,21 @@ pub fn counted_stays()
 /// The tables of a new dataset do.
 pub fn new_is_counted()
     ensures { NewIsCounted }
+{}
+
+/// Growth keeps that the root stands first in the order made, and each version behind its parents.
+pub fn ordered_stays()
+    ensures { OrderedStays }
+{}
+
+/// The order made of a new dataset has it.
+pub fn new_is_ordered()
+    ensures { NewIsOrdered }
+{}
+
+/// The common ancestor of two versions is the one made last. It is made, and growth leaves it.
+pub fn common_ancestors()
+    ensures last { CommonIsLast }
+    ensures proper { CommonIsProper }
+    ensures stays { CommonStays }
 {}

@@ -8,6 +8,7 @@
 //! |---|---|
 //! | `specs/Table.antt`, `specs/Dataset.antt` | tables and datasets |
 //! | `specs/Fits.antt` | which entries fit |
+//! | `specs/Order.antt` | the order made, and common ancestors |
 //! | `specs/Sound.antt`, `specs/Counted.antt` | what every dataset has that entries make of a new one |
 //! | `specs/State.antt`, `specs/Laws.antt` | states, and what growth keeps |
 //! | `specs/Parts.antt` | the parts of a view |
@@ -15,10 +16,12 @@
 //! | `src/laws.rt` | the laws, each the contract of a function that does nothing |
 //! | `specs/Overlay.antt`, `specs/Work.antt`, `specs/WorkParts.antt` | working tables and their parts |
 //! | `src/work.rt`, `src/work_view.rt` | the working table of a transaction, and the view that it is |
+//! | `specs/Adopt.antt`, `src/adopt.rt` | the changes of a merge, made all at once |
 //! | `src/layer.rt`, `src/touched.rt` | what it did to one relation, and to which keys |
 //! | `src/seen.rt` | a view that was lent, or a working table |
 #![tactic(auto)]
 
+mod adopt;
 pub mod laws;
 mod layer;
 mod seen;

@@ -5,6 +5,7 @@ ghost use Rattle.db_store.specs.Dataset.{branch_named, branch_at, last_of, table
 ghost use Rattle.db_store.specs.Fits.{fits, IsCommit, IsBranch, AreApart};
 ghost use Rattle.db_store.specs.Sound.{IsSound};
 ghost use Rattle.db_store.specs.Counted.{IsCounted};
+ghost use Rattle.db_store.specs.Order.{common, IsOrdered};
 ghost use Rattle.db_store.specs.State.{State, dataset_of, grow};
 ghost use Rattle.db_store.specs.Parts.{IsViewable, AreOf};
 
@@ -76,6 +77,14 @@ pub trait Store: Drop {
         ensures first { result.first ≡ first_parent (dataset_of (state self.now)) (proper (dataset_of (state self.now)) at) }
         ensures second { result.second ≡ second_parent (dataset_of (state self.now)) (proper (dataset_of (state self.now)) at) };
 
+    /// Of the versions that are ancestors of those at both places, the one made last, by its proper
+    /// name. A version is its own ancestor.
+    fn common(&self, a: VersionPlace, b: VersionPlace) -> Result<VersionPlace, AllocError>
+        requires a_made { IsMade (dataset_of (state self.now)) a }
+        requires b_made { IsMade (dataset_of (state self.now)) b }
+        ensures common { IfOk result (λ c. c ≡ common (dataset_of (state self.now)) a b) }
+        ensures made { IfOk result (λ c. IsMade (dataset_of (state self.now)) c) };
+
     /// Does the entry fit the dataset?
     fn fits(&self, entry: &Entry) -> bool
         ensures { result ≡ fits (dataset_of (state self.now)) entry.now };
@@ -128,6 +137,9 @@ pub trait Store: Drop {
 
     /// Every state has what entries keep: a branch at least, and no place that isn't made.
     ghost sound: { (s : Self) → IsSound (dataset_of (state s)) };
+
+    /// In every state the root stands first in the order made, and each version behind its parents.
+    ghost ordered: { (s : Self) → IsOrdered (dataset_of (state s)) };
 
     /// In every state each version has a table of the schema: as many relations, in each a field for
     /// each column, and no more keys than there can be.

@@ -1,5 +1,6 @@
 //! A working table: the changes of a transaction over a view.
-ghost use Rattle.std.specs.Prelude.{◌≡◌, ℕ, ◌+◌, ◌^◌, ◌<◌, ◌≤◌, ◌⊎◌, List, None, Some, Err, length, take, set, is_some, IfOk, IfSome, IfNone, OnOk, OnErr, true};
+ghost use Rattle.std.specs.List.{list_all};
+ghost use Rattle.std.specs.Prelude.{◌≡◌, ℕ, ◌+◌, ◌^◌, ◌<◌, ◌≤◌, ◌⊎◌, nat_lt, List, None, Some, Err, length, take, set, is_some, IfOk, IfSome, IfNone, OnOk, OnErr, true};
 ghost use Rattle.std.specs.FinMap as finite;
 ghost use Rattle.db_store.specs.Table.{relation_at, with_changes};
 ghost use Rattle.db_store.specs.Fits.{most_keys, ascends, is_within};
@@ -7,9 +8,11 @@ ghost use Rattle.db_store.specs.Parts.{IsViewable, part_at, slot_at};
 ghost use Rattle.db_store.specs.Overlay.{Overlay, changes_from, count_touched, count_with, untouched, touch, is_touched};
 ghost use Rattle.db_store.specs.Touched.{state_of, place_of};
 ghost use Rattle.db_store.specs.Layers.{overlays_in, all_once, AreCounted, AreFew, touches_at};
+ghost use Rattle.db_store.specs.Adopt.{keys_differ, touched_by, full_from, adopt_stop, AreCountsOf};
 ghost use Rattle.db_store.specs.Work.{table_of, fields_at, len_after, with_sets, has_room, room_stop, insert_stop, change_stop, inserted, updated_at, deleted_at};
 
-use crate::layer::Layer;
+use crate::adopt::{counts_after, layers_with};
+use crate::layer::{Layer, blank_layers};
 use crate::touched::Touch;
 use crate::{Spot, View};
 use db_value::{Change, Changes, Fields, ListOf, Record, Set, Sets, Steps};
@@ -17,9 +20,6 @@ use std::alloc::{AllocError, Global};
 use std::marker::Brand;
 use std::sync::ledger::{Blank, Ledger};
 use thiserror::Error;
-
-/// The most relations of a schema.
-const MOST_RELATIONS: usize = 8;
 
 /// The most keys of a relation.
 const MOST_KEYS: u32 = 262_144;
@@ -33,9 +33,9 @@ pub enum WorkStop {
     /// An update or a deletion of a key that isn't there.
     #[error("key missing")]
     KeyMissing,
-    /// The relation has as many keys as it can have.
+    /// The relation has as many keys as it can have, or would have more.
     #[error("table full")]
-    TableFull,
+    TableFull { relation: u8 },
     /// The room of touched keys is used up.
     #[error("room")]
     Room,
@@ -156,10 +156,7 @@ impl<V: View> Work<V> {
         ensures overlays { IfOk result (λ w. overlays_of w ≡ untouched) }
         ensures room { IfOk result (λ w. room_of w ≡ room) }
     {
-        let mut layers = Vec::with_capacity(alloc, MOST_RELATIONS)?;
-        for _ in 0..MOST_RELATIONS {
-            layers.push(Layer::new(alloc))?;
-        }
+        let layers = blank_layers(alloc)?;
         Ok(Work {
             view,
             room,
@@ -328,7 +325,7 @@ impl<V: View> Work<V> {
             None => {
                 let count = self.count_of(relation);
                 if count >= MOST_KEYS {
-                    return Err(WorkStop::TableFull);
+                    return Err(WorkStop::TableFull { relation });
                 }
                 self.put(relation, row, true, count + 1)
             }
@@ -370,6 +367,56 @@ impl<V: View> Work<V> {
             Some(fields) => {
                 let count = self.count_of(relation);
                 self.put(relation, &Record { key, fields }, false, count - 1)
+            }
+        }
+    }
+
+    /// Makes all changes of a merge, of which no two are of one key, where nothing is touched yet.
+    /// They are refused where a relation would have more keys than it can have, of which the first
+    /// is told, and where they outnumber the room.
+    pub fn adopt(&mut self, changes: &Changes) -> Result<(), WorkStop>
+        requires untouched { overlays_of self.old ≡ untouched }
+        requires relations { list_all (λ c. nat_lt c.relation (length (V.table (under_of self.old)))) changes.now ≡ true }
+        requires differ { keys_differ changes.now ≡ true }
+        ensures ok { OnOk result (adopt_stop (working_of self.old) changes.now ≡ None) }
+        ensures changed { OnOk result (overlays_of self.new ≡ touched_by (overlays_of self.old) changes.now) }
+        ensures made { OnOk result (table_of (working_of self.new) ≡ with_changes (table_of (working_of self.old)) changes.now) }
+        ensures stop { (stop : WorkStop) → result ≡ Err stop → (stop ≡ WorkStop.Memory) ⊎ (adopt_stop (working_of self.old) changes.now ≡ Some stop) }
+        ensures err { OnErr result (overlays_of self.new ≡ overlays_of self.old) }
+        ensures under { under_of self.new ≡ under_of self.old }
+        ensures room { room_of self.new ≡ room_of self.old }
+    {
+        let changes = changes.as_slice();
+        match counts_after(&self.view, changes) {
+            Err(relation) => Err(WorkStop::TableFull { relation }),
+            Ok(counts) => self.take_all(changes, &counts),
+        }
+    }
+
+    // Makes all changes, if there is room. The relations that change then have so many keys.
+    fn take_all(&mut self, changes: &[Change], counts: &[u32; 8]) -> Result<(), WorkStop>
+        requires untouched { overlays_of self.old ≡ untouched }
+        requires relations { list_all (λ c. nat_lt c.relation (length (V.table (under_of self.old)))) changes.now ≡ true }
+        requires differ { keys_differ changes.now ≡ true }
+        requires counts { AreCountsOf counts.now (table_of (working_of self.old)) changes.now }
+        requires free { full_from 0 (with_changes (table_of (working_of self.old)) changes.now) ≡ None }
+        ensures ok { OnOk result (adopt_stop (working_of self.old) changes.now ≡ None) }
+        ensures changed { OnOk result (overlays_of self.new ≡ touched_by (overlays_of self.old) changes.now) }
+        ensures made { OnOk result (table_of (working_of self.new) ≡ with_changes (table_of (working_of self.old)) changes.now) }
+        ensures stop { (stop : WorkStop) → result ≡ Err stop → (stop ≡ WorkStop.Memory) ⊎ (adopt_stop (working_of self.old) changes.now ≡ Some stop) }
+        ensures err { OnErr result (overlays_of self.new ≡ overlays_of self.old) }
+        ensures under { under_of self.new ≡ under_of self.old }
+        ensures room { room_of self.new ≡ room_of self.old }
+    {
+        if changes.len() > self.room as usize {
+            return Err(WorkStop::Room);
+        }
+        match layers_with(*self.layers.allocator(), changes, counts) {
+            Err(AllocError) => Err(WorkStop::Memory),
+            Ok(layers) => {
+                self.layers = layers;
+                self.touched = changes.len() as u32;
+                Ok(())
             }
         }
     }

@@ -1,6 +1,6 @@
 -- Branches that are kept, and what they are in the dataset.
-use Rattle.std.proofs.Common.{◌≡◌, ℕ, zero, suc, ◌+◌, ◌-◌, ◌*◌, ◌/◌, ◌%◌, ◌^◌, ◌<◌, ◌≤◌, Bool, true, cond, List, [], ◌∷◌, ◌++◌, length, map, set, get_or, refl, arith, ap, sym, ◌∙◌, Some, None, nat_lt}
-use Rattle.std.specs.Prelude.{position, not, codes}
+use Rattle.std.proofs.Common.{◌≡◌, ℕ, zero, suc, ◌+◌, ◌-◌, ◌*◌, ◌/◌, ◌%◌, ◌^◌, ◌<◌, ◌≤◌, Bool, true, cond, List, [], ◌∷◌, ◌++◌, length, map, set, get_or, refl, arith, ap, sym, ◌∙◌, subst, Some, None, nat_lt}
+use Rattle.std.specs.Prelude.{position, not, codes, IfSome, Option}
 use Rattle.std.specs.List.{All, AllZip, list_all, position_or_len}
 use Rattle.std.proofs.lemmas.Bool.{and_parts}
 use Rattle.std.proofs.lemmas.List.{length-map, map-set, map-append, get_or-map, length_push}
@@ -12,10 +12,13 @@ use Rattle.db_value.specs.declared.entry.Entry.{Entry}
 use Rattle.db_value.specs.declared.entry.Entry.TheVariants.{Commit, Branch as NewBranch}
 use Rattle.db_store.specs.Table.{Table, relation_at, rows_of, with_changes, empty_table}
 use Rattle.db_store.specs.Dataset.{Version, Branch, Dataset, branch_at, no_branch, table_at, head_of, is_made, IsMade, next_place, grown, apply, new_dataset, master_of, root}
-use Rattle.db_store.specs.Fits.{fits, changes_of, change_fits, ascends}
+use Rattle.db_store.specs.Fits.{fits, second_fits, changes_of, change_fits, ascends}
+use Rattle.db_store.specs.Sound.{IsSound}
+use Rattle.db_store.specs.Order.{lineage, next_parents, IsOrdered}
+use Rattle.db_store.proofs.OrderMade.{lineage_commit, lineage_branch}
 use Rattle.db_store.specs.State.{whole, place_of_id}
 use Rattle.db_store.specs.Parts.{AreOf}
-use Rattle.db_store.specs.Growth.{commit_parts, made_test}
+use Rattle.db_store.specs.Growth.{commit_parts, made_from, made_test}
 use Rattle.plain_store.specs.Plain.{KeptBranch, kept_dataset, HasRoom, Widens, IsNext, IsReady, IsBegun, plain_parts, id_of_place}
 use Rattle.plain_store.proofs.PlainLemmas.{plain_records}
 
@@ -109,7 +112,7 @@ ready_there schema kept order b v (Commit c second changes) r =
     omega (arith, p.there, n, r.1.0)
 ready_there schema kept order b v (NewBranch name origin) r = absurd r.1
 
-weaker : (p q : Change → Bool) → ((c : Change) → p c ≡ true → q c ≡ true) → (cs : List Change) → list_all p cs ≡ true → list_all q cs ≡ true
+pub weaker : (p q : Change → Bool) → ((c : Change) → p c ≡ true → q c ≡ true) → (cs : List Change) → list_all p cs ≡ true → list_all q cs ≡ true
 weaker p q f [] e = refl
 weaker p q f (c ∷ cs) e = let two : (p c ≡ true) × (list_all p cs ≡ true) = and_parts _ _ e in rw (f c two.0) (weaker p q f cs two.1)
 
@@ -138,3 +141,24 @@ room_after n old v h r = let l = length_push old.branch.versions v in omega (ari
 
 pub less_room : (m n : ℕ) (k : KeptBranch) → m ≤ n → HasRoom n k → HasRoom m k
 less_room m n k h r = omega (arith, h, r)
+
+-- the lineage after a version more
+pub kept_lined : (d : Dataset) (b : ℕ) (v : Version) (e : Entry) → IsSound d → IsOrdered d → fits d e ≡ true → IsNext b v d e → lineage (apply d e) ≡ lineage d ++ next_parents d b v.second ∷ []
+kept_lined d b v (Commit c second changes) s o f n =
+    lineage_commit d c second changes s o (commit_parts d c second changes f)
+    ∙ (λ i. lineage d ++ next_parents d (sym n.0 i) (sym (ap (λ (x : Version). x.second) n.1) i) ∷ [])
+kept_lined d b v (NewBranch name origin) s o f n = absurd n
+
+-- and after a new branch
+pub begun_lined : (d : Dataset) (k : KeptBranch) (e : Entry) → IsSound d → IsOrdered d → IsBegun k.branch d e → lineage (apply d e) ≡ lineage d
+begun_lined d k (Commit c second changes) s o n = absurd n
+begun_lined d k (NewBranch name origin) s o n = lineage_branch d name origin s o
+
+-- the second parent that an entry gives is made
+pub second_ready : (d : Dataset) (b : ℕ) (v : Version) (e : Entry) → fits d e ≡ true → IsNext b v d e → IfSome v.second (λ p. IsMade d p)
+second_ready d b v (Commit c second changes) f n = subst (λ (o : Option VersionPlace). IfSome o (λ p. IsMade d p)) (sym (ap (λ (x : Version). x.second) n.1)) (made second (commit_parts d c second changes f).second)
+  where
+    made : (o : Option VersionPlace) → second_fits d o ≡ true → IfSome o (λ p. IsMade d p)
+    made None e = tt
+    made (Some p) e = made_from d p e
+second_ready d b v (NewBranch name origin) f n = absurd n

@@ -3,5 +3,4 @@ mod MergeLemmas
 mod RunLemmas
 pub mod PlainLemmas
 pub mod FitLemmas
-pub mod CountLemmas
 mod KeptLemmas

@@ -9,11 +9,13 @@
 //! | `src/plain_store.rt`, `src/plain_branch.rt` | the store, and one branch of it |
 //! | `src/plain_table.rt`, `src/plain_view.rt` | the table of a version, and its view |
 //! | `src/shelf.rt`, `specs/Sorted.antt` | one relation of a table: its records in order |
+//! | `src/numbers.rt` | the versions by number, and their graph |
 //! | `specs/Merge.antt` | changes of a relation, made in one pass over its records |
-//! | `src/fit.rt`, `specs/Counts.antt` | the test of an entry's changes, and the count of the keys that they leave |
+//! | `src/fit.rt` | the test of an entry's changes, and the count of the keys that they leave |
 #![tactic(auto)]
 
 mod fit;
+mod numbers;
 mod plain_branch;
 mod plain_store;
 mod plain_table;

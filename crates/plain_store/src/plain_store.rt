@@ -8,25 +8,32 @@ ghost use Rattle.db_store.specs.Dataset.{new_dataset, branch_named, branch_at, v
 ghost use Rattle.db_store.specs.Fits.{fits, second_fits, most_branches, most_versions};
 ghost use Rattle.db_store.specs.Sound.{IsSound};
 ghost use Rattle.db_store.specs.Counted.{IsCounted};
+ghost use Rattle.db_store.specs.Order.{numbers_if, number_of, lineage, IsOrdered};
 ghost use Rattle.db_store.specs.State.{whole};
+ghost use Rattle.plain_store.specs.Numbers.{list_if};
 ghost use Rattle.plain_store.specs.Plain.{id_of_place, kept_dataset, HasRoom, Widens, IsReady, IsReadyBranch};
 
 use crate::PlainView;
 use crate::fit::{
     branch_of, changes_fit, changes_of, is_within, makes_version, name_of, origin_of, second_of,
 };
+use crate::numbers::{add_version, new_graph, number_in, reserve_versions};
 use crate::plain_branch::{PlainBranch, PlainVersion};
 use crate::plain_table::PlainTable;
 use db_store::{Parents, Store};
 use db_value::{Change, Entry, Name, Schema, VersionPlace};
 use std::alloc::{AllocError, Global};
 use std::sync::Arc;
+use version_graph::Graph;
 
 /// The most branches.
 const MOST_BRANCHES: usize = 1024;
 
 /// The most versions of a branch.
 const MOST_VERSIONS: usize = 65_536;
+
+/// More versions than can be numbered.
+const MOST_NUMBERS: usize = 0x1_0000_0000;
 
 /// A commit that is ready: the version that it makes, and its branch.
 #[derive(Drop)]
@@ -49,6 +56,7 @@ pub struct PlainStore {
     schema: Schema,
     branches: Vec<PlainBranch>,
     order: Vec<VersionPlace>,
+    graph: Graph,
     spare: usize,
     ghost sound: { IsSound (kept_dataset schema branches.items order.items) },
     ghost counted: { IsCounted (kept_dataset schema branches.items order.items) },
@@ -56,6 +64,10 @@ pub struct PlainStore {
     ghost branch_room: { most_branches ≤ vec_capacity branches },
     ghost rooms: { All (HasRoom spare) branches.items },
     ghost order_room: { vec_len order + spare ≤ vec_capacity order },
+    ghost ordered: { IsOrdered (kept_dataset schema branches.items order.items) },
+    ghost lined: { graph.versions ≡ lineage (kept_dataset schema branches.items order.items) },
+    ghost graph_room: { spare ≤ graph.spare },
+    ghost numbered: { length order.items + spare < 2 ^ 32 },
 }
 
 // The first branch with a name.
@@ -117,11 +129,13 @@ impl PlainStore {
         branches.push(master)?;
         let mut order = Vec::new(alloc);
         order.push(root)?;
+        let graph = new_graph(alloc)?;
         Ok(PlainStore {
             alloc,
             schema,
             branches,
             order,
+            graph,
             spare: 0,
         })
     }
@@ -227,14 +241,38 @@ impl PlainStore {
         }
     }
 
+    // The number of the version at a made place.
+    fn number(&self, at: VersionPlace) -> u32
+        requires { IsMade (dataset_in self.now) at }
+        ensures number { result ≡ number_of (dataset_in self.now) at }
+        ensures there { result < length self.now.graph.versions }
+    {
+        number_in(&self.order, self.made_at(at))
+    }
+
+    fn number_if(&self, at: Option<VersionPlace>) -> Option<u32>
+        requires { IfSome at (λ p. IsMade (dataset_in self.now) p) }
+        ensures number { list_if result ≡ numbers_if (dataset_in self.now).order (proper_if (dataset_in self.now) at) }
+        ensures there { IfSome result (λ n. n < length self.now.graph.versions) }
+    {
+        match at {
+            None => None,
+            Some(at) => Some(self.number(at)),
+        }
+    }
+
     // Makes room for one version more on every branch.
     fn raise(&mut self) -> Result<(), AllocError>
         ensures raised { OnOk result (spare_of self.new ≡ spare_of self.old + 1) }
         ensures spare { OnErr result (spare_of self.new ≡ spare_of self.old) }
         ensures state { state_of self.new ≡ state_of self.old }
     {
-        let spare = self.spare.checked_add(1).ok_or(AllocError)?;
+        let spare = self.spare + 1;
+        if self.order.len() + spare >= MOST_NUMBERS {
+            return Err(AllocError);
+        }
         self.order.reserve(spare)?;
+        reserve_versions(&mut self.graph, spare as u32)?;
         match reserve_all(&mut self.branches, spare) {
             Ok(()) => {}
             Err(stop) => return Err(stop),
@@ -265,6 +303,8 @@ impl Store for PlainStore {
     ghost lasts = { λ p s e f r apart. ready_lasts p.branch p.version s e f r apart };
 
     ghost sound = { λ s. s.sound };
+
+    ghost ordered = { λ s. s.ordered };
 
     ghost counted = { λ s. s.counted };
 
@@ -313,6 +353,11 @@ impl Store for PlainStore {
         }
     }
 
+    fn common(&self, a: VersionPlace, b: VersionPlace) -> Result<VersionPlace, AllocError> {
+        let last = self.graph.common(self.number(a), self.number(b))?;
+        Ok(self.order[last as usize])
+    }
+
     fn fits(&self, entry: &Entry) -> bool {
         match entry {
             Entry::Commit {
@@ -340,11 +385,13 @@ impl Store for PlainStore {
         let schema = self.schema.duplicate()?;
         let branches = duplicates(self.alloc, &self.branches)?;
         let order = Vec::from_slice(self.alloc, self.order.as_slice())?;
+        let graph = self.graph.duplicate()?;
         Ok(PlainStore {
             alloc: self.alloc,
             schema,
             branches,
             order,
+            graph,
             spare: 0,
         })
     }
@@ -359,10 +406,14 @@ impl Store for PlainStore {
 
     fn install(&mut self, prepared: PlainPrepared) {
         let PlainPrepared { branch, version } = prepared;
-        let place = VersionPlace {
+        let position = self.kept(branch).count() as u32;
+        let place = VersionPlace { branch, position };
+        let first = self.number(VersionPlace {
             branch,
-            position: self.kept(branch).count() as u32,
-        };
+            position: position - 1,
+        });
+        let second = self.number_if(version.second());
+        add_version(&mut self.graph, first, second);
         self.branches[branch as usize].push(version);
         self.order.push_reserved(place);
         self.spare -= 1;

@@ -1,3 +1,4 @@
 pub mod Reaching
 pub mod OneSide
 pub mod Visits
+pub mod Passes

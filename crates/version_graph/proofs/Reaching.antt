@@ -16,7 +16,7 @@ pub steps_law : StepsLaw
 steps_law vs a b c (Itself _) k = k
 steps_law vs a b c (Through _ q _ h r) k = Through a q c h (steps_law vs q b c r k)
 
-same_parents : (vs : List (List ℕ)) (ps : List ℕ) (v : ℕ) → v < length vs → parents_of (vs ++ ps ∷ []) v ≡ parents_of vs v
+pub same_parents : (vs : List (List ℕ)) (ps : List ℕ) (v : ℕ) → v < length vs → parents_of (vs ++ ps ∷ []) v ≡ parents_of vs v
 same_parents vs ps v lt = get_or_append_left vs (ps ∷ []) [] v lt
 
 onto_more : (vs : List (List ℕ)) (ps : List ℕ) (a b : ℕ) → AllEarlier vs → a < length vs → Reaches vs a b → Reaches (vs ++ ps ∷ []) a b
@@ -37,7 +37,7 @@ no_parent : (q : ℕ) → Contains {X = ℕ} [] q → ⊥
 no_parent q h = let lt = h.1 in absurd (omega (arith, lt))
 
 -- a parent of a version that is there
-there : (vs : List (List ℕ)) (v q : ℕ) → Contains (parents_of vs v) q → v < length vs
+pub there : (vs : List (List ℕ)) (v q : ℕ) → Contains (parents_of vs v) q → v < length vs
 there vs v q h = ⊎_elim
     (λ (lt : v < length vs). lt)
     (λ (le : length vs ≤ v). absurd (no_parent q (subst (λ (xs : List ℕ). Contains xs q) (get_or_past vs v [] le) h)))

@@ -1,4 +1,5 @@
 pub mod Ancestors
 pub mod Parents
 pub mod Marked
+pub mod LastCommon
 pub mod Laws

@@ -1,6 +1,7 @@
 //! The graph of versions, and its questions.
 ghost use Rattle.std.specs.Prelude.{◌≡◌, ◌↔◌, ◌+◌, ◌-◌, ◌<◌, ◌≤◌, ◌^◌, [], ◌∷◌, ◌++◌, length, All, IsTrue, IfOk, OnOk, OnErr};
 ghost use Rattle.version_graph.specs.Ancestors.{Reaches, AllEarlier, IsLastCommon};
+ghost use Rattle.version_graph.specs.LastCommon.{last_common};
 
 use crate::parents::{Parents, parents_from};
 use crate::walk::last_common_from;
@@ -50,6 +51,14 @@ impl Graph {
         Ok(())
     }
 
+    /// For how many versions more there is room.
+    pub fn spare(&self) -> u32
+        ensures spare { result ≡ self.now.spare }
+        ensures few { length self.now.versions + result < 2 ^ 32 }
+    {
+        self.spare
+    }
+
     /// Adds a version with these parents, and gives its number. It uses up one of those that are
     /// spare, and takes no memory.
     pub fn add(&mut self, parents: &[u32]) -> u32
@@ -74,7 +83,8 @@ impl Graph {
         requires b_there { b < length self.now.versions }
         requires a_descends { Reaches self.now.versions a 0 }
         requires b_descends { Reaches self.now.versions b 0 }
-        ensures { IfOk result (IsLastCommon self.now.versions a b) }
+        ensures common { IfOk result (IsLastCommon self.now.versions a b) }
+        ensures number { IfOk result (λ c. c ≡ last_common self.now.versions a b) }
     {
         let alloc = *self.versions.allocator();
         let high = a.max(b);

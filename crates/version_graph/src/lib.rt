@@ -6,6 +6,7 @@
 //! | file | has |
 //! |---|---|
 //! | `specs/Ancestors.antt` | parents, ancestors, and the last common one |
+//! | `specs/LastCommon.antt` | the same as a function |
 //! | `specs/Laws.antt`, `src/laws.rt` | what reaching says when a graph grows |
 //! | `specs/Parents.antt`, `specs/Marked.antt` | how a graph keeps its versions, and a walk its marks |
 //! | `src/graph.rt` | the graph, and its questions |

@@ -1,10 +1,12 @@
-use Rattle.std.proofs.Common.{◌≡◌, ◌++◌, ◌∷◌, [], ◌∙◌, ap, sym, subst, arith, List}
+use Rattle.std.proofs.Common.{◌≡◌, ◌++◌, ◌∷◌, [], ◌∙◌, ap, sym, subst, arith, length, List}
 use Rattle.std.proofs.lemmas.List.Elements.{All-same, All-push, All-nil}
 use Rattle.db_value.specs.declared.version.VersionPlace.{VersionPlace}
 use Rattle.db_store.specs.Table.{empty_table}
 use Rattle.db_store.specs.Dataset.{new_dataset, root}
 use Rattle.db_store.specs.Sound.{IsSound}
 use Rattle.db_store.specs.Counted.{IsCounted}
+use Rattle.db_store.specs.Order.{lineage, IsOrdered}
+use Rattle.db_store.proofs.OrderMade.{new_ordered}
 use Rattle.plain_store.specs.Plain.{KeptBranch, kept_dataset, HasRoom}
 use Rattle.db_store.proofs.SoundLemmas.{new_sound}
 use Rattle.db_store.proofs.CountedLemmas.{new_is_counted}
@@ -27,4 +29,8 @@ invariant_of-result c =
       branch_room = omega (arith, c.in_ok-branches.ensures.capacity, c.in_ok-push.ensures.capacity);
       rooms = All-same (HasRoom 0) _ _ items (All-push (HasRoom 0) [] c.in_ok-master.master (All-nil (HasRoom 0)) c.in_ok-master.ensures.room);
       order_room = omega arith;
+      ordered = subst IsOrdered (sym is) (new_ordered schema);
+      lined = c.in_ok-graph.ensures.versions ∙ sym (ap lineage is);
+      graph_room = omega arith;
+      numbered = omega (arith, ap length order);
     }

@@ -1,10 +1,11 @@
-use Rattle.std.proofs.Common.{◌≡◌, ◌∙◌, ap, sym, subst, arith, List, map}
+use Rattle.std.proofs.Common.{◌≡◌, ◌+◌, ◌∙◌, ap, sym, subst, arith, length, List, map}
 use Rattle.std.specs.List.{AllZip}
 use Rattle.std.specs.Vec.{with_items}
 use Rattle.std.proofs.lemmas.List.{with_items_is}
 use Rattle.std.proofs.lemmas.List.Elements.{All-same, length_all_zip}
 use Rattle.db_store.specs.Sound.{IsSound}
 use Rattle.db_store.specs.Counted.{IsCounted}
+use Rattle.db_store.specs.Order.{lineage, IsOrdered}
 use Rattle.db_store.specs.State.{whole}
 use Rattle.plain_store.specs.Plain.{KeptBranch, kept_dataset, HasRoom, Widens}
 use Rattle.plain_store.specs.PlainStore.{dataset_in}
@@ -28,6 +29,10 @@ invariant_of-self-in-Err-1 c =
       branch_room = s.branch_room;
       rooms = All-same (HasRoom s.spare) _ _ same (zip_rooms s.spare old.items new zip s.rooms);
       order_room = omega (arith, s.order_room, c.in_ok-reserve.ensures.len, c.in_ok-reserve.ensures.capacity);
+      ordered = subst IsOrdered (sym is) s.ordered;
+      lined = c.reserve_versions.ensures.versions ∙ s.lined ∙ sym (ap lineage is);
+      graph_room = omega (arith, s.graph_room, c.reserve_versions.ensures.kept);
+      numbered = omega (arith, s.numbered, ap length order);
     }
 
 pub returns-in-Err-clause-state : goal.returns-in-Err-clause-state
@@ -57,8 +62,12 @@ invariant_of-self-2 c =
       counted = subst IsCounted (sym is) s.counted;
       few_relations = s.few_relations;
       branch_room = s.branch_room;
-      rooms = All-same (HasRoom c.in_ok-spare.spare) _ _ same c.in-Ok.ensures.room;
+      rooms = All-same (HasRoom (s.spare + 1)) _ _ same c.in-Ok.ensures.room;
       order_room = omega (arith, c.in_ok-reserve.ensures.len, c.in_ok-reserve.ensures.ok);
+      ordered = subst IsOrdered (sym is) s.ordered;
+      lined = c.reserve_versions.ensures.versions ∙ s.lined ∙ sym (ap lineage is);
+      graph_room = c.in_ok-reserve_versions.ensures.ok;
+      numbered = omega (arith, ap length order, c.if-len-spare-ge-MOST_NUMBERS.false, c.len.ensures);
     }
 
 pub returns-clause-state : goal.returns-clause-state

@@ -1,17 +1,19 @@
--- How many keys there are after changes of ascending keys.
+-- How many keys there are after changes of different keys.
 use Rattle.std.proofs.Common.{◌≡◌, ◌≢◌, ℕ, ◌+◌, ◌-◌, ◌<◌, ◌==◌, ◌&&◌, Bool, true, false, cond, List, [], ◌∷◌, length, refl, arith, ap, sym, ◌∙◌, subst, Option, Some, None, inl, inr, ◌⊎◌, nat_lt, nat_cmp}
-use Rattle.std.specs.Prelude.{is_some}
+use Rattle.std.specs.Prelude.{is_some, not, ◌||◌}
+use Rattle.std.specs.List.{list_any}
 use Rattle.std.specs.FinMap.{get, len, empty, get-insert, get-remove, len-insert, len-remove}
 use Rattle.std.specs.Ordering.{eq_by_cmp}
 use Rattle.std.proofs.lemmas.Cmp.{nat_cmp_total}
 use Rattle.std.specs.Cmp.{unsigned_tied}
-use Rattle.std.proofs.lemmas.Bool.{and_parts, and_from, or_cases, ltb-true, lt-ltb, eqb-true, eq-eqb, or_left, or_right, cases_eq, ne_eqb}
+use Rattle.std.proofs.lemmas.Bool.{and_parts, and_from, or_cases, or_parts, not-true, false≢true, ltb-true, lt-ltb, eqb-true, eq-eqb, or_left, or_right, cases_eq, ne_eqb}
 use Rattle.std.proofs.lemmas.List.{length-set, get_or-set_same, get_or-set_other}
 use Rattle.db_value.specs.Value.{Value}
 use Rattle.db_value.specs.declared.entry.Change.{Change}
 use Rattle.db_store.specs.Table.{Contents, Table, relation_at, changed, with_change, with_changes}
 use Rattle.db_store.specs.Fits.{is_before, first_is_before, ascends}
-use Rattle.plain_store.specs.Counts.{after, recounted, counted}
+use Rattle.db_store.specs.Adopt.{is_of_key, keys_differ}
+use Rattle.db_store.specs.Counts.{after, recounted, counted}
 
 -- changes keep how many relations there are
 pub length_with_changes : (t : Table) (cs : List Change) → length (with_changes t cs) ≡ length t
@@ -92,6 +94,25 @@ all_after : (c : Change) (cs : List Change) → first_is_before (c ∷ cs) ≡ t
 all_after c [] f a = tt
 all_after c (d ∷ ds) f a = let p = and_parts _ _ a in let h = before_fact c d f in (h, all_after c ds (skip_one c d ds h p.0) p.1)
 
+before_differs : (c d : Change) → Before c d → is_of_key c d ≡ false
+before_differs c d (inl l) = ap (λ (b : Bool). b && c.key == d.key) (ne_eqb c.relation d.relation (λ e. omega (arith, l, e)))
+before_differs c d (inr r) = ap (λ (b : Bool). (c.relation == d.relation) && b) (ne_eqb c.key d.key (λ e. omega (arith, r.1, e))) ∙ never (c.relation == d.relation)
+  where
+    never : (b : Bool) → (b && false) ≡ false
+    never true = refl
+    never false = refl
+
+after_differ : (c : Change) (cs : List Change) → AllAfter c cs → list_any (is_of_key c) cs ≡ false
+after_differ c [] a = refl
+after_differ c (d ∷ ds) a = ap (λ (b : Bool). b || list_any (is_of_key c) ds) (before_differs c d a.0) ∙ after_differ c ds a.1
+
+-- ascending changes are of different keys
+pub ascending_differ : (cs : List Change) → ascends cs ≡ true → keys_differ cs ≡ true
+ascending_differ [] a = refl
+ascending_differ (c ∷ cs) a =
+    let p = and_parts (first_is_before (c ∷ cs)) (ascends cs) a in
+    ap (λ (b : Bool). not b && keys_differ cs) (after_differ c cs (all_after c cs p.0 p.1)) ∙ ascending_differ cs p.1
+
 -- at the keys of changes of a relation two contents have the same
 abbrev Agree : ℕ → Contents → Contents → List Change → Type 0
 Agree r m n [] = Unit {0}
@@ -101,19 +122,20 @@ agree_self : (r : ℕ) (m : Contents) (cs : List Change) → Agree r m m cs
 agree_self r m [] = tt
 agree_self r m (c ∷ cs) = (λ e. refl, agree_self r m cs)
 
-agree_changed : (r : ℕ) (m n : Contents) (c : Change) (cs : List Change) → c.relation ≡ r → AllAfter c cs → Agree r m n cs → Agree r m (changed n c.key c.fields) cs
+agree_changed : (r : ℕ) (m n : Contents) (c : Change) (cs : List Change) → c.relation ≡ r → list_any (is_of_key c) cs ≡ false → Agree r m n cs → Agree r m (changed n c.key c.fields) cs
 agree_changed r m n c [] e a g = tt
-agree_changed r m n c (d ∷ ds) e a g = (λ q. g.0 q ∙ sym (other_key n c.key d.key c.fields (apart a.0 q)), agree_changed r m n c ds e a.1 g.1)
+agree_changed r m n c (d ∷ ds) e a g =
+    let two = or_parts (is_of_key c d) (list_any (is_of_key c) ds) a in
+    (λ q. g.0 q ∙ sym (other_key n c.key d.key c.fields (apart two.0 q)), agree_changed r m n c ds e two.1 g.1)
   where
-    apart : Before c d → d.relation ≡ r → d.key ≢ c.key
-    apart (inl l) q = absurd (omega (arith, l, e, q))
-    apart (inr l) q = λ k. absurd (omega (arith, l.1, k))
+    apart : is_of_key c d ≡ false → d.relation ≡ r → d.key ≢ c.key
+    apart f q = λ k. false≢true (sym f ∙ and_from (c.relation == d.relation) (c.key == d.key) (eq-eqb c.relation d.relation (e ∙ sym q)) (eq-eqb c.key d.key (sym k)))
 
-counted_from : (r : ℕ) (m n : Contents) (cs : List Change) → ascends cs ≡ true → Agree r m n cs → counted r m (len n) cs ≡ len (after r n cs)
+counted_from : (r : ℕ) (m n : Contents) (cs : List Change) → keys_differ cs ≡ true → Agree r m n cs → counted r m (len n) cs ≡ len (after r n cs)
 counted_from r m n [] a g = refl
 counted_from r m n (c ∷ cs) a g =
-    let p : (first_is_before (c ∷ cs) ≡ true) × (ascends cs ≡ true) = and_parts _ _ a in
-    by (c.relation == r) refl (counted_from r m n cs p.1 g.1) (λ e. counted_from r m (changed n c.key c.fields) cs p.1 (agree_changed r m n c cs e (all_after c cs p.0 p.1) g.1))
+    let p : (not (list_any (is_of_key c) cs) ≡ true) × (keys_differ cs ≡ true) = and_parts _ _ a in
+    by (c.relation == r) refl (counted_from r m n cs p.1 g.1) (λ e. counted_from r m (changed n c.key c.fields) cs p.1 (agree_changed r m n c cs e (not-true (list_any (is_of_key c) cs) p.0) g.1))
   where
     by : (b : Bool) → (c.relation == r) ≡ b → counted r m (len n) cs ≡ len (after r n cs) → (c.relation ≡ r → counted r m (len (changed n c.key c.fields)) cs ≡ len (after r (changed n c.key c.fields) cs))
         → counted r m (cond b (recounted (len n) (is_some (get m c.key)) (is_some c.fields)) (len n)) cs ≡ len (after r (cond b (changed n c.key c.fields) n) cs)
@@ -124,6 +146,6 @@ counted_from r m n (c ∷ cs) a g =
         ∙ more is
     by false e same more = same
 
--- changes of ascending keys are counted one by one
-pub counted_is : (r : ℕ) (m : Contents) (cs : List Change) → ascends cs ≡ true → counted r m (len m) cs ≡ len (after r m cs)
+-- changes of different keys are counted one by one
+pub counted_is : (r : ℕ) (m : Contents) (cs : List Change) → keys_differ cs ≡ true → counted r m (len m) cs ≡ len (after r m cs)
 counted_is r m cs a = counted_from r m m cs a (agree_self r m cs)
