@@ -1,0 +1,61 @@
+use Rattle.std.proofs.Common.{◌≡◌, ap, sym, ◌∙◌, ◌<◌, ◌≤◌, List, [], length, Ok, arith}
+use Rattle.std.specs.List.{list_all}
+use Rattle.std.specs.FinMap as finite
+use Rattle.db_value.specs.declared.entry.Change.{Change}
+use Rattle.db_store.specs.Table.{relation_at, with_changes}
+use Rattle.db_store.specs.Fits.{ascends, change_fits}
+use Rattle.field_merge.specs.Merge.{Clash, least_clash, relation_changes, relation_clashes, table_changes, table_clashes}
+use Rattle.field_merge.proofs.TableLemmas.{gathered_more, none_more, least_of, none_left, gathered_all, same_stop}
+use Rattle.field_merge.proofs.MadeLemmas.{merged_table}
+use Rattle.field_merge.proofs.OrderLemmas.{merged_ascends, merged_fits}
+use Rattle.field_merge.proofs.tables.merge_tables.Goals as goal
+
+pub loop-relation-preserved : goal.loop-relation-preserved
+loop-relation-preserved g c =
+    let base = g.B.View.table c.args.base.now in
+    let left = g.L.View.table c.args.left.now in
+    let right = g.R.View.table c.args.right.now in
+    let h : c.loop-relation.relation < length left = omega (arith, c.loop-relation-test.true, c.relation_count-relation-end.ensures, c.requires.left.wide) in
+    record {
+      changes = gathered_more (λ r. relation_changes c.args.prefer r (relation_at base r) (relation_at left r) (relation_at right r)) c.loop-relation.relation (length left) _ _ (table_changes c.args.prefer base left right) h c.in-Ok.ensures.changes c.loop-relation.invariant.changes;
+      clashes = none_more (λ r. relation_clashes c.args.prefer r (relation_at base r) (relation_at left r) (relation_at right r)) c.loop-relation.relation (length left) (table_clashes c.args.prefer base left right) h c.in-Ok.ensures.free c.loop-relation.invariant.clashes;
+    }
+
+pub returns-in-Err-clause-conflict : goal.returns-in-Err-clause-conflict
+returns-in-Err-clause-conflict g c = λ r k f e.
+    let base = g.B.View.table c.args.base.now in
+    let left = g.L.View.table c.args.left.now in
+    let right = g.R.View.table c.args.right.now in
+    let clash : Clash = record { relation = r; key = k; field = f } in
+    let h : c.loop-relation.relation < length left = omega (arith, c.loop-relation-test.true, c.relation_count-relation-end.ensures, c.requires.left.wide) in
+    ap least_clash (sym c.loop-relation.invariant.clashes)
+    ∙ least_of (λ r. relation_clashes c.args.prefer r (relation_at base r) (relation_at left r) (relation_at right r)) c.loop-relation.relation (length left) clash h (c.in-Err.ensures.conflict r k f (same_stop _ _ e))
+
+pub returns-clause-order : goal.returns-clause-order
+returns-clause-order g c =
+    let base = g.B.View.table c.args.base.now in
+    let left = g.L.View.table c.args.left.now in
+    let right = g.R.View.table c.args.right.now in
+    let h : length left ≤ c.loop-relation.relation = omega (arith, c.loop-relation-test.false, c.relation_count-relation-end.ensures, c.requires.left.wide) in
+    ap ascends (c.of.ensures ∙ gathered_all (λ r. relation_changes c.args.prefer r (relation_at base r) (relation_at left r) (relation_at right r)) c.loop-relation.relation (length left) _ _ h c.loop-relation.invariant.changes)
+    ∙ merged_ascends c.args.prefer base left right
+
+pub returns-clause-fit : goal.returns-clause-fit
+returns-clause-fit g c =
+    let base = g.B.View.table c.args.base.now in
+    let left = g.L.View.table c.args.left.now in
+    let right = g.R.View.table c.args.right.now in
+    let h : length left ≤ c.loop-relation.relation = omega (arith, c.loop-relation-test.false, c.relation_count-relation-end.ensures, c.requires.left.wide) in
+    ap (list_all (change_fits c.args.schema.now)) (c.of.ensures ∙ gathered_all (λ r. relation_changes c.args.prefer r (relation_at base r) (relation_at left r) (relation_at right r)) c.loop-relation.relation (length left) _ _ h c.loop-relation.invariant.changes)
+    ∙ merged_fits c.args.schema.now c.args.prefer base left right c.requires.left c.requires.right
+
+pub returns-clause-made : goal.returns-clause-made
+returns-clause-made g c = λ r key l.
+    let base = g.B.View.table c.args.base.now in
+    let left = g.L.View.table c.args.left.now in
+    let right = g.R.View.table c.args.right.now in
+    let h : length left ≤ c.loop-relation.relation = omega (arith, c.loop-relation-test.false, c.relation_count-relation-end.ensures, c.requires.left.wide) in
+    let is : c.of.result ≡ table_changes c.args.prefer base left right = c.of.ensures ∙ gathered_all (λ r. relation_changes c.args.prefer r (relation_at base r) (relation_at left r) (relation_at right r)) c.loop-relation.relation (length left) _ _ h c.loop-relation.invariant.changes in
+    let free : table_clashes c.args.prefer base left right ≡ [] = sym c.loop-relation.invariant.clashes ∙ none_left (λ r. relation_clashes c.args.prefer r (relation_at base r) (relation_at left r) (relation_at right r)) c.loop-relation.relation (length left) h in
+    merged_table c.args.prefer base left right free r key (omega (arith, l, c.requires.left.wide))
+    ∙ ap (λ (cs : List Change). Ok (finite.get (relation_at (with_changes left cs) r) key)) (sym is)

@@ -1,0 +1,3 @@
+pub mod Merge
+pub mod Rows
+pub mod Walk

@@ -1,0 +1,28 @@
+//! The three-way merge of versions, by key and field.
+//!
+//! The layers above rely on two statements: `merge3` is the merge of one key, and `merge_tables`
+//! gives the changes that make the merge of left, or the least conflict. `specs/Merge.antt` defines
+//! both over values.
+//!
+//! | file | has |
+//! |---|---|
+//! | `specs/Merge.antt` | the merge of a field, of a key, of tables |
+//! | `specs/Rows.antt` | the merge of records that have one key |
+//! | `specs/Walk.antt` | the merge of lists of records by key |
+//! | `src/merged.rt`, `src/stop.rt` | what a merge says of one key, and why tables aren't merged |
+//! | `src/one_key.rt` | the merge of three records |
+//! | `src/walk.rt`, `src/tables.rt` | three lists of records walked side by side, relation by relation |
+#![tactic(auto)]
+
+mod merged;
+mod one_key;
+mod stop;
+mod tables;
+#[cfg(test)]
+mod tests;
+mod walk;
+
+pub use merged::Merged;
+pub use one_key::merge3;
+pub use stop::MergeStop;
+pub use tables::merge_tables;
