@@ -1,19 +1,28 @@
 -- What a statement that reads or changes records may do: it is refused, it tells something, or it puts one key.
-use Rattle.std.proofs.Common.{◌≡◌, ℕ, ◌<◌, ◌==◌, Bool, true, false, cond, List, length, refl, arith, Option, Some, None}
+use Rattle.std.proofs.Common.{◌≡◌, ℕ, ◌<◌, ◌==◌, Bool, true, false, cond, List, [], ◌∷◌, length, map, refl, arith, Option, Some, None}
 use Rattle.std.specs.Prelude.{Result, Ok, Err}
 use Rattle.db_value.specs.Value.{Value}
+use Rattle.std.specs.List.{filter}
 use Rattle.db_value.specs.Relations.{columns_at}
+use Rattle.db_value.specs.Condition.{holds}
+use Rattle.db_value.specs.Pred.{first_unknown}
+use Rattle.db_value.specs.declared.record.Record.{Record}
+use Rattle.db_value.specs.declared.schema.Relation.{Relation}
 use Rattle.db_value.specs.declared.version.VersionName.{VersionName}
 use Rattle.db_value.specs.declared.condition.Set.{Set}
+use Rattle.db_value.specs.declared.condition.Term.{Term}
 use Rattle.db_value.specs.declared.reply.Reply.{Reply}
-use Rattle.db_value.specs.declared.reply.Reply.TheVariants.{Done}
+use Rattle.db_value.specs.declared.reply.Reply.TheVariants.{Done, Listed, Paired}
 use Rattle.db_value.specs.declared.reply.Refusal.{Refusal}
+use Rattle.db_store.specs.Table.{rows_of}
 use Rattle.stmt_text.specs.declared.stmt.Stmt.{Stmt}
-use Rattle.stmt_text.specs.declared.stmt.Stmt.TheVariants.{Insert, Update, Delete, Get, Scan}
+use Rattle.stmt_text.specs.declared.stmt.Stmt.TheVariants.{Insert, Update, Delete, Get, Scan, Join, Minus}
 use Rattle.stmt_text.specs.declared.stmt.NamedSet.{NamedSet}
+use Rattle.stmt_text.specs.declared.stmt.ScanOver.{ScanOver}
+use Rattle.stmt_text.specs.declared.stmt.ScanOver.TheVariants.{Current, Named, Heads}
 use Rattle.branch_tx.specs.Keeping.{Keeping}
-use Rattle.branch_tx.specs.Found.{Source, Own, Other, Lacking}
-use Rattle.branch_tx.specs.Act.{Tx, Outcome, Ground, relation_named, resolved, is_plain, refused, answered, changed_to, insert_of, update_in, update_of, delete_of, get_from, source_at, get_of, scan_of, act}
+use Rattle.branch_tx.specs.Found.{Source, Own, Other, Lacking, plain, first_lacking}
+use Rattle.branch_tx.specs.Act.{Tx, Outcome, Ground, relation_named, resolved, refused, answered, unless, column_refusal, changed_to, insert_of, update_in, update_of, delete_of, get_from, source_at, get_of, marked, union_marked, pairs_of, unlike, contents_from, rows_from, scan_versions, scan_over, scan_of, join_in, join_with, join_of, minus_of, act}
 use Rattle.branch_tx.proofs.Images.{named_within}
 
 -- a reply that tells nothing more
@@ -57,17 +66,45 @@ module _ {W : Type 0} (k : Keeping W) (n : ℕ) (tx : Tx W) (P : Outcome W → T
   get_does sources name key at None = refuses _
   get_does sources name key at (Some r) = from_does r key (source_at k sources at)
 
-  scan_does : (name : List ℕ) (o : Option ℕ) → P (scan_of k tx name o)
-  scan_does name None = refuses _
-  scan_does name (Some r) = tells _ refl
+  asked_does : (o : Option Refusal) (x : Outcome W) → P x → P (unless tx o x)
+  asked_does None x h = h
+  asked_does (Some why) x h = refuses why
 
-  pub act_does : (g : Ground) (sources : VersionName → Source) (x : Stmt) → length g.schema ≡ n → P (act k g sources tx x)
-  act_does g sources (Insert name key fields) e = insert_does g name key fields (relation_named g.schema name) (λ r f. let h = named_within g.schema name r f in omega (arith, h, e))
-  act_does g sources (Update name key sets) e = update_of_does g name key sets (relation_named g.schema name) (λ r f. let h = named_within g.schema name r f in omega (arith, h, e))
-  act_does g sources (Delete name key) e = delete_does g name key (relation_named g.schema name) (λ r f. let h = named_within g.schema name r f in omega (arith, h, e))
-  act_does g sources (Get name key at) e = get_does sources name key at (relation_named g.schema name)
-  act_does g sources (Scan name over terms) e = cond_does (is_plain over terms) _ _ (scan_does name (relation_named g.schema name)) (refuses _)
-  act_does g sources _ e = refuses _
+  versions_does : (sources : VersionName → Source) (r : ℕ) (p : Record → Bool) (names : List VersionName) → P (scan_versions k sources tx r p names)
+  versions_does sources r p names = asked_does (first_lacking (map sources names)) _ (tells _ refl)
+
+  over_does : (sources : VersionName → Source) (heads : List (List ℕ)) (r : ℕ) (p : Record → Bool) (over : ScanOver) → P (scan_over k sources heads tx r p over)
+  over_does sources heads r p Current = tells _ refl
+  over_does sources heads r p (Named names) = versions_does sources r p names
+  over_does sources heads r p Heads = versions_does sources r p (map plain heads)
+
+  scan_does : (schema : List Relation) (sources : VersionName → Source) (heads : List (List ℕ)) (name : List ℕ) (over : ScanOver) (terms : List Term) (o : Option ℕ) → P (scan_of k schema sources heads tx name over terms o)
+  scan_does schema sources heads name over terms None = refuses _
+  scan_does schema sources heads name over terms (Some r) =
+      asked_does (column_refusal (first_unknown (columns_at schema r) terms)) _ (over_does sources heads r (holds (columns_at schema r) terms) over)
+
+  join_with_does : (schema : List Relation) (r : ℕ) (name : List ℕ) (left right : Source) (terms : List Term) (o : Option ℕ) → P (join_with k schema tx r name left right terms o)
+  join_with_does schema r name left right terms None = refuses _
+  join_with_does schema r name left right terms (Some s) =
+      asked_does (column_refusal (first_unknown (columns_at schema r) terms)) _ (asked_does (first_lacking (left ∷ right ∷ [])) _ (tells _ refl))
+
+  join_does : (schema : List Relation) (name other : List ℕ) (left right : Source) (terms : List Term) (o q : Option ℕ) → P (join_of k schema tx name other left right terms o q)
+  join_does schema name other left right terms None q = refuses _
+  join_does schema name other left right terms (Some r) q = join_with_does schema r other left right terms q
+
+  minus_does : (name : List ℕ) (left right : Source) (o : Option ℕ) → P (minus_of k tx name left right o)
+  minus_does name left right None = refuses _
+  minus_does name left right (Some r) = asked_does (first_lacking (left ∷ right ∷ [])) _ (tells _ refl)
+
+  pub act_does : (g : Ground) (sources : VersionName → Source) (heads : List (List ℕ)) (x : Stmt) → length g.schema ≡ n → P (act k g sources heads tx x)
+  act_does g sources heads (Insert name key fields) e = insert_does g name key fields (relation_named g.schema name) (λ r f. let h = named_within g.schema name r f in omega (arith, h, e))
+  act_does g sources heads (Update name key sets) e = update_of_does g name key sets (relation_named g.schema name) (λ r f. let h = named_within g.schema name r f in omega (arith, h, e))
+  act_does g sources heads (Delete name key) e = delete_does g name key (relation_named g.schema name) (λ r f. let h = named_within g.schema name r f in omega (arith, h, e))
+  act_does g sources heads (Get name key at) e = get_does sources name key at (relation_named g.schema name)
+  act_does g sources heads (Scan name over terms) e = scan_does g.schema sources heads name over terms (relation_named g.schema name)
+  act_does g sources heads (Join left right v w terms) e = join_does g.schema left right (sources v) (sources w) terms (relation_named g.schema left) (relation_named g.schema right)
+  act_does g sources heads (Minus name v w) e = minus_does name (sources v) (sources w) (relation_named g.schema name)
+  act_does g sources heads _ e = refuses _
 
 -- a transaction that was begun, and what is done in it
 abbrev pub begun : {W : Type 0} → Tx W → Tx W
@@ -111,14 +148,63 @@ module _ {W : Type 0} (k : Keeping W) where
   get_begun sources tx name key at None = refl
   get_begun sources tx name key at (Some r) = from_begun tx r key (source_at k sources at)
 
-  scan_begun : (tx : Tx W) (name : List ℕ) (o : Option ℕ) → scan_of k (begun tx) name o ≡ done_begun (scan_of k tx name o)
-  scan_begun tx name None = refl
-  scan_begun tx name (Some r) = refl
+  asked_begun : (tx : Tx W) (o : Option Refusal) (x' x : Outcome W) → x' ≡ done_begun x → unless (begun tx) o x' ≡ done_begun (unless tx o x)
+  asked_begun tx None x' x e = e
+  asked_begun tx (Some why) x' x e = refl
 
-  pub act_begun : (g : Ground) (sources : VersionName → Source) (tx : Tx W) (x : Stmt) → act k g sources (begun tx) x ≡ done_begun (act k g sources tx x)
-  act_begun g sources tx (Insert name key fields) = insert_begun g tx name key fields (relation_named g.schema name)
-  act_begun g sources tx (Update name key sets) = update_of_begun g tx name key sets (relation_named g.schema name)
-  act_begun g sources tx (Delete name key) = delete_begun g tx name key (relation_named g.schema name)
-  act_begun g sources tx (Get name key at) = get_begun sources tx name key at (relation_named g.schema name)
-  act_begun g sources tx (Scan name over terms) = cond_begun (is_plain over terms) _ _ _ _ (scan_begun tx name (relation_named g.schema name)) refl
-  act_begun g sources tx _ = refl
+  contents_begun : (tx : Tx W) (r : ℕ) (s : Source) → contents_from k (begun tx) r s ≡ contents_from k tx r s
+  contents_begun tx r Own = refl
+  contents_begun tx r (Other table) = refl
+  contents_begun tx r (Lacking why) = refl
+
+  rows_begun : (p : Record → Bool) (tx : Tx W) (r : ℕ) (s : Source) → rows_from k p (begun tx) r s ≡ rows_from k p tx r s
+  rows_begun p tx r s = let e = contents_begun tx r s in λ i. filter p (rows_of (e i))
+
+  versions_begun : (sources : VersionName → Source) (tx : Tx W) (r : ℕ) (p : Record → Bool) (names : List VersionName) → scan_versions k sources (begun tx) r p names ≡ done_begun (scan_versions k sources tx r p names)
+  versions_begun sources tx r p names =
+      asked_begun tx (first_lacking (map sources names)) _ _ (λ i. answered (begun tx) (Listed names (union_marked (map (λ (v : VersionName). rows_begun p tx r (sources v) i) names))))
+
+  over_begun : (sources : VersionName → Source) (heads : List (List ℕ)) (tx : Tx W) (r : ℕ) (p : Record → Bool) (over : ScanOver) → scan_over k sources heads (begun tx) r p over ≡ done_begun (scan_over k sources heads tx r p over)
+  over_begun sources heads tx r p Current = refl
+  over_begun sources heads tx r p (Named names) = versions_begun sources tx r p names
+  over_begun sources heads tx r p Heads = versions_begun sources tx r p (map plain heads)
+
+  scan_begun : (schema : List Relation) (sources : VersionName → Source) (heads : List (List ℕ)) (tx : Tx W) (name : List ℕ) (over : ScanOver) (terms : List Term) (o : Option ℕ)
+      → scan_of k schema sources heads (begun tx) name over terms o ≡ done_begun (scan_of k schema sources heads tx name over terms o)
+  scan_begun schema sources heads tx name over terms None = refl
+  scan_begun schema sources heads tx name over terms (Some r) =
+      asked_begun tx (column_refusal (first_unknown (columns_at schema r) terms)) _ _ (over_begun sources heads tx r (holds (columns_at schema r) terms) over)
+
+  join_in_begun : (tx : Tx W) (r s : ℕ) (left right : Source) (p : Record → Bool) → join_in k (begun tx) r s left right p ≡ done_begun (join_in k tx r s left right p)
+  join_in_begun tx r s left right p =
+      let rows = rows_begun p tx r left in
+      let others = contents_begun tx s right in
+      asked_begun tx (first_lacking (left ∷ right ∷ [])) _ _ (λ i. answered (begun tx) (Paired (pairs_of (rows i) (others i))))
+
+  join_with_begun : (schema : List Relation) (tx : Tx W) (r : ℕ) (name : List ℕ) (left right : Source) (terms : List Term) (o : Option ℕ)
+      → join_with k schema (begun tx) r name left right terms o ≡ done_begun (join_with k schema tx r name left right terms o)
+  join_with_begun schema tx r name left right terms None = refl
+  join_with_begun schema tx r name left right terms (Some s) =
+      asked_begun tx (column_refusal (first_unknown (columns_at schema r) terms)) _ _ (join_in_begun tx r s left right (holds (columns_at schema r) terms))
+
+  join_begun : (schema : List Relation) (tx : Tx W) (name other : List ℕ) (left right : Source) (terms : List Term) (o q : Option ℕ)
+      → join_of k schema (begun tx) name other left right terms o q ≡ done_begun (join_of k schema tx name other left right terms o q)
+  join_begun schema tx name other left right terms None q = refl
+  join_begun schema tx name other left right terms (Some r) q = join_with_begun schema tx r other left right terms q
+
+  minus_begun : (tx : Tx W) (name : List ℕ) (left right : Source) (o : Option ℕ) → minus_of k (begun tx) name left right o ≡ done_begun (minus_of k tx name left right o)
+  minus_begun tx name left right None = refl
+  minus_begun tx name left right (Some r) =
+      let rows = contents_begun tx r left in
+      let others = contents_begun tx r right in
+      asked_begun tx (first_lacking (left ∷ right ∷ [])) _ _ (λ i. answered (begun tx) (Listed [] (map marked (unlike (rows_of (rows i)) (others i)))))
+
+  pub act_begun : (g : Ground) (sources : VersionName → Source) (heads : List (List ℕ)) (tx : Tx W) (x : Stmt) → act k g sources heads (begun tx) x ≡ done_begun (act k g sources heads tx x)
+  act_begun g sources heads tx (Insert name key fields) = insert_begun g tx name key fields (relation_named g.schema name)
+  act_begun g sources heads tx (Update name key sets) = update_of_begun g tx name key sets (relation_named g.schema name)
+  act_begun g sources heads tx (Delete name key) = delete_begun g tx name key (relation_named g.schema name)
+  act_begun g sources heads tx (Get name key at) = get_begun sources tx name key at (relation_named g.schema name)
+  act_begun g sources heads tx (Scan name over terms) = scan_begun g.schema sources heads tx name over terms (relation_named g.schema name)
+  act_begun g sources heads tx (Join left right v w terms) = join_begun g.schema tx left right (sources v) (sources w) terms (relation_named g.schema left) (relation_named g.schema right)
+  act_begun g sources heads tx (Minus name v w) = minus_begun tx name (sources v) (sources w) (relation_named g.schema name)
+  act_begun g sources heads tx _ = refl

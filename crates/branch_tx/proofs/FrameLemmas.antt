@@ -1,6 +1,7 @@
 -- Lines of one transaction give the same before and after entries that spare their needs.
 use Rattle.std.proofs.Common.{◌≡◌, ℕ, ◌<◌, Bool, true, false, cond, List, [], ◌∷◌, length, refl, ap, sym, ◌∙◌, subst, Option, Some, None}
 use Rattle.db_value.specs.declared.schema.Relation.{Relation}
+use Rattle.db_value.specs.declared.condition.Term.{Term}
 use Rattle.db_value.specs.declared.version.VersionName.{VersionName}
 use Rattle.db_value.specs.declared.entry.Entry.{Entry}
 use Rattle.db_value.specs.declared.reply.Reply.{Reply}
@@ -11,17 +12,19 @@ use Rattle.db_store.specs.Dataset.{Dataset, branch_named, head_of, apply}
 use Rattle.db_store.specs.Sound.{IsSound}
 use Rattle.db_store.proofs.SoundLemmas.{sound_stays}
 use Rattle.stmt_text.specs.declared.stmt.Stmt.{Stmt}
-use Rattle.stmt_text.specs.declared.stmt.Stmt.TheVariants.{Begin, Commit, Abort, On, LogOf, Branch, Insert, Update, Delete, Get, Scan}
+use Rattle.stmt_text.specs.declared.stmt.Stmt.TheVariants.{Begin, Commit, Abort, On, LogOf, Branch, Insert, Update, Delete, Get, Scan, Join, Minus}
+use Rattle.stmt_text.specs.declared.stmt.ScanOver.{ScanOver}
 use Rattle.branch_tx.specs.Keeping.{Keeping, over_table}
-use Rattle.branch_tx.specs.Found.{Found, Source, Own, Other, Lacking, found, lack, source_of}
-use Rattle.branch_tx.specs.Act.{Tx, Outcome, relation_named, refused, answered, get_from, get_of, act}
+use Rattle.branch_tx.specs.Found.{Found, Source, Own, Other, Lacking, found, lack, source_of, branch_names}
+use Rattle.branch_tx.specs.Act.{Tx, Outcome, relation_named, refused, answered, get_from, get_of, scan_of, join_of, minus_of, act}
 use Rattle.branch_tx.specs.Alone.{ground_of, told_of, made_next, log_of, place_in, on_of, branch_as, branch_of, overlaid}
-use Rattle.branch_tx.specs.Needs.{catalogue, lock_of, found_needs, source_needs, on_needs, log_needs, is_early, stmt_needs, needs, exclusive}
+use Rattle.branch_tx.specs.Needs.{catalogue, lock_of, found_needs, source_needs, names_needs, scan_needs, on_needs, log_needs, is_early, stmt_needs, needs, exclusive}
 use Rattle.branch_tx.specs.Frame.{Whole, and_then, step_over, whole, apply_all, AllFit, Within, AllWithin, AllSpare, LockOf, FrameLaw}
 use Rattle.branch_tx.proofs.Entries.{Frame, frame_entry, named_there}
-use Rattle.branch_tx.proofs.Early.{early_why, early_refused, told_answer, told_refusal}
+use Rattle.branch_tx.proofs.EarlyLines.{early_why, early_refused, told_answer, told_refusal, scan_asks, join_asks, minus_asks}
 use Rattle.branch_tx.proofs.LogsStay.{log_stays}
 use Rattle.branch_tx.proofs.ReadsStay.{found_stays, named_stays, head_stays, ground_stays, next_stays, told_stays, from_stays}
+use Rattle.branch_tx.proofs.AsksStay.{names_same, scan_needs_same, scan_stays, join_stays, minus_stays}
 use Rattle.branch_tx.proofs.LineKeeps.{is_changed, changed_needed, within_any}
 
 -- the transaction of lines run alone is the one with changes over the head
@@ -33,13 +36,13 @@ module _ (N : ℕ → Type 0) (s t : Dataset) (f : Frame N s t) (sound : IsSound
   -- ---- the reply to a line
 
   -- a line that needs the current branch
-  act_stays : (tx : Tx (List Overlay)) (x : Stmt) (sources : VersionName → Source) → N (lock_of b)
-      → told_of t b tx.begun (act (over_table (head_of t b)) (ground_of t b) sources tx x) ≡ told_of s b tx.begun (act (over_table (head_of s b)) (ground_of s b) sources tx x)
-  act_stays tx x sources h =
+  act_stays : (tx : Tx (List Overlay)) (x : Stmt) (sources : VersionName → Source) (heads : List (List ℕ)) → N (lock_of b)
+      → told_of t b tx.begun (act (over_table (head_of t b)) (ground_of t b) sources heads tx x) ≡ told_of s b tx.begun (act (over_table (head_of s b)) (ground_of s b) sources heads tx x)
+  act_stays tx x sources heads h =
       let head = head_stays N s t f b there h in
       let ground = ground_stays N s t f b there h in
-      (λ i. told_of t b tx.begun (act (over_table (head i)) (ground i) sources tx x))
-      ∙ told_stays N s t f b tx.begun (act (over_table (head_of s b)) (ground_of s b) sources tx x) there h
+      (λ i. told_of t b tx.begun (act (over_table (head i)) (ground i) sources heads tx x))
+      ∙ told_stays N s t f b tx.begun (act (over_table (head_of s b)) (ground_of s b) sources heads tx x) there h
 
   -- a look-up tells no version
   from_told : (d : Dataset) (k : Keeping (List Overlay)) (q : Bool) (tx : Tx (List Overlay)) (r key : ℕ) (x : Source) → told_of d b q (get_from k tx r key x) ≡ get_from k tx r key x
@@ -58,10 +61,32 @@ module _ (N : ℕ → Type 0) (s t : Dataset) (f : Frame N s t) (sound : IsSound
       ∙ sym (from_told s (over_table (head_of s b)) tx.begun tx r key (source_of b (found s v)))
 
   get_stays : (tx : Tx (List Overlay)) (name : List ℕ) (key : ℕ) (at : Option VersionName) → Within N (source_needs s b at) → step_over t b tx (Get name key at) ≡ step_over s b tx (Get name key at)
-  get_stays tx name key None w = act_stays tx (Get name key None) (λ u. source_of b (found s u)) w.0
+  get_stays tx name key None w = act_stays tx (Get name key None) (λ u. source_of b (found s u)) (branch_names s) w.0
   get_stays tx name key (Some v) w =
       ap (λ (schema : List Relation). told_of t b tx.begun (get_of (over_table (head_of t b)) (λ u. source_of b (found t u)) tx name key (Some v) (relation_named schema name))) f.schema
       ∙ look_stays tx name key v (relation_named s.schema name) w
+
+  -- questions to versions
+  scan_line : (tx : Tx (List Overlay)) (name : List ℕ) (over : ScanOver) (terms : List Term) → Within N (scan_needs s b over) → step_over t b tx (Scan name over terms) ≡ step_over s b tx (Scan name over terms)
+  scan_line tx name over terms w =
+      told_answer (over_table (head_of t b)) t b tx.begun _ (scan_asks (over_table (head_of t b)) t.schema (λ u. source_of b (found t u)) (branch_names t) tx name over terms (relation_named t.schema name))
+      ∙ ap (λ (schema : List Relation). scan_of (over_table (head_of t b)) schema (λ u. source_of b (found t u)) (branch_names t) tx name over terms (relation_named schema name)) f.schema
+      ∙ scan_stays N s t f b there tx s.schema name over terms (relation_named s.schema name) w
+      ∙ sym (told_answer (over_table (head_of s b)) s b tx.begun _ (scan_asks (over_table (head_of s b)) s.schema (λ u. source_of b (found s u)) (branch_names s) tx name over terms (relation_named s.schema name)))
+
+  join_line : (tx : Tx (List Overlay)) (left right : List ℕ) (v u : VersionName) (terms : List Term) → Within N (names_needs s (v ∷ u ∷ [])) → step_over t b tx (Join left right v u terms) ≡ step_over s b tx (Join left right v u terms)
+  join_line tx left right v u terms w =
+      told_answer (over_table (head_of t b)) t b tx.begun _ (join_asks (over_table (head_of t b)) t.schema tx left right _ _ terms (relation_named t.schema left) (relation_named t.schema right))
+      ∙ ap (λ (schema : List Relation). join_of (over_table (head_of t b)) schema tx left right (source_of b (found t v)) (source_of b (found t u)) terms (relation_named schema left) (relation_named schema right)) f.schema
+      ∙ join_stays N s t f b there tx s.schema left right v u terms (relation_named s.schema left) (relation_named s.schema right) w
+      ∙ sym (told_answer (over_table (head_of s b)) s b tx.begun _ (join_asks (over_table (head_of s b)) s.schema tx left right _ _ terms (relation_named s.schema left) (relation_named s.schema right)))
+
+  minus_line : (tx : Tx (List Overlay)) (name : List ℕ) (v u : VersionName) → Within N (names_needs s (v ∷ u ∷ [])) → step_over t b tx (Minus name v u) ≡ step_over s b tx (Minus name v u)
+  minus_line tx name v u w =
+      told_answer (over_table (head_of t b)) t b tx.begun _ (minus_asks (over_table (head_of t b)) tx name _ _ (relation_named t.schema name))
+      ∙ ap (λ (schema : List Relation). minus_of (over_table (head_of t b)) tx name (source_of b (found t v)) (source_of b (found t u)) (relation_named schema name)) f.schema
+      ∙ minus_stays N s t f b there tx name v u (relation_named s.schema name) w
+      ∙ sym (told_answer (over_table (head_of s b)) s b tx.begun _ (minus_asks (over_table (head_of s b)) tx name _ _ (relation_named s.schema name)))
 
   -- `commit` tells a version where something was changed
   commit_at : (tx : Tx (List Overlay)) (q : Bool) → is_changed tx ≡ q → (is_changed tx ≡ true → N (lock_of b)) → cond (is_changed tx) (made_next t b) Done ≡ cond (is_changed tx) (made_next s b) Done
@@ -90,11 +115,13 @@ module _ (N : ℕ → Type 0) (s t : Dataset) (f : Frame N s t) (sound : IsSound
   late_stays tx (On name) h w = ap (λ (o : Outcome (List Overlay)). cond tx.begun (refused tx InTransaction) o) (on_stays tx name (branch_named s name) refl w)
   late_stays tx (LogOf name) h w = ap (answered tx) (log_same name (branch_named s name) refl w)
   late_stays tx (Branch name origin) h w = ap (λ (o : Outcome (List Overlay)). cond tx.begun (refused tx InTransaction) o) (branch_stays tx name origin w.0 w.1)
-  late_stays tx (Insert name key fields) h w = act_stays tx (Insert name key fields) (λ u. source_of b (found s u)) w.0
-  late_stays tx (Update name key sets) h w = act_stays tx (Update name key sets) (λ u. source_of b (found s u)) w.0
-  late_stays tx (Delete name key) h w = act_stays tx (Delete name key) (λ u. source_of b (found s u)) w.0
+  late_stays tx (Insert name key fields) h w = act_stays tx (Insert name key fields) (λ u. source_of b (found s u)) (branch_names s) w.0
+  late_stays tx (Update name key sets) h w = act_stays tx (Update name key sets) (λ u. source_of b (found s u)) (branch_names s) w.0
+  late_stays tx (Delete name key) h w = act_stays tx (Delete name key) (λ u. source_of b (found s u)) (branch_names s) w.0
   late_stays tx (Get name key at) h w = get_stays tx name key at w
-  late_stays tx (Scan name over terms) h w = act_stays tx (Scan name over terms) (λ u. source_of b (found s u)) w.0
+  late_stays tx (Scan name over terms) h w = scan_line tx name over terms w
+  late_stays tx (Join left right v u terms) h w = join_line tx left right v u terms w
+  late_stays tx (Minus name v u) h w = minus_line tx name v u w
   late_stays tx _ h w = told_refusal (over_table (head_of t b)) t b tx.begun tx Line ∙ sym (told_refusal (over_table (head_of s b)) s b tx.begun tx Line)
 
   early_stays : (tx : Tx (List Overlay)) (x : Stmt) → is_early s.schema tx.begun x ≡ true → step_over t b tx x ≡ step_over s b tx x
@@ -126,6 +153,9 @@ module _ (N : ℕ → Type 0) (s t : Dataset) (f : Frame N s t) (sound : IsSound
   late_needs (LogOf name) w = log_needs_same name (branch_named s name) refl w
   late_needs (Branch name origin) w = ap (λ (x : Found). exclusive catalogue ∷ found_needs x) (found_stays N s t f origin w.1)
   late_needs (Get name key at) w = source_same at w
+  late_needs (Scan name over terms) w = scan_needs_same N s t f b over w
+  late_needs (Join left right v u terms) w = names_same N s t f (v ∷ u ∷ []) w
+  late_needs (Minus name v u) w = names_same N s t f (v ∷ u ∷ []) w
   late_needs _ w = refl
 
   needs_at : (x : Stmt) (begun q : Bool) → is_early s.schema begun x ≡ q → Within N (cond q [] (stmt_needs s b x)) → cond q [] (stmt_needs t b x) ≡ cond q [] (stmt_needs s b x)

@@ -1,25 +1,32 @@
 -- A line does the same to a private table as to the changes that make it.
-use Rattle.std.proofs.Common.{◌≡◌, ℕ, ◌<◌, ◌≤◌, ◌==◌, nat_lt, Bool, true, false, cond, ◌||◌, is_some, List, length, Option, Some, None, Result, Ok, Err, refl, ap, ◌∙◌, arith}
+use Rattle.std.proofs.Common.{◌≡◌, ℕ, ◌<◌, ◌≤◌, ◌==◌, nat_lt, Bool, true, false, cond, ◌||◌, is_some, List, [], ◌∷◌, length, map, Option, Some, None, Result, Ok, Err, refl, ap, ◌∙◌, arith}
+use Rattle.std.specs.List.{filter}
 use Rattle.std.proofs.lemmas.List.Quantifiers.{position-Some}
 use Rattle.db_value.specs.Value.{Value}
 use Rattle.db_value.specs.Relations.{columns_at, no_relation}
 use Rattle.db_value.specs.Schema.{most_relations}
+use Rattle.db_value.specs.Condition.{holds}
+use Rattle.db_value.specs.Pred.{first_unknown}
+use Rattle.db_value.specs.declared.record.Record.{Record}
 use Rattle.db_value.specs.declared.schema.Relation.{Relation}
 use Rattle.db_value.specs.declared.condition.Set.{Set}
+use Rattle.db_value.specs.declared.condition.Term.{Term}
 use Rattle.db_value.specs.declared.version.VersionName.{VersionName}
 use Rattle.db_value.specs.declared.version.VersionPlace.{VersionPlace}
-use Rattle.db_value.specs.declared.reply.Reply.TheVariants.{Done}
+use Rattle.db_value.specs.declared.reply.Reply.TheVariants.{Done, Listed, Paired}
 use Rattle.db_value.specs.declared.reply.Refusal.{Refusal}
-use Rattle.db_store.specs.Table.{Table}
+use Rattle.db_store.specs.Table.{Table, rows_of}
 use Rattle.db_store.specs.Overlay.{Overlay}
 use Rattle.db_store.specs.Dataset.{Dataset, branch_named}
 use Rattle.db_store.specs.Fits.{most_branches}
 use Rattle.stmt_text.specs.declared.stmt.Stmt.{Stmt}
-use Rattle.stmt_text.specs.declared.stmt.Stmt.TheVariants.{Begin, Commit, Abort, On, LogOf, Branch, Insert, Update, Delete, Get, Scan}
+use Rattle.stmt_text.specs.declared.stmt.Stmt.TheVariants.{Begin, Commit, Abort, On, LogOf, Branch, Insert, Update, Delete, Get, Scan, Join, Minus}
 use Rattle.stmt_text.specs.declared.stmt.NamedSet.{NamedSet}
+use Rattle.stmt_text.specs.declared.stmt.ScanOver.{ScanOver}
+use Rattle.stmt_text.specs.declared.stmt.ScanOver.TheVariants.{Current, Named, Heads}
 use Rattle.branch_tx.specs.Keeping.{Private, privately, over_table}
-use Rattle.branch_tx.specs.Found.{found, lack, Source, Own, Other, Lacking, source_of}
-use Rattle.branch_tx.specs.Act.{Tx, Outcome, Ground, relation_named, resolved, updated, insert_refusal, change_refusal, is_plain, answered, unless_full, fields_at, has_space, has_room, changed_to, insert_in, insert_of, update_in, update_of, delete_of, get_from, source_at, get_of, scan_of, act}
+use Rattle.branch_tx.specs.Found.{found, lack, Source, Own, Other, Lacking, source_of, branch_names, plain, first_lacking}
+use Rattle.branch_tx.specs.Act.{Tx, Outcome, Ground, relation_named, resolved, updated, insert_refusal, change_refusal, answered, unless, column_refusal, unless_full, fields_at, has_space, has_room, changed_to, insert_in, insert_of, update_in, update_of, delete_of, get_from, source_at, get_of, marked, union_marked, pairs_of, unlike, contents_from, rows_from, scan_versions, scan_over, scan_of, join_in, join_with, join_of, minus_of, act}
 use Rattle.branch_tx.specs.Alone.{ground_of, told_of, place_in, has_changed, on_of, branch_as, step, made_next}
 use Rattle.branch_tx.specs.Laws.{as_private}
 use Rattle.branch_tx.proofs.Private.{State, touched_same, touches_same, put_same}
@@ -96,21 +103,72 @@ get_same : (t : Table) (sources : VersionName → Source) (tx : Tx (List Overlay
 get_same t sources tx name key at None = refl
 get_same t sources tx name key at (Some r) = ap (get_from privately (as_private t tx) r key) (source_same sources at t) ∙ from_same t tx r key (source_at (over_table t) sources at)
 
-scan_same : (t : Table) (tx : Tx (List Overlay)) (name : List ℕ) (o : Option ℕ) → scan_of privately (as_private t tx) name o ≡ image t (scan_of (over_table t) tx name o)
-scan_same t tx name None = refl
-scan_same t tx name (Some r) = refl
+-- ---- questions
+
+asked_same : (t : Table) (tx : Tx (List Overlay)) (o : Option Refusal) (a : Outcome Private) (x : Outcome (List Overlay)) → a ≡ image t x → unless (as_private t tx) o a ≡ image t (unless tx o x)
+asked_same t tx None a x e = e
+asked_same t tx (Some why) a x e = refl
+
+contents_same : (t : Table) (tx : Tx (List Overlay)) (r : ℕ) (s : Source) → contents_from privately (as_private t tx) r s ≡ contents_from (over_table t) tx r s
+contents_same t tx r Own = refl
+contents_same t tx r (Other table) = refl
+contents_same t tx r (Lacking why) = refl
+
+rows_same : (t : Table) (p : Record → Bool) (tx : Tx (List Overlay)) (r : ℕ) (s : Source) → rows_from privately p (as_private t tx) r s ≡ rows_from (over_table t) p tx r s
+rows_same t p tx r s = let e = contents_same t tx r s in λ i. filter p (rows_of (e i))
+
+versions_same : (t : Table) (sources : VersionName → Source) (tx : Tx (List Overlay)) (r : ℕ) (p : Record → Bool) (names : List VersionName) → scan_versions privately sources (as_private t tx) r p names ≡ image t (scan_versions (over_table t) sources tx r p names)
+versions_same t sources tx r p names =
+    asked_same t tx (first_lacking (map sources names)) _ _ (λ i. answered (as_private t tx) (Listed names (union_marked (map (λ (v : VersionName). rows_same t p tx r (sources v) i) names))))
+
+scan_over_same : (t : Table) (sources : VersionName → Source) (heads : List (List ℕ)) (tx : Tx (List Overlay)) (r : ℕ) (p : Record → Bool) (over : ScanOver) → scan_over privately sources heads (as_private t tx) r p over ≡ image t (scan_over (over_table t) sources heads tx r p over)
+scan_over_same t sources heads tx r p Current = refl
+scan_over_same t sources heads tx r p (Named names) = versions_same t sources tx r p names
+scan_over_same t sources heads tx r p Heads = versions_same t sources tx r p (map plain heads)
+
+scan_same : (t : Table) (schema : List Relation) (sources : VersionName → Source) (heads : List (List ℕ)) (tx : Tx (List Overlay)) (name : List ℕ) (over : ScanOver) (terms : List Term) (o : Option ℕ)
+    → scan_of privately schema sources heads (as_private t tx) name over terms o ≡ image t (scan_of (over_table t) schema sources heads tx name over terms o)
+scan_same t schema sources heads tx name over terms None = refl
+scan_same t schema sources heads tx name over terms (Some r) =
+    asked_same t tx (column_refusal (first_unknown (columns_at schema r) terms)) _ _ (scan_over_same t sources heads tx r (holds (columns_at schema r) terms) over)
+
+join_in_same : (t : Table) (tx : Tx (List Overlay)) (r s : ℕ) (left right : Source) (p : Record → Bool) → join_in privately (as_private t tx) r s left right p ≡ image t (join_in (over_table t) tx r s left right p)
+join_in_same t tx r s left right p =
+    let rows = rows_same t p tx r left in
+    let others = contents_same t tx s right in
+    asked_same t tx (first_lacking (left ∷ right ∷ [])) _ _ (λ i. answered (as_private t tx) (Paired (pairs_of (rows i) (others i))))
+
+join_with_same : (t : Table) (schema : List Relation) (tx : Tx (List Overlay)) (r : ℕ) (name : List ℕ) (left right : Source) (terms : List Term) (o : Option ℕ)
+    → join_with privately schema (as_private t tx) r name left right terms o ≡ image t (join_with (over_table t) schema tx r name left right terms o)
+join_with_same t schema tx r name left right terms None = refl
+join_with_same t schema tx r name left right terms (Some s) =
+    asked_same t tx (column_refusal (first_unknown (columns_at schema r) terms)) _ _ (join_in_same t tx r s left right (holds (columns_at schema r) terms))
+
+join_same : (t : Table) (schema : List Relation) (tx : Tx (List Overlay)) (name other : List ℕ) (left right : Source) (terms : List Term) (o q : Option ℕ)
+    → join_of privately schema (as_private t tx) name other left right terms o q ≡ image t (join_of (over_table t) schema tx name other left right terms o q)
+join_same t schema tx name other left right terms None q = refl
+join_same t schema tx name other left right terms (Some r) q = join_with_same t schema tx r other left right terms q
+
+minus_same : (t : Table) (tx : Tx (List Overlay)) (name : List ℕ) (left right : Source) (o : Option ℕ) → minus_of privately (as_private t tx) name left right o ≡ image t (minus_of (over_table t) tx name left right o)
+minus_same t tx name left right None = refl
+minus_same t tx name left right (Some r) =
+    let rows = contents_same t tx r left in
+    let others = contents_same t tx r right in
+    asked_same t tx (first_lacking (left ∷ right ∷ [])) _ _ (λ i. answered (as_private t tx) (Listed [] (map marked (unlike (rows_of (rows i)) (others i)))))
 
 -- the relation of a name is one of the schema
 pub named_within : (schema : List Relation) (name : List ℕ) (r : ℕ) → relation_named schema name ≡ Some r → r < length schema
 named_within schema name r e = (position-Some _ schema r no_relation e).0
 
-act_same : (t : Table) (g : Ground) (sources : VersionName → Source) (tx : Tx (List Overlay)) (x : Stmt) → IsWide t tx → length t ≡ length g.schema → act privately g sources (as_private t tx) x ≡ image t (act (over_table t) g sources tx x)
-act_same t g sources tx (Insert name key fields) w e = insert_same t g tx name key fields (relation_named g.schema name) w (λ r f. let n = named_within g.schema name r f in omega (arith, n, e))
-act_same t g sources tx (Update name key sets) w e = update_same t g tx name key sets (relation_named g.schema name) w (λ r f. let n = named_within g.schema name r f in omega (arith, n, e))
-act_same t g sources tx (Delete name key) w e = delete_same t g tx name key (relation_named g.schema name) w (λ r f. let n = named_within g.schema name r f in omega (arith, n, e))
-act_same t g sources tx (Get name key at) w e = get_same t sources tx name key at (relation_named g.schema name)
-act_same t g sources tx (Scan name over terms) w e = cond_same t (is_plain over terms) _ _ _ _ (scan_same t tx name (relation_named g.schema name)) refl
-act_same t g sources tx _ w e = refl
+act_same : (t : Table) (g : Ground) (sources : VersionName → Source) (heads : List (List ℕ)) (tx : Tx (List Overlay)) (x : Stmt) → IsWide t tx → length t ≡ length g.schema → act privately g sources heads (as_private t tx) x ≡ image t (act (over_table t) g sources heads tx x)
+act_same t g sources heads tx (Insert name key fields) w e = insert_same t g tx name key fields (relation_named g.schema name) w (λ r f. let n = named_within g.schema name r f in omega (arith, n, e))
+act_same t g sources heads tx (Update name key sets) w e = update_same t g tx name key sets (relation_named g.schema name) w (λ r f. let n = named_within g.schema name r f in omega (arith, n, e))
+act_same t g sources heads tx (Delete name key) w e = delete_same t g tx name key (relation_named g.schema name) w (λ r f. let n = named_within g.schema name r f in omega (arith, n, e))
+act_same t g sources heads tx (Get name key at) w e = get_same t sources tx name key at (relation_named g.schema name)
+act_same t g sources heads tx (Scan name over terms) w e = scan_same t g.schema sources heads tx name over terms (relation_named g.schema name)
+act_same t g sources heads tx (Join left right v u terms) w e = join_same t g.schema tx left right (sources v) (sources u) terms (relation_named g.schema left) (relation_named g.schema right)
+act_same t g sources heads tx (Minus name v u) w e = minus_same t tx name (sources v) (sources u) (relation_named g.schema name)
+act_same t g sources heads tx _ w e = refl
 
 on_same : (t : Table) (tx : Tx (List Overlay)) (name : List ℕ) (o : Option ℕ) → on_of (as_private t tx) name o ≡ image t (on_of tx name o)
 on_same t tx name None = refl
@@ -133,4 +191,4 @@ step_same t d b tx Abort w e = cond_same t tx.begun _ _ _ _ refl refl
 step_same t d b tx (On name) w e = cond_same t tx.begun _ _ _ _ refl (on_same t tx name (branch_named d name))
 step_same t d b tx (LogOf name) w e = refl
 step_same t d b tx (Branch name origin) w e = cond_same t tx.begun _ _ _ _ refl (branch_as_same t tx name (place_in (found d origin)) (lack (found d origin)) (branch_named d name) (length d.branches))
-step_same t d b tx x w e = ap (told_of d b tx.begun) (act_same t (ground_of d b) (λ v. source_of b (found d v)) tx x w e)
+step_same t d b tx x w e = ap (told_of d b tx.begun) (act_same t (ground_of d b) (λ v. source_of b (found d v)) (branch_names d) tx x w e)

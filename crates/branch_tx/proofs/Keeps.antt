@@ -1,20 +1,27 @@
 -- What stands of a transaction stands after a line, if it does after each thing that a line may do.
-use Rattle.std.proofs.Common.{◌≡◌, ℕ, ◌<◌, ◌==◌, nat_lt, Bool, true, false, cond, List, length, Option, Some, None, Result, Ok, Err, refl, ap, ◌∙◌}
+use Rattle.std.proofs.Common.{◌≡◌, ℕ, ◌<◌, ◌==◌, nat_lt, Bool, true, false, cond, List, [], ◌∷◌, length, map, Option, Some, None, Result, Ok, Err, refl, ap, ◌∙◌}
 use Rattle.std.proofs.lemmas.Bool.{eqb-true}
 use Rattle.db_value.specs.Value.{Value}
 use Rattle.db_value.specs.Relations.{columns_at}
+use Rattle.db_value.specs.Condition.{holds}
+use Rattle.db_value.specs.Pred.{first_unknown}
+use Rattle.db_value.specs.declared.record.Record.{Record}
+use Rattle.db_value.specs.declared.schema.Relation.{Relation}
 use Rattle.db_value.specs.declared.condition.Set.{Set}
+use Rattle.db_value.specs.declared.condition.Term.{Term}
 use Rattle.db_value.specs.declared.version.VersionName.{VersionName}
 use Rattle.db_value.specs.declared.version.VersionPlace.{VersionPlace}
 use Rattle.db_value.specs.declared.reply.Refusal.{Refusal}
 use Rattle.db_store.specs.Dataset.{Dataset, branch_named}
 use Rattle.db_store.specs.Fits.{most_branches}
 use Rattle.stmt_text.specs.declared.stmt.Stmt.{Stmt}
-use Rattle.stmt_text.specs.declared.stmt.Stmt.TheVariants.{Begin, Commit, Abort, On, LogOf, Branch, Insert, Update, Delete, Get, Scan}
+use Rattle.stmt_text.specs.declared.stmt.Stmt.TheVariants.{Begin, Commit, Abort, On, LogOf, Branch, Insert, Update, Delete, Get, Scan, Join, Minus}
 use Rattle.stmt_text.specs.declared.stmt.NamedSet.{NamedSet}
+use Rattle.stmt_text.specs.declared.stmt.ScanOver.{ScanOver}
+use Rattle.stmt_text.specs.declared.stmt.ScanOver.TheVariants.{Current, Named, Heads}
 use Rattle.branch_tx.specs.Keeping.{Keeping}
-use Rattle.branch_tx.specs.Found.{Found, found, lack, Source, Own, Other, Lacking, source_of}
-use Rattle.branch_tx.specs.Act.{Tx, Outcome, Ground, relation_named, resolved, updated, insert_refusal, change_refusal, is_plain, unless_full, fields_at, has_space, has_room, changed_to, insert_of, update_in, update_of, delete_of, get_from, source_at, get_of, scan_of, act}
+use Rattle.branch_tx.specs.Found.{Found, found, lack, Source, Own, Other, Lacking, source_of, branch_names, plain, first_lacking}
+use Rattle.branch_tx.specs.Act.{Tx, Outcome, Ground, relation_named, resolved, updated, insert_refusal, change_refusal, unless, column_refusal, unless_full, fields_at, has_space, has_room, changed_to, insert_of, update_in, update_of, delete_of, get_from, source_at, get_of, scan_versions, scan_over, scan_of, join_with, join_of, minus_of, act}
 use Rattle.branch_tx.specs.Alone.{ground_of, place_in, room_of, on_of, branch_as, step}
 use Rattle.branch_tx.proofs.Private.{State}
 use Rattle.branch_tx.proofs.Images.{named_within}
@@ -109,17 +116,45 @@ module _ {W : Type 0} (k : Keeping W) (P : Tx W → Type 0) where
   get_keeps sources tx name key at None h = h
   get_keeps sources tx name key at (Some r) h = from_keeps tx r key (source_at k sources at) h
 
-  pub scan_keeps : (tx : Tx W) (name : List ℕ) (o : Option ℕ) → P tx → P (scan_of k tx name o).tx
-  scan_keeps tx name None h = h
-  scan_keeps tx name (Some r) h = h
+  asked_keeps : (tx : Tx W) (o : Option Refusal) (x : Outcome W) → P tx → P x.tx → P (unless tx o x).tx
+  asked_keeps tx None x h f = f
+  asked_keeps tx (Some why) x h f = h
 
-  pub act_keeps : (g : Ground) (sources : VersionName → Source) (tx : Tx W) (x : Stmt) → P tx → Changes g tx → P (act k g sources tx x).tx
-  act_keeps g sources tx (Insert name key fields) h f = insert_keeps g tx name key fields (relation_named g.schema name) refl h f
-  act_keeps g sources tx (Update name key sets) h f = update_of_keeps g tx name key sets (relation_named g.schema name) refl h f
-  act_keeps g sources tx (Delete name key) h f = delete_keeps g tx name key (relation_named g.schema name) refl h f
-  act_keeps g sources tx (Get name key at) h f = get_keeps sources tx name key at (relation_named g.schema name) h
-  act_keeps g sources tx (Scan name over terms) h f = cond_keeps (is_plain over terms) _ _ (scan_keeps tx name (relation_named g.schema name) h) h
-  act_keeps g sources tx _ h f = h
+  versions_keeps : (sources : VersionName → Source) (tx : Tx W) (r : ℕ) (p : Record → Bool) (names : List VersionName) → P tx → P (scan_versions k sources tx r p names).tx
+  versions_keeps sources tx r p names h = asked_keeps tx (first_lacking (map sources names)) _ h h
+
+  over_keeps : (sources : VersionName → Source) (heads : List (List ℕ)) (tx : Tx W) (r : ℕ) (p : Record → Bool) (over : ScanOver) → P tx → P (scan_over k sources heads tx r p over).tx
+  over_keeps sources heads tx r p Current h = h
+  over_keeps sources heads tx r p (Named names) h = versions_keeps sources tx r p names h
+  over_keeps sources heads tx r p Heads h = versions_keeps sources tx r p (map plain heads) h
+
+  pub scan_keeps : (schema : List Relation) (sources : VersionName → Source) (heads : List (List ℕ)) (tx : Tx W) (name : List ℕ) (over : ScanOver) (terms : List Term) (o : Option ℕ) → P tx → P (scan_of k schema sources heads tx name over terms o).tx
+  scan_keeps schema sources heads tx name over terms None h = h
+  scan_keeps schema sources heads tx name over terms (Some r) h =
+      asked_keeps tx (column_refusal (first_unknown (columns_at schema r) terms)) _ h (over_keeps sources heads tx r (holds (columns_at schema r) terms) over h)
+
+  join_with_keeps : (schema : List Relation) (tx : Tx W) (r : ℕ) (name : List ℕ) (left right : Source) (terms : List Term) (o : Option ℕ) → P tx → P (join_with k schema tx r name left right terms o).tx
+  join_with_keeps schema tx r name left right terms None h = h
+  join_with_keeps schema tx r name left right terms (Some s) h =
+      asked_keeps tx (column_refusal (first_unknown (columns_at schema r) terms)) _ h (asked_keeps tx (first_lacking (left ∷ right ∷ [])) _ h h)
+
+  pub join_keeps : (schema : List Relation) (tx : Tx W) (name other : List ℕ) (left right : Source) (terms : List Term) (o q : Option ℕ) → P tx → P (join_of k schema tx name other left right terms o q).tx
+  join_keeps schema tx name other left right terms None q h = h
+  join_keeps schema tx name other left right terms (Some r) q h = join_with_keeps schema tx r other left right terms q h
+
+  pub minus_keeps : (tx : Tx W) (name : List ℕ) (left right : Source) (o : Option ℕ) → P tx → P (minus_of k tx name left right o).tx
+  minus_keeps tx name left right None h = h
+  minus_keeps tx name left right (Some r) h = asked_keeps tx (first_lacking (left ∷ right ∷ [])) _ h h
+
+  pub act_keeps : (g : Ground) (sources : VersionName → Source) (heads : List (List ℕ)) (tx : Tx W) (x : Stmt) → P tx → Changes g tx → P (act k g sources heads tx x).tx
+  act_keeps g sources heads tx (Insert name key fields) h f = insert_keeps g tx name key fields (relation_named g.schema name) refl h f
+  act_keeps g sources heads tx (Update name key sets) h f = update_of_keeps g tx name key sets (relation_named g.schema name) refl h f
+  act_keeps g sources heads tx (Delete name key) h f = delete_keeps g tx name key (relation_named g.schema name) refl h f
+  act_keeps g sources heads tx (Get name key at) h f = get_keeps sources tx name key at (relation_named g.schema name) h
+  act_keeps g sources heads tx (Scan name over terms) h f = scan_keeps g.schema sources heads tx name over terms (relation_named g.schema name) h
+  act_keeps g sources heads tx (Join left right v w terms) h f = join_keeps g.schema tx left right (sources v) (sources w) terms (relation_named g.schema left) (relation_named g.schema right) h
+  act_keeps g sources heads tx (Minus name v w) h f = minus_keeps tx name (sources v) (sources w) (relation_named g.schema name) h
+  act_keeps g sources heads tx _ h f = h
 
   pub on_keeps : (tx : Tx W) (name : List ℕ) (o : Option ℕ) → P tx → ((i : ℕ) → o ≡ Some i → P (record tx { moved = Some i })) → P (on_of tx name o).tx
   on_keeps tx name None h f = h
@@ -144,4 +179,4 @@ module _ {W : Type 0} (k : Keeping W) (P : Tx W → Type 0) where
   step_keeps d b tx (LogOf name) h begin change new move = h
   step_keeps d b tx (Branch name origin) h begin change new move = cond_keeps tx.begun _ _ h
       (branch_keeps tx name (place_in (found d origin)) (lack (found d origin)) (branch_named d name) (length d.branches) h (λ a c e. new name origin (record { origin = a; new = c; room = e })))
-  step_keeps d b tx x h begin change new move = act_keeps (ground_of d b) (λ v. source_of b (found d v)) tx x h change
+  step_keeps d b tx x h begin change new move = act_keeps (ground_of d b) (λ v. source_of b (found d v)) (branch_names d) tx x h change

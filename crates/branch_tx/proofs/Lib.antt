@@ -1,8 +1,11 @@
+pub mod WideLemmas
 pub mod SetLemmas
+pub mod TermLemmas
 pub mod Private
 pub mod Images
 pub mod WithSets
 pub mod Keeps
+pub mod SeenLemmas
 pub mod Alike
 pub mod Tables
 pub mod Fitting
@@ -10,8 +13,11 @@ pub mod Ends
 pub mod LogLemmas
 pub mod Acts
 pub mod Entries
-pub mod Early
+pub mod EarlyLines
 pub mod LogsStay
 pub mod ReadsStay
+pub mod AsksStay
 pub mod LineKeeps
 pub mod FrameLemmas
+pub mod Covered
+pub mod Examples

@@ -1,23 +1,22 @@
 -- What stands of a transaction stands after a line, by what the line needs. So a transaction that changes something has needed its branch exclusively, and one that makes a branch the catalogue.
-use Rattle.std.proofs.Common.{◌≡◌, ◌⊎◌, inl, inr, ⊎_elim, ℕ, suc, nat_lt, ◌||◌, is_some, Bool, true, false, cond, List, [], ◌∷◌, length, refl, ap, sym, ◌∙◌, subst, Option, Some, None}
+use Rattle.std.proofs.Common.{◌≡◌, ◌⊎◌, inl, inr, ⊎_elim, ℕ, nat_lt, ◌||◌, is_some, Bool, true, false, cond, List, [], ◌∷◌, length, refl, ap, sym, ◌∙◌, subst, Some}
 use Rattle.std.proofs.lemmas.Bool.{false≢true}
 use Rattle.db_value.specs.declared.version.VersionName.{VersionName}
-use Rattle.db_value.specs.declared.version.VersionPlace.{VersionPlace}
 use Rattle.db_store.specs.Overlay.{Overlay, count_touched}
 use Rattle.db_store.specs.Dataset.{Dataset, branch_named, head_of}
 use Rattle.db_store.proofs.OverlayLemmas.{count_untouched}
 use Rattle.lock_table.specs.declared.need.Need.{Need}
 use Rattle.lock_table.specs.Grants.{Has}
 use Rattle.stmt_text.specs.declared.stmt.Stmt.{Stmt}
-use Rattle.stmt_text.specs.declared.stmt.Stmt.TheVariants.{Begin, Commit, Abort, On, LogOf, Branch, Insert, Update, Delete, Get, Scan}
+use Rattle.stmt_text.specs.declared.stmt.Stmt.TheVariants.{Begin, Commit, Abort, On, LogOf, Branch, Insert, Update, Delete, Get, Scan, Join, Minus}
 use Rattle.branch_tx.specs.Keeping.{Keeping, over_table}
-use Rattle.branch_tx.specs.Found.{Source, found, lack, source_of}
-use Rattle.branch_tx.specs.Act.{Tx, Outcome, relation_named, is_plain}
+use Rattle.branch_tx.specs.Found.{Source, branch_names, found, lack, source_of}
+use Rattle.branch_tx.specs.Act.{Tx, Outcome, relation_named}
 use Rattle.branch_tx.specs.Alone.{ground_of, room_of, place_in}
 use Rattle.branch_tx.specs.Needs.{catalogue, lock_of, exclusive, is_early, stmt_needs, needs}
 use Rattle.branch_tx.specs.Frame.{whole, step_over, Within, AllWithin}
-use Rattle.branch_tx.proofs.Keeps.{IsBranch, cond_keeps, act_keeps, get_keeps, scan_keeps, on_keeps, branch_keeps}
-use Rattle.branch_tx.proofs.Early.{early_refused}
+use Rattle.branch_tx.proofs.Keeps.{IsBranch, cond_keeps, act_keeps, get_keeps, scan_keeps, join_keeps, minus_keeps, on_keeps, branch_keeps}
+use Rattle.branch_tx.proofs.EarlyLines.{early_refused}
 
 -- ---- one line
 
@@ -44,11 +43,13 @@ module _ (P : Tx (List Overlay) → Type 0) (d : Dataset) (b : ℕ) (tx : Tx (Li
   late_keeps (Branch name origin) change make = cond_keeps k P tx.begun _ _ h
       (branch_keeps k P tx name (place_in (found d origin)) (lack (found d origin)) (branch_named d name) (length d.branches) h
       (λ a c l. make (inl refl) name origin (record { origin = a; new = c; room = l })))
-  late_keeps (Insert name key fields) change make = act_keeps k P (ground_of d b) sources tx (Insert name key fields) h (λ r key st is. change (inl refl) (k.put tx.work r key st))
-  late_keeps (Update name key sets) change make = act_keeps k P (ground_of d b) sources tx (Update name key sets) h (λ r key st is. change (inl refl) (k.put tx.work r key st))
-  late_keeps (Delete name key) change make = act_keeps k P (ground_of d b) sources tx (Delete name key) h (λ r key st is. change (inl refl) (k.put tx.work r key st))
+  late_keeps (Insert name key fields) change make = act_keeps k P (ground_of d b) sources (branch_names d) tx (Insert name key fields) h (λ r key st is. change (inl refl) (k.put tx.work r key st))
+  late_keeps (Update name key sets) change make = act_keeps k P (ground_of d b) sources (branch_names d) tx (Update name key sets) h (λ r key st is. change (inl refl) (k.put tx.work r key st))
+  late_keeps (Delete name key) change make = act_keeps k P (ground_of d b) sources (branch_names d) tx (Delete name key) h (λ r key st is. change (inl refl) (k.put tx.work r key st))
   late_keeps (Get name key at) change make = get_keeps k P sources tx name key at (relation_named d.schema name) h
-  late_keeps (Scan name over terms) change make = cond_keeps k P (is_plain over terms) _ _ (scan_keeps k P tx name (relation_named d.schema name) h) h
+  late_keeps (Scan name over terms) change make = scan_keeps k P d.schema sources (branch_names d) tx name over terms (relation_named d.schema name) h
+  late_keeps (Join left right v w terms) change make = join_keeps k P d.schema tx left right (sources v) (sources w) terms (relation_named d.schema left) (relation_named d.schema right) h
+  late_keeps (Minus name v w) change make = minus_keeps k P tx name (sources v) (sources w) (relation_named d.schema name) h
   late_keeps _ change make = h
 
   line_at : (x : Stmt) (q : Bool) → is_early d.schema tx.begun x ≡ q → Changes (cond q [] (stmt_needs d b x)) → Makes (cond q [] (stmt_needs d b x)) → P (step_over d b tx x).tx

@@ -1,10 +1,11 @@
 -- New values behind those of columns that were found.
 use Rattle.std.proofs.Common.{◌≡◌, ℕ, ◌+◌, ◌<◌, List, [], ◌∷◌, ◌++◌, length, drop, get_or, append_assoc, ap, sym, ◌∙◌, Option, Some, None}
 use Rattle.std.proofs.lemmas.List.{drop_more}
-use Rattle.std.specs.Prelude.{Result, Ok, Err}
+use Rattle.std.specs.Prelude.{Result, Ok, Err, Bool, true}
 use Rattle.db_value.specs.declared.condition.Set.{Set}
 use Rattle.stmt_text.specs.declared.stmt.NamedSet.{NamedSet}
 use Rattle.branch_tx.specs.Act.{set_onto, resolved, column_named}
+use Rattle.branch_tx.specs.Needs.{is_unresolved}
 
 abbrev pub behind : List Set → Result (List Set) (List ℕ) → Result (List Set) (List ℕ)
 behind done (Err name) = Err name
@@ -31,3 +32,21 @@ pub found_stop : (columns : List (List ℕ)) (sets : List NamedSet) (all : Resul
 found_stop columns sets all done i x d h is at inv =
     inv ∙ ap (λ t. behind done (resolved columns t)) (drop_more sets i d h ∙ ap (λ (y : NamedSet). y ∷ drop (i + 1) sets) is)
     ∙ found_none done x (column_named columns x.column) (resolved columns (drop (i + 1) sets)) at
+
+-- ---- whether one of the columns is unknown
+
+known_more : (s : NamedSet) (c : ℕ) (o : Option ℕ) (rest : Result (List Set) (List ℕ)) → o ≡ Some c → is_unresolved (set_onto s o rest) ≡ is_unresolved rest
+known_more s c o (Err name) e = ap (λ q. is_unresolved (set_onto s q (Err name))) e
+known_more s c o (Ok sets) e = ap (λ q. is_unresolved (set_onto s q (Ok sets))) e
+
+pub known_step : (columns : List (List ℕ)) (sets : List NamedSet) (all : Bool) (i : ℕ) (x d : NamedSet) (c : ℕ) → i < length sets → get_or sets i d ≡ x → column_named columns x.column ≡ Some c
+    → all ≡ is_unresolved (resolved columns (drop i sets)) → all ≡ is_unresolved (resolved columns (drop (i + 1) sets))
+known_step columns sets all i x d c h is at inv =
+    inv ∙ ap (λ t. is_unresolved (resolved columns t)) (drop_more sets i d h ∙ ap (λ (y : NamedSet). y ∷ drop (i + 1) sets) is)
+    ∙ known_more x c (column_named columns x.column) (resolved columns (drop (i + 1) sets)) at
+
+pub known_stop : (columns : List (List ℕ)) (sets : List NamedSet) (all : Bool) (i : ℕ) (x d : NamedSet) → i < length sets → get_or sets i d ≡ x → column_named columns x.column ≡ None
+    → all ≡ is_unresolved (resolved columns (drop i sets)) → all ≡ true
+known_stop columns sets all i x d h is at inv =
+    inv ∙ ap (λ t. is_unresolved (resolved columns t)) (drop_more sets i d h ∙ ap (λ (y : NamedSet). y ∷ drop (i + 1) sets) is)
+    ∙ ap (λ q. is_unresolved (set_onto x q (resolved columns (drop (i + 1) sets)))) at

@@ -1,9 +1,12 @@
 -- What a statement that reads or changes records does in a transaction.
 use Rattle.std.specs.Prelude.{ℕ, ◌==◌, ◌||◌, nat_lt, cond, Bool, true, false, List, [], ◌∷◌, length, map, position, Option, Some, None, Result, Ok, Err}
 use Rattle.std.specs.FinMap as finite
+use Rattle.std.specs.List.{filter}
 use Rattle.db_value.specs.Value.{Value}
 use Rattle.db_value.specs.Text.{same}
 use Rattle.db_value.specs.Relations.{columns_at}
+use Rattle.db_value.specs.Condition.{holds}
+use Rattle.db_value.specs.Pred.{first_unknown}
 use Rattle.db_value.specs.declared.schema.Relation.{Relation}
 use Rattle.db_value.specs.declared.record.Record.{Record}
 use Rattle.db_value.specs.declared.condition.Set.{Set}
@@ -11,20 +14,21 @@ use Rattle.db_value.specs.declared.condition.Term.{Term}
 use Rattle.db_value.specs.declared.version.VersionName.{VersionName}
 use Rattle.db_value.specs.declared.version.VersionPlace.{VersionPlace}
 use Rattle.db_value.specs.declared.reply.Reply.{Reply}
-use Rattle.db_value.specs.declared.reply.Reply.TheVariants.{Done, One, Listed, Refused}
+use Rattle.db_value.specs.declared.reply.Reply.TheVariants.{Done, One, Listed, Paired, Refused}
 use Rattle.db_value.specs.declared.reply.Refusal.{Refusal}
-use Rattle.db_value.specs.declared.reply.Refusal.TheVariants.{Line, NoRelation, NoColumn, KeyThere, KeyMissing, Room, VersionsFull, TableFull, ValueCount}
-use Rattle.db_store.specs.Table.{relation_at, rows_of}
+use Rattle.db_value.specs.declared.reply.Refusal.TheVariants.{Line, InTransaction, NoRelation, NoColumn, KeyThere, KeyMissing, Room, VersionsFull, TableFull, ValueCount}
+use Rattle.db_store.specs.Table.{Contents, relation_at, rows_of}
 use Rattle.db_store.specs.Fits.{most_keys}
 use Rattle.db_store.specs.Work.{with_sets}
-pub use Rattle.multi_scan.specs.Multi.{marked}
+pub use Rattle.multi_scan.specs.Multi.{marked, union_marked}
+pub use Rattle.version_join.specs.Join.{pairs_of, unlike}
 use Rattle.stmt_text.specs.declared.stmt.Stmt.{Stmt}
-use Rattle.stmt_text.specs.declared.stmt.Stmt.TheVariants.{Insert, Update, Delete, Get, Scan}
+use Rattle.stmt_text.specs.declared.stmt.Stmt.TheVariants.{Begin, On, Branch, Insert, Update, Delete, Get, Scan, Join, Minus}
 use Rattle.stmt_text.specs.declared.stmt.NamedSet.{NamedSet}
 use Rattle.stmt_text.specs.declared.stmt.ScanOver.{ScanOver}
-use Rattle.stmt_text.specs.declared.stmt.ScanOver.TheVariants.{Current}
+use Rattle.stmt_text.specs.declared.stmt.ScanOver.TheVariants.{Current, Named, Heads}
 use Rattle.branch_tx.specs.Keeping.{Keeping}
-use Rattle.branch_tx.specs.Found.{Source, Own, Other, Lacking}
+use Rattle.branch_tx.specs.Found.{Source, Own, Other, Lacking, plain, first_lacking}
 
 -- a transaction: whether `begin` opened it, its room for touched keys, and how it keeps its working table; the second parent that a merge gives, a branch that it makes, and the branch to which it moves its session
 pub record Tx (W : Type 0) : Type 0 where
@@ -91,18 +95,26 @@ abbrev pub record_with : ℕ → Option (List Value) → Option Record
 record_with key None = None
 record_with key (Some fields) = Some (record { key = key; fields = fields })
 
--- a scan of the current branch without a condition
-abbrev pub is_plain : ScanOver → List Term → Bool
-is_plain Current [] = true
-is_plain Current (t ∷ ts) = false
-is_plain _ terms = false
-
 -- a refused statement leaves the transaction
 abbrev pub refused : {W : Type 0} → Tx W → Refusal → Outcome W
 refused tx why = record { tx = tx; reply = Refused why }
 
 abbrev pub answered : {W : Type 0} → Tx W → Reply → Outcome W
 answered tx reply = record { tx = tx; reply = reply }
+
+-- a question is refused where it has a cause for that
+abbrev pub unless : {W : Type 0} → Tx W → Option Refusal → Outcome W → Outcome W
+unless tx None o = o
+unless tx (Some why) o = refused tx why
+
+-- a condition is refused where it names a column that isn't there
+abbrev pub column_refusal : Option (List ℕ) → Option Refusal
+column_refusal None = None
+column_refusal (Some column) = Some (NoColumn column)
+
+-- a question with a condition on the rows of a relation with these columns
+abbrev pub where_known : {W : Type 0} → Tx W → List (List ℕ) → List Term → ((Record → Bool) → Outcome W) → Outcome W
+where_known tx columns terms ask = unless tx (column_refusal (first_unknown columns terms)) (ask (holds columns terms))
 
 -- a branch with as many versions as it can have takes no change
 abbrev pub unless_full : {W : Type 0} → Ground → Tx W → Outcome W → Outcome W
@@ -169,15 +181,59 @@ module _ {W : Type 0} (k : Keeping W) where
   get_of sources tx name key at None = refused tx (NoRelation name)
   get_of sources tx name key at (Some r) = get_from tx r key (source_at sources at)
 
-  abbrev pub scan_of : Tx W → List ℕ → Option ℕ → Outcome W
-  scan_of tx name None = refused tx (NoRelation name)
-  scan_of tx name (Some r) = answered tx (Listed [] (map marked (rows_of (k.contents tx.work r))))
+  -- what a version has of a relation
+  abbrev pub contents_from : Tx W → ℕ → Source → Contents
+  contents_from tx r Own = k.contents tx.work r
+  contents_from tx r (Other table) = relation_at table r
+  contents_from tx r (Lacking why) = finite.empty
 
-  -- A statement that reads or changes records. A form that isn't built yet is a bad line.
-  abbrev pub act : Ground → (VersionName → Source) → Tx W → Stmt → Outcome W
-  act g sources tx (Insert name key fields) = insert_of g tx name key fields (relation_named g.schema name)
-  act g sources tx (Update name key sets) = update_of g tx name key sets (relation_named g.schema name)
-  act g sources tx (Delete name key) = delete_of g tx name key (relation_named g.schema name)
-  act g sources tx (Get name key at) = get_of sources tx name key at (relation_named g.schema name)
-  act g sources tx (Scan name over terms) = cond (is_plain over terms) (scan_of tx name (relation_named g.schema name)) (refused tx Line)
-  act g sources tx _ = refused tx Line
+  -- the rows of it for which a condition holds, by key
+  abbrev pub rows_from : (Record → Bool) → Tx W → ℕ → Source → List Record
+  rows_from p tx r source = filter p (rows_of (contents_from tx r source))
+
+  -- the rows of several versions, each with the versions that have it
+  abbrev pub scan_versions : (VersionName → Source) → Tx W → ℕ → (Record → Bool) → List VersionName → Outcome W
+  scan_versions sources tx r p names = unless tx (first_lacking (map sources names)) (answered tx (Listed names (union_marked (map (λ v. rows_from p tx r (sources v)) names))))
+
+  abbrev pub scan_over : (VersionName → Source) → List (List ℕ) → Tx W → ℕ → (Record → Bool) → ScanOver → Outcome W
+  scan_over sources heads tx r p Current = answered tx (Listed [] (map marked (rows_from p tx r Own)))
+  scan_over sources heads tx r p (Named names) = scan_versions sources tx r p names
+  scan_over sources heads tx r p Heads = scan_versions sources tx r p (map plain heads)
+
+  abbrev pub scan_of : List Relation → (VersionName → Source) → List (List ℕ) → Tx W → List ℕ → ScanOver → List Term → Option ℕ → Outcome W
+  scan_of schema sources heads tx name over terms None = refused tx (NoRelation name)
+  scan_of schema sources heads tx name over terms (Some r) = where_known tx (columns_at schema r) terms (λ p. scan_over sources heads tx r p over)
+
+  -- the rows of relation r of a version beside those with their keys of relation s of another
+  abbrev pub join_in : Tx W → ℕ → ℕ → Source → Source → (Record → Bool) → Outcome W
+  join_in tx r s left right p = unless tx (first_lacking (left ∷ right ∷ [])) (answered tx (Paired (pairs_of (rows_from p tx r left) (contents_from tx s right))))
+
+  abbrev pub join_with : List Relation → Tx W → ℕ → List ℕ → Source → Source → List Term → Option ℕ → Outcome W
+  join_with schema tx r name left right terms None = refused tx (NoRelation name)
+  join_with schema tx r name left right terms (Some s) = where_known tx (columns_at schema r) terms (join_in tx r s left right)
+
+  abbrev pub join_of : List Relation → Tx W → List ℕ → List ℕ → Source → Source → List Term → Option ℕ → Option ℕ → Outcome W
+  join_of schema tx name other left right terms None o = refused tx (NoRelation name)
+  join_of schema tx name other left right terms (Some r) o = join_with schema tx r other left right terms o
+
+  -- the rows of a version that another one lacks or has changed
+  abbrev pub minus_in : Tx W → ℕ → Source → Source → Outcome W
+  minus_in tx r left right = unless tx (first_lacking (left ∷ right ∷ [])) (answered tx (Listed [] (map marked (unlike (rows_of (contents_from tx r left)) (contents_from tx r right)))))
+
+  abbrev pub minus_of : Tx W → List ℕ → Source → Source → Option ℕ → Outcome W
+  minus_of tx name left right None = refused tx (NoRelation name)
+  minus_of tx name left right (Some r) = minus_in tx r left right
+
+  -- A statement in an open transaction, which isn't an end of it, with the names of all branches. A form that isn't built yet is a bad line.
+  abbrev pub act : Ground → (VersionName → Source) → List (List ℕ) → Tx W → Stmt → Outcome W
+  act g sources heads tx (Begin room) = refused tx InTransaction
+  act g sources heads tx (On name) = refused tx InTransaction
+  act g sources heads tx (Branch name origin) = refused tx InTransaction
+  act g sources heads tx (Insert name key fields) = insert_of g tx name key fields (relation_named g.schema name)
+  act g sources heads tx (Update name key sets) = update_of g tx name key sets (relation_named g.schema name)
+  act g sources heads tx (Delete name key) = delete_of g tx name key (relation_named g.schema name)
+  act g sources heads tx (Get name key at) = get_of sources tx name key at (relation_named g.schema name)
+  act g sources heads tx (Scan name over terms) = scan_of g.schema sources heads tx name over terms (relation_named g.schema name)
+  act g sources heads tx (Join left right v w terms) = join_of g.schema tx left right (sources v) (sources w) terms (relation_named g.schema left) (relation_named g.schema right)
+  act g sources heads tx (Minus name v w) = minus_of tx name (sources v) (sources w) (relation_named g.schema name)
+  act g sources heads tx _ = refused tx Line

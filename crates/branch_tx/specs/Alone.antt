@@ -16,7 +16,7 @@ use Rattle.db_store.specs.Fits.{most_branches, most_versions}
 use Rattle.stmt_text.specs.declared.stmt.Stmt.{Stmt}
 use Rattle.stmt_text.specs.declared.stmt.Stmt.TheVariants.{Begin, Commit, Abort, On, LogOf, Branch}
 use Rattle.branch_tx.specs.Keeping.{Keeping, Private, private_copy, privately, over_table}
-use Rattle.branch_tx.specs.Found.{Found, Fixed, Head, NoBranch, NoPosition, found, lack, source_of}
+use Rattle.branch_tx.specs.Found.{Found, Fixed, Head, NoBranch, NoPosition, branch_names, found, lack, source_of}
 use Rattle.branch_tx.specs.Act.{Tx, Outcome, Ground, refused, answered, act}
 
 -- the room of a transaction for which none is told
@@ -110,7 +110,7 @@ module _ {W : Type 0} (k : Keeping W) where
   step d b tx (On name) = cond tx.begun (refused tx InTransaction) (on_of tx name (branch_named d name))
   step d b tx (LogOf name) = answered tx (log_of d name (branch_named d name))
   step d b tx (Branch name origin) = cond tx.begun (refused tx InTransaction) (branch_of d tx name (found d origin))
-  step d b tx x = told_of d b tx.begun (act k (ground_of d b) (λ v. source_of b (found d v)) tx x)
+  step d b tx x = told_of d b tx.begun (act k (ground_of d b) (λ v. source_of b (found d v)) (branch_names d) tx x)
 
   abbrev pub after_lines : W → Dataset → ℕ → List Stmt → Tx W
   after_lines start d b [] = fresh start

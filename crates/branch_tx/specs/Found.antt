@@ -1,5 +1,5 @@
 -- Versions by name in a dataset.
-use Rattle.std.specs.Prelude.{ℕ, ◌==◌, nat_lt, cond, List, length, Option, Some, None}
+use Rattle.std.specs.Prelude.{ℕ, ◌==◌, nat_lt, cond, List, [], ◌∷◌, length, map, Option, Some, None}
 use Rattle.db_value.specs.declared.version.VersionName.{VersionName}
 use Rattle.db_value.specs.declared.version.VersionPlace.{VersionPlace}
 use Rattle.db_value.specs.declared.reply.Refusal.{Refusal}
@@ -42,6 +42,14 @@ abbrev pub found_as : Option ℕ → VersionPlace → Table → Found
 found_as None at t = Head at t
 found_as (Some n) at t = Fixed at t
 
+-- the names of all branches, in the order made
+abbrev pub branch_names : Dataset → List (List ℕ)
+branch_names d = map (λ b. b.name) d.branches
+
+-- the plain name of a branch
+abbrev pub plain : List ℕ → VersionName
+plain name = record { branch = name; position = None }
+
 -- why a name stands for nothing
 abbrev pub lack : Found → Option Refusal
 lack (NoBranch name) = Some (RefusedBranch name)
@@ -60,3 +68,18 @@ source_of b (NoBranch name) = Lacking (RefusedBranch name)
 source_of b (NoPosition c name n) = Lacking (RefusedVersion name n)
 source_of b (Head at table) = cond (at.branch == b) Own (Other table)
 source_of b (Fixed at table) = Other table
+
+-- why a version isn't there
+abbrev pub lacking : Source → Option Refusal
+lacking Own = None
+lacking (Other table) = None
+lacking (Lacking why) = Some why
+
+abbrev pub lacking_or : Option Refusal → Option Refusal → Option Refusal
+lacking_or None behind = behind
+lacking_or (Some why) behind = Some why
+
+-- why the first of several that isn't there isn't
+abbrev pub first_lacking : List Source → Option Refusal
+first_lacking [] = None
+first_lacking (s ∷ ss) = lacking_or (lacking s) (first_lacking ss)

@@ -9,7 +9,7 @@ use Rattle.db_value.specs.declared.condition.Set.{Set}
 use Rattle.db_value.specs.declared.version.VersionName.{VersionName}
 use Rattle.db_value.specs.declared.reply.Refusal.TheVariants.{Line}
 use Rattle.db_store.specs.Table.{Table, table_code, relation_at}
-use Rattle.db_store.specs.Overlay.{Overlay, overlay_code}
+use Rattle.db_store.specs.Overlay.{Overlay, overlay_code, laid}
 use Rattle.stmt_text.specs.declared.stmt.Stmt.{Stmt}
 use Rattle.branch_tx.specs.Keeping.{over_table}
 use Rattle.branch_tx.specs.Found.{Source, Own, Other, Lacking}
@@ -27,6 +27,8 @@ pub record Granted : Type 0 where
   pub room : ℕ
   -- the versions that were lent, with their tables
   pub lent : List (VersionName × Table)
+  -- the names of all branches, once they were noted
+  pub heads : Option (List (List ℕ))
 
 abbrev pub relation_code : Coded Relation
 relation_code = code_by (List ℕ × List (List ℕ)) (coded× (coded_list coded_ℕ) (coded_list (coded_list coded_ℕ))) (λ r. (r.name, r.columns)) (λ p. record { name = p.0; columns = p.1 }) (λ _. refl)
@@ -37,15 +39,15 @@ version_code = code_by (List ℕ × Option ℕ) (coded× (coded_list coded_ℕ) 
 -- a granted transaction can be told apart from others
 abbrev pub granted_code : Coded Granted
 granted_code = code_by
-    (List Relation × (List ℕ × (Option (Bool × Bool) × (Table × (List Overlay × (ℕ × List (VersionName × Table)))))))
-    (coded× (coded_list relation_code) (coded× (coded_list coded_ℕ) (coded× (coded_option (coded× coded_bool coded_bool)) (coded× table_code (coded× (coded_list overlay_code) (coded× coded_ℕ (coded_list (coded× version_code table_code))))))))
-    (λ g. (g.schema, (g.name, (g.held, (g.head, (g.overlays, (g.room, g.lent)))))))
-    (λ p. record { schema = p.0; name = p.1.0; held = p.1.1.0; head = p.1.1.1.0; overlays = p.1.1.1.1.0; room = p.1.1.1.1.1.0; lent = p.1.1.1.1.1.1 })
+    (List Relation × (List ℕ × (Option (Bool × Bool) × (Table × (List Overlay × (ℕ × (List (VersionName × Table) × Option (List (List ℕ)))))))))
+    (coded× (coded_list relation_code) (coded× (coded_list coded_ℕ) (coded× (coded_option (coded× coded_bool coded_bool)) (coded× table_code (coded× (coded_list overlay_code) (coded× coded_ℕ (coded× (coded_list (coded× version_code table_code)) (coded_option (coded_list (coded_list coded_ℕ))))))))))
+    (λ g. (g.schema, (g.name, (g.held, (g.head, (g.overlays, (g.room, (g.lent, g.heads))))))))
+    (λ p. record { schema = p.0; name = p.1.0; held = p.1.1.0; head = p.1.1.1.0; overlays = p.1.1.1.1.0; room = p.1.1.1.1.1.0; lent = p.1.1.1.1.1.1.0; heads = p.1.1.1.1.1.1.1 })
     (λ _. refl)
 
 -- a transaction to which nothing is granted yet
 abbrev pub ungranted : List Relation → List ℕ → Table → List Overlay → ℕ → Granted
-ungranted schema name head overlays room = record { schema = schema; name = name; held = None; head = head; overlays = overlays; room = room; lent = [] }
+ungranted schema name head overlays room = record { schema = schema; name = name; held = None; head = head; overlays = overlays; room = room; lent = []; heads = None }
 
 abbrev pub held_full : Option (Bool × Bool) → Bool
 held_full None = false
@@ -78,6 +80,11 @@ lent_source (Some t) = Other t
 abbrev pub source_in : Granted → VersionName → Source
 source_in g v = cond (is_current g v) Own (lent_source (lent_table g.lent v))
 
+-- the names of all branches; none before they are noted
+abbrev pub names_or_none : Option (List (List ℕ)) → List (List ℕ)
+names_or_none None = []
+names_or_none (Some names) = names
+
 abbrev pub ground_in : Granted → Ground
 ground_in g = record { schema = g.schema; name = g.name; full = held_full g.held }
 
@@ -86,7 +93,7 @@ tx_in g = record { begun = true; room = g.room; work = g.overlays; second = None
 
 -- what a statement does in it
 abbrev pub acted : Granted → Stmt → Outcome (List Overlay)
-acted g x = act (over_table g.head) (ground_in g) (source_in g) (tx_in g) x
+acted g x = act (over_table g.head) (ground_in g) (source_in g) (names_or_none g.heads) (tx_in g) x
 
 -- it after what was done in it
 abbrev pub with_work : Granted → Outcome (List Overlay) → Granted
@@ -106,6 +113,12 @@ renewed g r name key sets = update_free (over_table g.head) (tx_in g) r name key
 
 abbrev pub removed : Granted → ℕ → List ℕ → ℕ → Outcome (List Overlay)
 removed g r name key = delete_free (over_table g.head) (tx_in g) r name key
+
+-- the table that it sees from a source
+abbrev pub table_from : Granted → Source → Table
+table_from g Own = laid g.head g.overlays
+table_from g (Other t) = t
+table_from g (Lacking why) = []
 
 -- the record with a key in a table, if there is one
 abbrev pub record_in : ℕ → ℕ → Option Table → Option (Option Record)

@@ -7,4 +7,5 @@ pub mod Stops
 pub mod TxState
 pub mod Needs
 pub mod Frame
+pub mod Covers
 pub mod Laws

@@ -8,7 +8,7 @@ use Rattle.db_store.specs.declared.work.WorkStop.TheVariants.{KeyThere, KeyMissi
 abbrev pub refusal_of : List ℕ → ℕ → ℕ → WorkStop → Refusal
 refusal_of name key room KeyThere = RefusedThere name key
 refusal_of name key room KeyMissing = RefusedMissing name key
-refusal_of name key room TableFull = RefusedFull name
+refusal_of name key room (TableFull relation) = RefusedFull name
 refusal_of name key room Room = RefusedRoom room
 refusal_of name key room Memory = Line
 

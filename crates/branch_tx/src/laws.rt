@@ -1,6 +1,7 @@
 //! Laws of the definitions: each function does nothing, and its contract is the law.
 ghost use Rattle.branch_tx.specs.Laws.{PrivateLaw, TableLaw, EntryLaw};
 ghost use Rattle.branch_tx.specs.Frame.{FrameLaw};
+ghost use Rattle.branch_tx.specs.Covers.{CoveredLaw};
 
 /// A whole private table and changes over the branch's head are one.
 pub fn private_law()
@@ -20,4 +21,9 @@ pub fn entry_law()
 /// A transaction doesn't notice what others do outside its needs.
 pub fn frame_law()
     ensures { FrameLaw }
+{}
+
+/// What a granted transaction answers to a statement that it covers is what the rules give.
+pub fn covered_law()
+    ensures { CoveredLaw }
 {}

@@ -12,22 +12,31 @@
 //! | `specs/Alone.antt` | one transaction alone |
 //! | `specs/Granted.antt` | a granted transaction by itself |
 //! | `specs/Needs.antt` | what a line needs of the lock table |
+//! | `specs/Covers.antt` | which statements a granted transaction answers by itself |
 //! | `specs/Frame.antt` | a transaction's replies and needs, which entries of others leave |
 //! | `specs/Laws.antt`, `src/laws.rt` | laws, each the contract of a function that does nothing |
-//! | `src/tx.rt` | the granted transaction |
+//! | `src/tx.rt`, `src/questions.rt` | the granted transaction, and its questions to versions |
+//! | `src/covers.rt` | which statements it answers by itself |
+//! | `src/early.rt` | refusals that look at no lock |
 //! | `src/find.rt`, `src/log.rt` | versions by name, and the log of a branch, in a store |
-//! | `src/look.rt` | reading in a view |
+//! | `src/look.rt`, `src/ask.rt` | reading in a view, and questions to views |
 //! | `src/sets.rt`, `src/refuse.rt` | new values by column, and refusals |
 #![tactic(auto)]
 
+mod ask;
+mod covers;
+mod early;
 mod find;
 pub mod laws;
 mod log;
 mod look;
+mod questions;
 mod refuse;
 mod sets;
 mod tx;
 
+pub use ask::plain_names;
+pub use early::is_early;
 pub use find::find_version;
 pub use log::log_branch;
-pub use tx::Tx;
+pub use tx::{Mark, Tx};

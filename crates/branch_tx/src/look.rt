@@ -1,18 +1,17 @@
 //! Reading in a view.
-ghost use Rattle.std.specs.Prelude.{◌≡◌, ◌<◌, ℕ, List, [], length, map, is_some, IfOk};
+ghost use Rattle.db_value.specs.declared.version.VersionName.{VersionName};
+ghost use Rattle.std.specs.Prelude.{◌≡◌, ◌<◌, ℕ, List, [], length, map, take, is_some, None, Some, IfSome, IfNone};
 ghost use Rattle.std.proofs.Common.{get_or};
 ghost use Rattle.std.specs.FinMap as finite;
-ghost use Rattle.db_store.specs.Table.{relation_at, rows_of};
-ghost use Rattle.branch_tx.specs.Act.{record_with, marked, is_plain};
+ghost use Rattle.db_store.specs.Table.{Table, relation_at};
+ghost use Rattle.branch_tx.specs.Act.{record_with};
 ghost use Rattle.branch_tx.specs.Granted.{same_version, lent_table, record_in};
 
 use db_store::View;
-use db_value::{Pred, Record, Rows, Steps, Terms, VersionName};
-use multi_scan::{blank_record, list};
-use std::alloc::{AllocError, Global};
+use db_value::{Record, Steps, VersionName};
+use multi_scan::blank_record;
 use std::marker::Brand;
 use std::sync::ledger::{Blank, Ledger};
-use stmt_text::ScanOver;
 
 /// A version that was lent, under its name.
 #[derive(Drop)]
@@ -87,6 +86,19 @@ pub fn find_lent<V: View>(
     None
 }
 
+/// The view that was lent under a name; none if none was.
+pub fn lent_view<'a, V: View>(lent: &'a [Lent<V>], name: &VersionName) -> Option<&'a V>
+    ensures none { IfNone result (lent_table (map (λ l. (l.name, V.table l.view)) lent.now) name.now ≡ None) }
+    ensures some { IfSome result (λ v. lent_table (map (λ l. (l.name, V.table l.view)) lent.now) name.now ≡ Some (V.table v.now)) }
+{
+    for one in lent {
+        if same_version(&one.name, name) {
+            return Some(&one.view);
+        }
+    }
+    None
+}
+
 /// Was a view lent under a name?
 pub fn is_lent<V: View>(lent: &[Lent<V>], name: &VersionName) -> bool
     ensures { result ≡ is_some (lent_table (map (λ l. (l.name, V.table l.view)) lent.now) name.now) }
@@ -99,39 +111,11 @@ pub fn is_lent<V: View>(lent: &[Lent<V>], name: &VersionName) -> bool
     false
 }
 
-// The rows of a relation, where nobody counts the steps.
-#[tactic(auto, using(multi_scan::proofs::Views::all_rows))]
-fn list_counted<V: View, L: Ledger>(
-    alloc: Global,
-    view: &V,
-    relation: u8,
-    blank: Blank,
-) -> Result<Rows, AllocError>
-    requires relation { relation < length (V.table view.now) }
-    requires name { blank.name ≡ L.name }
-    requires parts { blank.parts ≡ L.parts }
-    requires some { 0 < L.parts }
-    ensures { IfOk result (λ rows. rows ≡ map marked (rows_of (relation_at (V.table view.now) relation))) }
+/// Keeps the first few of the views that were lent.
+#[tactic(auto, using(crate::proofs::WideLemmas::taken))]
+pub fn keep_first<V: View>(lent: &mut Vec<Lent<V>>, count: usize)
+    ensures names { map {B = VersionName × Table} (λ l. (l.name, V.table l.view)) lent.new.items ≡ take count (map {B = VersionName × Table} (λ l. (l.name, V.table l.view)) lent.old.items) }
+    ensures tables { map (λ l. V.table l.view) lent.new.items ≡ take count (map (λ l. V.table l.view) lent.old.items) }
 {
-    let mut steps = Steps::<L>::open(blank);
-    let rows = list(alloc, view, relation, &Pred::always(alloc), &mut steps)?;
-    Ok(rows)
-}
-
-/// The rows of a relation, by key.
-pub fn list_rows<V: View>(alloc: Global, view: &V, relation: u8) -> Result<Rows, AllocError>
-    requires { relation < length (V.table view.now) }
-    ensures { IfOk result (λ rows. rows ≡ map marked (rows_of (relation_at (V.table view.now) relation))) }
-{
-    list_counted::<V, Brand>(alloc, view, relation, Blank::new(1))
-}
-
-/// Is it a scan of the current branch without a condition?
-pub fn is_plain(over: &ScanOver, terms: &Terms) -> bool
-    ensures { result ≡ is_plain over.now terms.now }
-{
-    match over {
-        ScanOver::Current => terms.as_slice().is_empty(),
-        _ => false,
-    }
+    lent.truncate(count);
 }

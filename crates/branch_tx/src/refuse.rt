@@ -55,7 +55,7 @@ pub fn refusal_of(
     match stop {
         WorkStop::KeyThere => Ok(Refusal::KeyThere { relation, key }),
         WorkStop::KeyMissing => Ok(Refusal::KeyMissing { relation, key }),
-        WorkStop::TableFull => Ok(Refusal::TableFull { relation }),
+        WorkStop::TableFull { .. } => Ok(Refusal::TableFull { relation }),
         WorkStop::Room => Ok(Refusal::Room { room }),
         WorkStop::Memory => Err(AllocError),
     }

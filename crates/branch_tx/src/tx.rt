@@ -7,33 +7,49 @@ ghost use Rattle.branch_tx.specs.Keeping.{over_table};
 ghost use Rattle.branch_tx.specs.Alone.{commit_entry};
 ghost use Rattle.branch_tx.specs.Granted.{ungranted, tx_in, acted, left, lent_table};
 
-use crate::look::{Lent, find_lent, find_record, is_lent, is_plain, list_rows};
+use crate::look::{Lent, find_lent, find_record, is_lent, keep_first};
 use crate::refuse::{no_column, no_relation, refusal_of, refused, value_count, versions_full};
 use crate::sets::resolve;
 use db_store::{Store, View, Work};
-use db_value::{
-    Entry, Fields, ListOf, Name, Record, Refusal, Reply, Rows, Schema, Sets, Terms, VersionName,
-};
+use db_value::{Entry, Fields, Name, Names, Record, Refusal, Reply, Schema, Sets, VersionName};
 use std::alloc::{AllocError, Global};
 use std::marker::Model;
-use stmt_text::{NamedSets, ScanOver, Stmt};
+use stmt_text::{NamedSets, Stmt};
 
 /// How the branch that a transaction works on was granted.
 #[derive(Clone, Copy)]
-struct Held {
-    exclusive: bool,
-    full: bool,
+pub(crate) struct Held {
+    pub(crate) exclusive: bool,
+    pub(crate) full: bool,
+}
+
+/// What a transaction held and was lent at some time.
+#[derive(Drop)]
+pub struct Mark {
+    held: Option<Held>,
+    lent: usize,
+    noted: bool,
+}
+
+impl Model for Mark {
+    ghost use Rattle.std.specs.Prelude.{ℕ, Bool, Option};
+    ghost use Rattle.branch_tx.specs.TxState.{held_of};
+
+    ghost Value = { Option (Bool × Bool) × (ℕ × Bool) };
+
+    ghost view = { λ m. (held_of m.held, (m.lent, m.noted)) };
 }
 
 /// A granted transaction: its working table, the views that were lent to it, and how its branch is
 /// held. It answers by itself, and looks at no store.
 #[derive(Drop)]
 pub struct Tx<St: Store> {
-    schema: Schema,
+    pub(crate) schema: Schema,
     current: Name,
-    work: Work<St::View>,
-    held: Option<Held>,
-    lent: Vec<Lent<St::View>>,
+    pub(crate) work: Work<St::View>,
+    pub(crate) held: Option<Held>,
+    pub(crate) lent: Vec<Lent<St::View>>,
+    pub(crate) heads: Option<Names>,
 }
 
 impl<St: Store> Model for Tx<St> {
@@ -54,20 +70,21 @@ impl<St: Store> Model for Tx<St> {
       overlays = overlays_of t.work;
       room = room_of t.work;
       lent = map (λ l. (l.name, St.View.table l.view)) t.lent.items;
+      heads = t.heads;
     } };
 
     ghost invariant = { λ t. (length (St.View.table (under_of t.work)) ≡ length t.schema) × AllWide (length t.schema) (map (λ l. St.View.table l.view) t.lent.items) };
 }
 
 impl<St: Store> Tx<St> {
-    ghost use Rattle.std.specs.Prelude.{◌<◌, ◌≤◌, Ok, Err, IfSome, is_some};
+    ghost use Rattle.std.specs.Prelude.{◌<◌, ◌≤◌, Ok, Err, IfSome, is_some, cond, take};
     ghost use Rattle.db_store.specs.Work.{insert_stop};
-    ghost use Rattle.branch_tx.specs.Act.{insert_of, insert_in, update_of, update_in, delete_of, get_of, get_from, scan_of, source_at};
+    ghost use Rattle.branch_tx.specs.Act.{insert_of, insert_in, update_of, update_in, delete_of, get_of, get_from, source_at};
     ghost use Rattle.branch_tx.specs.Granted.{ground_in, source_in, with_work, placed, renewed, removed, is_current, record_in};
     ghost use Rattle.std.specs.FinMap as finite;
-    ghost use Rattle.db_store.specs.Table.{relation_at, rows_of};
+    ghost use Rattle.db_store.specs.Table.{relation_at};
     ghost use Rattle.db_store.specs.Overlay.{laid};
-    ghost use Rattle.branch_tx.specs.Act.{record_with, marked, resolved};
+    ghost use Rattle.branch_tx.specs.Act.{record_with, resolved};
     ghost use Rattle.db_value.specs.Relations.{columns_at};
     ghost use Rattle.branch_tx.specs.Act.{relation_named};
 
@@ -89,6 +106,7 @@ impl<St: Store> Tx<St> {
             work,
             held: None,
             lent,
+            heads: None,
         })
     }
 
@@ -114,6 +132,28 @@ impl<St: Store> Tx<St> {
         Ok(())
     }
 
+    /// Where it takes its memory.
+    pub fn allocator(&self) -> Global {
+        *self.lent.allocator()
+    }
+
+    // The list of all branches in the place of an earlier one.
+    fn note_heads(&mut self, heads: Names)
+        ensures { self.new ≡ record self.old { heads = Some heads } }
+    {
+        self.heads = Some(heads);
+    }
+
+    /// Notes the names of all branches, in the order made, each of them lent or the current one.
+    pub fn lend_heads(&mut self, names: &Names) -> Result<(), AllocError>
+        ensures ok { OnOk result (self.new ≡ record self.old { heads = Some names.now }) }
+        ensures err { OnErr result (self.new ≡ self.old) }
+    {
+        let heads = names.duplicate()?;
+        self.note_heads(heads);
+        Ok(())
+    }
+
     /// The entry of its changes as a commit on a branch, if there are any.
     pub fn entry(&self, branch: u32) -> Result<Option<Entry>, AllocError>
         ensures { IfOk result (λ e. e ≡ commit_entry (over_table self.now.head) branch (tx_in self.now)) }
@@ -129,6 +169,36 @@ impl<St: Store> Tx<St> {
         }))
     }
 
+    /// What it holds and was lent.
+    pub fn mark(&self) -> Mark
+        ensures { result ≡ (self.now.held, (length self.now.lent, is_some self.now.heads)) }
+    {
+        Mark {
+            held: self.held,
+            lent: self.lent.len(),
+            noted: self.heads.is_some(),
+        }
+    }
+
+    // Forgets the list of all branches, unless it was noted before.
+    fn forget_heads(&mut self, noted: bool)
+        ensures { self.new ≡ record self.old { heads = cond noted self.old.heads None } }
+    {
+        if !noted {
+            self.heads = None;
+        }
+    }
+
+    /// Takes back what it was granted since a mark. It takes no memory.
+    #[tactic(auto, using(crate::proofs::WideLemmas::wide_take))]
+    pub fn back_to(&mut self, mark: Mark)
+        ensures { self.new ≡ record self.old { held = mark.0; lent = take mark.1.0 self.old.lent; heads = cond mark.1.1 self.old.heads None } }
+    {
+        self.forget_heads(mark.noted);
+        self.held = mark.held;
+        keep_first(&mut self.lent, mark.lent);
+    }
+
     // Has its branch as many versions as it can have?
     fn is_full(&self) -> bool
         ensures { result ≡ (ground_in self.now).full }
@@ -140,7 +210,7 @@ impl<St: Store> Tx<St> {
     }
 
     // The number of a relation.
-    fn relation_of(&self, name: &Name) -> Option<u8>
+    pub(crate) fn relation_of(&self, name: &Name) -> Option<u8>
         ensures place { result ≡ relation_named self.now.schema name.now }
         ensures within { IfSome result (λ r. r < length self.now.schema) }
     {
@@ -383,41 +453,9 @@ impl<St: Store> Tx<St> {
         }
     }
 
-    // The rows of the working table.
-    #[tactic(auto, using(db_store::proofs::OverlayLemmas::length_laid))]
-    fn list(&self, relation: u8) -> Result<Rows, AllocError>
-        requires { relation < length self.now.schema }
-        ensures { IfOk result (λ rows. rows ≡ map marked (rows_of (relation_at (laid self.now.head self.now.overlays) relation))) }
-    {
-        let rows = list_rows(*self.lent.allocator(), &self.work, relation)?;
-        Ok(rows)
-    }
-
-    fn scan_own(&self, name: &Name) -> Result<Reply, AllocError>
-        ensures { IfOk result (λ r. r ≡ (scan_of (over_table self.now.head) (tx_in self.now) name.now (relation_named self.now.schema name.now)).reply) }
-    {
-        match self.relation_of(name) {
-            None => Ok(no_relation(*name)),
-            Some(relation) => {
-                let rows = self.list(relation)?;
-                let names = ListOf::of(Vec::new(*self.lent.allocator()));
-                Ok(Reply::Listed { names, rows })
-            }
-        }
-    }
-
-    fn scan(&self, name: &Name, over: &ScanOver, terms: &Terms) -> Result<Reply, AllocError>
-        ensures { IfOk result (λ r. r ≡ (acted self.now (Stmt.Scan name.now over.now terms.now)).reply) }
-    {
-        if !is_plain(over, terms) {
-            return Ok(refused(Refusal::Line));
-        }
-        let reply = self.scan_own(name)?;
-        Ok(reply)
-    }
-
-    /// Answers a statement that reads or changes records. A refused statement leaves everything as
-    /// before, and so does want of memory.
+    /// Answers a statement that it covers. A refused statement leaves everything as before, and so does
+    /// want of memory.
+    #[tactic(auto, using(crate::proofs::SeenLemmas::scan_left, crate::proofs::SeenLemmas::join_left, crate::proofs::SeenLemmas::minus_left))]
     pub fn act(&mut self, stmt: &Stmt) -> Result<Reply, AllocError>
         ensures reply { IfOk result (λ r. r ≡ (acted self.old stmt.now).reply) }
         ensures left { OnOk result (self.new ≡ left self.old stmt.now) }
@@ -441,6 +479,21 @@ impl<St: Store> Tx<St> {
                 over,
                 terms,
             } => self.scan(relation, over, terms),
+            Stmt::Join {
+                left,
+                right,
+                first,
+                second,
+                terms,
+            } => self.join(left, right, first, second, terms),
+            Stmt::Minus {
+                relation,
+                first,
+                second,
+            } => self.minus(relation, first, second),
+            Stmt::Begin { .. } => Ok(refused(Refusal::InTransaction)),
+            Stmt::On { .. } => Ok(refused(Refusal::InTransaction)),
+            Stmt::Branch { .. } => Ok(refused(Refusal::InTransaction)),
             _ => Ok(refused(Refusal::Line)),
         }
     }

@@ -102,7 +102,9 @@ impl Locks {
         release_all(&mut self.locks, session);
     }
 
-    fn holder(&self, session: u32, needs: &[Need]) -> Option<(u32, u32)>
+    /// The least lock and its least session by which a request would be held; none where it would be
+    /// granted.
+    pub fn holder(&self, session: u32, needs: &[Need]) -> Option<(u32, u32)>
         requires { All (λ n. n.lock < LOCKS) needs.now }
         ensures { result ≡ holder session needs.now self.now.rows }
     {

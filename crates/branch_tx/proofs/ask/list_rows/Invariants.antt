@@ -1,4 +1,4 @@
-use Rattle.branch_tx.proofs.look.list_rows.Given as goal
+use Rattle.branch_tx.proofs.ask.list_rows.Given as goal
 
 -- the steps are counted on the blank that is handed over
 abbrev pub ghosts-list_counted : goal.ghosts-list_counted

@@ -1,0 +1,227 @@
+//! Questions of a granted transaction to versions.
+ghost use Rattle.std.specs.Prelude.{◌≡◌, None, Some, length, map, IfOk, OnOk};
+ghost use Rattle.branch_tx.specs.Keeping.{over_table};
+ghost use Rattle.branch_tx.specs.Granted.{tx_in, acted};
+
+use crate::Tx;
+use crate::ask::{condition, join_rows, list_rows, minus_rows, plain_names, scan_rows};
+use crate::look::lent_view;
+use crate::refuse::{no_column, no_relation, refused};
+use db_store::{Seen, Store};
+use db_value::{ListOf, Name, Pred, Refusal, Reply, Terms, VersionName, VersionNames};
+use std::alloc::AllocError;
+use stmt_text::{ScanOver, Stmt};
+
+impl<St: Store> Tx<St> {
+    ghost use Rattle.std.specs.Prelude.{◌<◌, Ok, Err, IfNone, IfSome, IfErr};
+    ghost use Rattle.std.specs.List.{All};
+    ghost use Rattle.db_value.specs.Pred.{pred_holds, first_unknown};
+    ghost use Rattle.db_value.specs.Condition.{holds};
+    ghost use Rattle.db_value.specs.Relations.{columns_at};
+    ghost use Rattle.db_store.specs.SeenState.{seen_table};
+    ghost use Rattle.branch_tx.specs.Found.{plain, lacking, first_lacking};
+    ghost use Rattle.branch_tx.specs.Act.{scan_versions, scan_over, join_in, minus_in};
+    ghost use Rattle.branch_tx.specs.Granted.{source_in, names_or_none, table_from};
+
+    // What it sees under a name: its working table, or a version that was lent.
+    #[tactic(auto, using(db_store::proofs::OverlayLemmas::length_laid))]
+    fn see<'a>(&'a self, version: &VersionName) -> Option<Seen<'a, St::View>>
+        ensures none { IfNone result (lacking (source_in self.now version.now) ≡ Some Refusal.Line) }
+        ensures some { IfSome result (λ s. lacking (source_in self.now version.now) ≡ None) }
+        ensures table { IfSome result (λ s. seen_table s ≡ table_from self.now (source_in self.now version.now)) }
+        ensures wide { IfSome result (λ s. length (seen_table s) ≡ length self.now.schema) }
+    {
+        if self.is_current(version) {
+            return Some(Seen::Own { work: &self.work });
+        }
+        match lent_view(&self.lent, version) {
+            None => None,
+            Some(view) => Some(Seen::Kept { view }),
+        }
+    }
+
+    // What it sees under several names; none where one of them wasn't lent.
+    fn see_all<'a>(
+        &'a self,
+        names: &[VersionName],
+    ) -> Result<Option<Vec<Seen<'a, St::View>>>, AllocError>
+        ensures none { IfOk result (λ o. IfNone o (first_lacking (map (source_in self.now) names.now) ≡ Some Refusal.Line)) }
+        ensures some { IfOk result (λ o. IfSome o (λ v. first_lacking (map (source_in self.now) names.now) ≡ None)) }
+        ensures tables { IfOk result (λ o. IfSome o (λ v. map seen_table v.items ≡ map (λ n. table_from self.now (source_in self.now n)) names.now)) }
+        ensures wide { IfOk result (λ o. IfSome o (λ v. All (λ s. length (seen_table s) ≡ length self.now.schema) v.items)) }
+    {
+        let mut all = Vec::new(*self.lent.allocator());
+        for name in names {
+            match self.see(name) {
+                None => return Ok(None),
+                Some(seen) => all.push(seen)?,
+            }
+        }
+        Ok(Some(all))
+    }
+
+    // A condition on a relation, or the first column that the relation hasn't.
+    fn condition(&self, relation: u8, terms: &Terms) -> Result<Result<Pred, Name>, AllocError>
+        requires { relation < length self.now.schema }
+        ensures holds { IfOk result (λ r. IfOk r (λ p. pred_holds p ≡ holds (columns_at self.now.schema relation) terms.now)) }
+        ensures known { IfOk result (λ r. OnOk r (first_unknown (columns_at self.now.schema relation) terms.now ≡ None)) }
+        ensures unknown { IfOk result (λ r. IfErr r (λ column. first_unknown (columns_at self.now.schema relation) terms.now ≡ Some column)) }
+    {
+        condition(*self.lent.allocator(), &self.schema, relation, terms)
+    }
+
+    // The names of all branches, as versions.
+    fn head_names(&self) -> Result<VersionNames, AllocError>
+        ensures { IfOk result (λ names. names ≡ map plain (names_or_none self.now.heads)) }
+    {
+        let alloc = *self.lent.allocator();
+        match &self.heads {
+            None => Ok(ListOf::of(Vec::new(alloc))),
+            Some(heads) => plain_names(alloc, heads.as_slice()),
+        }
+    }
+
+    // The rows of several versions, each with the versions that have it.
+    fn scan_versions(
+        &self,
+        relation: u8,
+        pred: &Pred,
+        names: VersionNames,
+    ) -> Result<Reply, AllocError>
+        requires { relation < length self.now.schema }
+        ensures { IfOk result (λ r. r ≡ (scan_versions (over_table self.now.head) (source_in self.now) (tx_in self.now) relation (pred_holds pred.now) names).reply) }
+    {
+        match self.see_all(names.as_slice())? {
+            None => Ok(refused(Refusal::Line)),
+            Some(views) => {
+                let rows = scan_rows(*self.lent.allocator(), &views, relation, pred)?;
+                Ok(Reply::Listed { names, rows })
+            }
+        }
+    }
+
+    // The rows of the working table.
+    #[tactic(auto, using(db_store::proofs::OverlayLemmas::length_laid))]
+    fn scan_own(&self, relation: u8, pred: &Pred) -> Result<Reply, AllocError>
+        requires { relation < length self.now.schema }
+        ensures { IfOk result (λ r. r ≡ (scan_over (over_table self.now.head) (source_in self.now) (names_or_none self.now.heads) (tx_in self.now) relation (pred_holds pred.now) ScanOver.Current).reply) }
+    {
+        let rows = list_rows(*self.lent.allocator(), &self.work, relation, pred)?;
+        let names = ListOf::of(Vec::new(*self.lent.allocator()));
+        Ok(Reply::Listed { names, rows })
+    }
+
+    fn scan_over(&self, relation: u8, pred: &Pred, over: &ScanOver) -> Result<Reply, AllocError>
+        requires { relation < length self.now.schema }
+        ensures { IfOk result (λ r. r ≡ (scan_over (over_table self.now.head) (source_in self.now) (names_or_none self.now.heads) (tx_in self.now) relation (pred_holds pred.now) over.now).reply) }
+    {
+        match over {
+            ScanOver::Current => self.scan_own(relation, pred),
+            ScanOver::Named { names } => {
+                let names = names.duplicate()?;
+                self.scan_versions(relation, pred, names)
+            }
+            ScanOver::Heads => {
+                let names = self.head_names()?;
+                self.scan_versions(relation, pred, names)
+            }
+        }
+    }
+
+    pub(crate) fn scan(
+        &self,
+        name: &Name,
+        over: &ScanOver,
+        terms: &Terms,
+    ) -> Result<Reply, AllocError>
+        ensures { IfOk result (λ r. r ≡ (acted self.now (Stmt.Scan name.now over.now terms.now)).reply) }
+    {
+        let Some(relation) = self.relation_of(name) else {
+            return Ok(no_relation(*name));
+        };
+        match self.condition(relation, terms)? {
+            Err(column) => Ok(no_column(column)),
+            Ok(pred) => self.scan_over(relation, &pred, over),
+        }
+    }
+
+    // The rows of relation r of one version beside those with their keys of relation s of another.
+    fn join_in(
+        &self,
+        r: u8,
+        s: u8,
+        first: &VersionName,
+        second: &VersionName,
+        pred: &Pred,
+    ) -> Result<Reply, AllocError>
+        requires left { r < length self.now.schema }
+        requires right { s < length self.now.schema }
+        ensures { IfOk result (λ p. p ≡ (join_in (over_table self.now.head) (tx_in self.now) r s (source_in self.now first.now) (source_in self.now second.now) (pred_holds pred.now)).reply) }
+    {
+        let Some(left) = self.see(first) else {
+            return Ok(refused(Refusal::Line));
+        };
+        let Some(right) = self.see(second) else {
+            return Ok(refused(Refusal::Line));
+        };
+        let pairs = join_rows(*self.lent.allocator(), &left, r, pred, &right, s)?;
+        Ok(Reply::Paired { pairs })
+    }
+
+    pub(crate) fn join(
+        &self,
+        left: &Name,
+        right: &Name,
+        first: &VersionName,
+        second: &VersionName,
+        terms: &Terms,
+    ) -> Result<Reply, AllocError>
+        ensures { IfOk result (λ r. r ≡ (acted self.now (Stmt.Join left.now right.now first.now second.now terms.now)).reply) }
+    {
+        let Some(r) = self.relation_of(left) else {
+            return Ok(no_relation(*left));
+        };
+        let Some(s) = self.relation_of(right) else {
+            return Ok(no_relation(*right));
+        };
+        match self.condition(r, terms)? {
+            Err(column) => Ok(no_column(column)),
+            Ok(pred) => self.join_in(r, s, first, second, &pred),
+        }
+    }
+
+    // The rows of a version that another one lacks or has changed.
+    fn minus_in(
+        &self,
+        relation: u8,
+        first: &VersionName,
+        second: &VersionName,
+    ) -> Result<Reply, AllocError>
+        requires { relation < length self.now.schema }
+        ensures { IfOk result (λ r. r ≡ (minus_in (over_table self.now.head) (tx_in self.now) relation (source_in self.now first.now) (source_in self.now second.now)).reply) }
+    {
+        let Some(left) = self.see(first) else {
+            return Ok(refused(Refusal::Line));
+        };
+        let Some(right) = self.see(second) else {
+            return Ok(refused(Refusal::Line));
+        };
+        let rows = minus_rows(*self.lent.allocator(), &left, &right, relation)?;
+        let names = ListOf::of(Vec::new(*self.lent.allocator()));
+        Ok(Reply::Listed { names, rows })
+    }
+
+    pub(crate) fn minus(
+        &self,
+        name: &Name,
+        first: &VersionName,
+        second: &VersionName,
+    ) -> Result<Reply, AllocError>
+        ensures { IfOk result (λ r. r ≡ (acted self.now (Stmt.Minus name.now first.now second.now)).reply) }
+    {
+        match self.relation_of(name) {
+            None => Ok(no_relation(*name)),
+            Some(relation) => self.minus_in(relation, first, second),
+        }
+    }
+}
