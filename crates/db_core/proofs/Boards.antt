@@ -173,7 +173,7 @@ states_same w table b [] e c ok roomy = ap (λ (v : Board). v.state) e
 states_same w table b (x ∷ xs) e c ok roomy = states_same (next w x) (table_with w table x.session x.failed x.stmt) (board_next b x) xs
     (board_step w table b x e c ok roomy.0) (covers_with w table x.session x.failed x.stmt ok c) (ok_next w x roomy.0 ok) roomy.1
 
-no_rows : Covers [] []
+pub no_rows : Covers [] []
 no_rows = record { among = λ r h. h; covered = λ r h. inl h }
 
 pub machine_law : MachineLaw

@@ -11,10 +11,7 @@ use Rattle.lock_table.proofs.Added.{added_law, without_law}
 use Rattle.branch_tx.specs.Frame.{Within, AllWithin}
 use Rattle.branch_tx.proofs.LineKeeps.{AnyHas}
 use Rattle.db_core.specs.Order.{tagged}
-
--- the session has a need on the lock
-abbrev pub OwnedBy : List Row → ℕ → ℕ → Type 0
-OwnedBy rows s lock = (e : Bool) × Has rows (row s (record { lock = lock; exclusive = e }))
+pub use Rattle.db_core.specs.Sits.{OwnedBy}
 
 -- no two sessions' rows conflict
 abbrev pub Apart : List Row → Type 0
@@ -75,7 +72,7 @@ others_left s t rows other n h = (without_law s rows (row t n)).1 (h, other)
 
 -- ---- needs that are all granted
 
-within_granted : (rows : List Row) (s : ℕ) (ns : List Need) → ((n : Need) → Has ns n → Has rows (row s n)) → Within (OwnedBy rows s) ns
+pub within_granted : (rows : List Row) (s : ℕ) (ns : List Need) → ((n : Need) → Has ns n → Has rows (row s n)) → Within (OwnedBy rows s) ns
 within_granted rows s [] f = tt
 within_granted rows s (n ∷ ns) f = ((n.exclusive, f n (inl refl)), within_granted rows s ns (λ m h. f m (inr h)))
 

@@ -1,0 +1,312 @@
+//! The board: a dataset, and the lines that were run on it.
+ghost use Rattle.std.specs.Prelude.{◌≡◌, ◌++◌, ◌∷◌, ℕ, List, [], None, false, length, IfOk, OnOk, OnErr};
+ghost use Rattle.db_store.specs.State.{State, dataset_of};
+ghost use Rattle.lock_table.specs.Rows.{Table};
+ghost use Rattle.stmt_text.specs.declared.stmt.Stmt.{Stmt};
+ghost use Rattle.entry_codec.specs.Count.{counted};
+ghost use Rattle.reply_text.specs.Reply.{NamesItsRows};
+ghost use Rattle.db_core.specs.Order.{Said, said_of, next, reply_in};
+ghost use Rattle.db_core.specs.Laws.{AllHaveRoom};
+ghost use Rattle.db_core.specs.Kept.{Kept, Stands, world_of, saids, new_kept};
+ghost use Rattle.db_core.specs.Sits.{Sits, heard, unheard, bad_why};
+
+use crate::desk::Desk;
+use crate::outside::{branch_of, end};
+use crate::session::{Grant, Session, answer, ask, close};
+use crate::twice::refusal;
+use db_store::Store;
+use db_value::{LineText, Name, Refusal, Reply, Schema, Step, VersionName};
+use entry_codec::Log;
+use lock_table::Locks;
+use std::alloc::{AllocError, Global};
+use std::marker::Model;
+use stmt_text::Stmt;
+
+/// A board is a store of a dataset and its log, the state on which it began, the lines since then
+/// with their replies, the needs that are granted, and how often the log had failed at the beginning.
+#[derive(Drop)]
+pub struct Board<St: Store, J: Log<St>> {
+    alloc: Global,
+    opening: St,
+    store: St,
+    log: J,
+    first_count: u64,
+    steps: Vec<Step>,
+    locks: Locks,
+}
+
+impl<St: Store, J: Log<St>> Model for Board<St, J> {
+    ghost use Rattle.std.specs.Coded.{codes};
+    ghost use Rattle.db_store.specs.Table.{contents_code};
+    ghost use Rattle.db_core.specs.Kept.{Kept};
+
+    ghost Value = { Kept };
+
+    ghost coded = { Prim.hlevel (codes, contents_code) };
+
+    ghost view = { λ b. record {
+      opening = St.state b.opening;
+      steps = b.steps.items;
+      now = St.state b.store;
+      rows = b.locks.rows;
+      first_count = b.first_count;
+    } };
+}
+
+// A second store of the same state, and a lock table without rows.
+fn parts_of<St: Store>(alloc: Global, store: &St) -> Result<(St, Locks), AllocError>
+    ensures state { IfOk result (λ p. St.state p.0 ≡ St.state store.now) }
+    ensures rows { IfOk result (λ p. p.1.rows ≡ []) }
+{
+    let opening = store.duplicate()?;
+    let locks = Locks::new(alloc)?;
+    Ok((opening, locks))
+}
+
+// Why a bad line is refused: it is skipped, or bad.
+fn why_bad(skipping: bool) -> Refusal
+    ensures { result ≡ bad_why skipping }
+{
+    if skipping {
+        Refusal::Skipped
+    } else {
+        Refusal::Line
+    }
+}
+
+impl<St: Store, J: Log<St>> Board<St, J> {
+    /// A board on which nothing was run. Want of memory gives store and log back.
+    pub fn new(alloc: Global, store: St, log: J) -> Result<Board<St, J>, (AllocError, St, J)>
+        ensures { IfOk result (λ b. b ≡ new_kept (St.state store) (counted (J.faults log))) }
+    {
+        match parts_of(alloc, &store) {
+            Err(stop) => Err((stop, store, log)),
+            Ok((opening, locks)) => {
+                let first_count = log.fault_count();
+                Ok(Board {
+                    alloc,
+                    opening,
+                    store,
+                    log,
+                    first_count,
+                    steps: Vec::new(alloc),
+                    locks,
+                })
+            }
+        }
+    }
+
+    /// The schema of the dataset.
+    pub fn schema(&self) -> &Schema
+        ensures { result.now ≡ (dataset_of self.now.now).schema }
+    {
+        self.store.schema()
+    }
+
+    /// The lines that were run, with their replies.
+    pub fn steps(&self) -> &[Step]
+        ensures { result.now ≡ self.now.steps }
+    {
+        &self.steps
+    }
+
+    /// The dataset as it is.
+    pub fn store(&self) -> &St
+        ensures { St.state result.now ≡ self.now.now }
+    {
+        &self.store
+    }
+
+    /// The store and the log.
+    pub fn into_parts(self) -> (St, J)
+        ensures { St.state result.0 ≡ self.now }
+    {
+        let Board { store, log, .. } = self;
+        (store, log)
+    }
+
+    // Answers a line of a session at once, and keeps it with its reply. Want of memory leaves board
+    // and session as before.
+    pub(crate) fn serve(
+        &mut self,
+        session: &mut Session<St>,
+        text: &LineText,
+        stmt: &Stmt,
+    ) -> Result<Reply, AllocError>
+        requires stands { Stands self.old }
+        requires sits { Sits (world_of self.old) session.old.number session.old.current session.old.skipping session.old.tx }
+        requires line { said_of text.now false ≡ heard session.old.number stmt.now }
+        ensures reply { IfOk result (λ r. (later : List Said) → AllHaveRoom later → r ≡ reply_in (world_of self.old) (said_of text.now false) later) }
+        ensures named { IfOk result NamesItsRows }
+        ensures steps { OnOk result (saids self.new.steps ≡ saids self.old.steps ++ said_of text.now false ∷ []) }
+        ensures world { OnOk result (world_of self.new ≡ next (world_of self.old) (said_of text.now false)) }
+        ensures opening { self.new.opening ≡ self.old.opening }
+        ensures first_count { self.new.first_count ≡ self.old.first_count }
+        ensures stands { Stands self.new }
+        ensures sits { Sits (world_of self.new) session.new.number session.new.current session.new.skipping session.new.tx }
+        ensures number { session.new.number ≡ session.old.number }
+        ensures err { OnErr result (self.new.steps ≡ self.old.steps) }
+    {
+        let line = text.duplicate()?;
+        self.steps.reserve(1)?;
+        let answered = answer(self.alloc, &mut self.store, &mut self.locks, session, stmt)?;
+        self.steps.push_reserved(Step {
+            line,
+            failed: false,
+            reply: answered.copy,
+        });
+        Ok(answered.reply)
+    }
+
+    // Refuses a bad line of a session, and keeps it with its reply. Want of memory leaves the board
+    // as before.
+    pub(crate) fn refuse(
+        &mut self,
+        session: &Session<St>,
+        text: &LineText,
+    ) -> Result<Reply, AllocError>
+        requires stands { Stands self.old }
+        requires sits { Sits (world_of self.old) session.now.number session.now.current session.now.skipping session.now.tx }
+        requires line { said_of text.now false ≡ unheard session.now.number }
+        ensures reply { IfOk result (λ r. (later : List Said) → AllHaveRoom later → r ≡ reply_in (world_of self.old) (said_of text.now false) later) }
+        ensures named { IfOk result NamesItsRows }
+        ensures steps { OnOk result (saids self.new.steps ≡ saids self.old.steps ++ said_of text.now false ∷ []) }
+        ensures world { world_of self.new ≡ world_of self.old }
+        ensures opening { self.new.opening ≡ self.old.opening }
+        ensures first_count { self.new.first_count ≡ self.old.first_count }
+        ensures stands { Stands self.new }
+        ensures err { OnErr result (self.new.steps ≡ self.old.steps) }
+    {
+        let line = text.duplicate()?;
+        let why = why_bad(session.skipping);
+        self.steps.push(Step {
+            line,
+            failed: false,
+            reply: refusal(&why),
+        })?;
+        Ok(refusal(&why))
+    }
+}
+
+impl<St: Store, J: Log<St>> Board<St, J> {
+    ghost use Rattle.std.specs.Prelude.{◌⊎◌, is_some, Some, true};
+    ghost use Rattle.lock_table.specs.Rows.{Row, holder};
+    ghost use Rattle.branch_tx.specs.Needs.{needs};
+    ghost use Rattle.db_core.specs.Desk.{Agrees, entered, cleared, grant_of, rows_by, IsMoreIf, IsReadyIf, KeepsIf};
+    ghost use Rattle.db_core.specs.Ends.{grown};
+    ghost use Rattle.db_core.specs.Sits.{AllGranted, step_over, tx_of, entry_over, branch_out, branch_entry};
+    ghost use Rattle.lock_table.specs.Grants.{without};
+
+    /// Moves the desk's lines into the list. Want of memory leaves both as before.
+    pub fn enter(&mut self, desk: &mut Desk<St>) -> Result<(), AllocError>
+        requires { Agrees self.old desk.old }
+        ensures ok { OnOk result (self.new ≡ entered self.old desk.old) }
+        ensures cleared { OnOk result (desk.new ≡ cleared desk.old) }
+        ensures agree { Agrees self.new desk.new }
+        ensures err { OnErr result (self.new ≡ self.old) }
+        ensures kept { OnErr result (desk.new ≡ desk.old) }
+    {
+        self.steps.append(&mut desk.waiting)?;
+        Ok(())
+    }
+
+    /// Enters the desk's lines, then answers this line and enters it. After want of memory this line
+    /// wasn't run, and the desk's lines were entered or none of them was.
+    pub fn visit(
+        &mut self,
+        desk: &mut Desk<St>,
+        text: &LineText,
+        stmt: &Stmt,
+    ) -> Result<Reply, AllocError>
+        requires agree { Agrees self.old desk.old }
+        requires line { said_of text.now false ≡ heard desk.old.session stmt.now }
+        ensures reply { IfOk result (λ r. (later : List Said) → AllHaveRoom later → r ≡ reply_in (world_of (entered self.old desk.old)) (said_of text.now false) later) }
+        ensures steps { OnOk result (saids self.new.steps ≡ saids (entered self.old desk.old).steps ++ said_of text.now false ∷ []) }
+        ensures waiting { OnOk result (desk.new.waiting ≡ []) }
+        ensures agree { Agrees self.new desk.new }
+        ensures opening { self.new.opening ≡ self.old.opening }
+        ensures first_count { self.new.first_count ≡ self.old.first_count }
+        ensures session { desk.new.session ≡ desk.old.session }
+        ensures err { OnErr result ((self.new.steps ≡ self.old.steps) ⊎ (self.new.steps ≡ (entered self.old desk.old).steps)) }
+    {
+        self.enter(desk)?;
+        let reply = self.serve(&mut desk.session, text, stmt)?;
+        desk.name = self.store.branch_name(desk.session.current);
+        Ok(reply)
+    }
+
+    /// Releases the needs of the desk's transaction, which ends without an entry. It takes no memory.
+    pub fn end(&mut self, desk: &mut Desk<St>)
+        ensures board { self.new ≡ record self.old { rows = without desk.old.session self.old.rows } }
+        ensures desk { desk.new ≡ record desk.old { open_tx = None; skipping = false } }
+    {
+        self.locks.release(desk.session.number);
+        close(&mut desk.session, false);
+    }
+
+    /// Makes a branch of a version, for a line whose needs were granted, and releases them. Want of
+    /// memory leaves all as before.
+    pub fn branch(
+        &mut self,
+        desk: &mut Desk<St>,
+        name: &Name,
+        of: &VersionName,
+    ) -> Result<Reply, AllocError>
+        ensures reply { IfOk result (λ r. r ≡ (branch_out (dataset_of self.old.now) name.now of.now).reply) }
+        ensures board { OnOk result (self.new ≡ record self.old { now = grown self.old.now (branch_entry (branch_out (dataset_of self.old.now) name.now of.now).tx.made); rows = without desk.old.session self.old.rows }) }
+        ensures desk { desk.new ≡ desk.old }
+        ensures err { OnErr result (self.new ≡ self.old) }
+    {
+        let answer = branch_of(&mut self.store, name, of)?;
+        self.locks.release(desk.session.number);
+        Ok(answer.reply)
+    }
+
+    /// Ends the desk's open transaction with its entry, if it has one, and tells the version that this
+    /// made. Want of memory leaves the transaction open and unchanged.
+    pub fn commit(&mut self, desk: &mut Desk<St>) -> Result<Reply, AllocError>
+        requires agree { Agrees self.old desk.old }
+        requires open { is_some desk.old.open_tx ≡ true }
+        ensures reply { IfOk result (λ r. r ≡ (step_over (dataset_of self.old.now) desk.old.current (tx_of desk.old.open_tx) Stmt.Commit).reply) }
+        ensures board { OnOk result (self.new ≡ record self.old { now = grown self.old.now (entry_over (dataset_of self.old.now) desk.old.current Stmt.Commit (tx_of desk.old.open_tx)); rows = without desk.old.session self.old.rows }) }
+        ensures desk { OnOk result (desk.new ≡ record desk.old { open_tx = None; skipping = false }) }
+        ensures err { OnErr result (self.new ≡ self.old) }
+        ensures kept { OnErr result (desk.new ≡ desk.old) }
+    {
+        let branch = desk.session.current;
+        let number = desk.session.number;
+        match &desk.session.tx {
+            None => Ok(Reply::Done),
+            Some(tx) => {
+                let answer = end(&mut self.store, tx, branch, &Stmt::Commit)?;
+                self.locks.release(number);
+                close(&mut desk.session, false);
+                Ok(answer.reply)
+            }
+        }
+    }
+
+    /// Asks for the needs of a statement, which the desk's session gets all or none of. Where they are
+    /// granted, the open transaction gets what the statement reads or changes. Want of memory leaves
+    /// board and desk as before.
+    pub fn grant(&mut self, desk: &mut Desk<St>, stmt: &Stmt) -> Result<Grant, AllocError>
+        requires agree { Agrees self.old desk.old }
+        ensures answer { IfOk result (λ r. r ≡ grant_of (dataset_of self.old.now) (holder desk.old.session (needs (dataset_of self.old.now) desk.old.current (is_some desk.old.open_tx) stmt.now) self.old.rows)) }
+        ensures rows { OnOk result (self.new ≡ record self.old { rows = rows_by (holder desk.old.session (needs (dataset_of self.old.now) desk.old.current (is_some desk.old.open_tx) stmt.now) self.old.rows) desk.old.session (needs (dataset_of self.old.now) desk.old.current (is_some desk.old.open_tx) stmt.now) self.old.rows }) }
+        ensures desk { desk.new ≡ record desk.old { open_tx = desk.new.open_tx } }
+        ensures more { OnOk result (IsMoreIf desk.old.open_tx desk.new.open_tx) }
+        ensures ready { IfOk result (λ r. r ≡ Grant.Granted → IsReadyIf (dataset_of self.old.now) desk.old.current stmt.now desk.new.open_tx) }
+        ensures keeps { OnOk result ((rows : List Row) → KeepsIf (dataset_of self.old.now) rows desk.old.session desk.old.current desk.old.open_tx → AllGranted rows desk.old.session (needs (dataset_of self.old.now) desk.old.current (is_some desk.old.open_tx) stmt.now) → KeepsIf (dataset_of self.old.now) rows desk.old.session desk.old.current desk.new.open_tx) }
+        ensures err { OnErr result (self.new ≡ self.old) }
+        ensures kept { OnErr result (Agrees self.new desk.new) }
+    {
+        let told = ask(
+            self.alloc,
+            &self.store,
+            &mut self.locks,
+            &mut desk.session,
+            stmt,
+        )?;
+        Ok(told)
+    }
+}
