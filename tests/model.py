@@ -1,16 +1,33 @@
-"""What the program answers to an input, by dictionaries: a model of its own, written from docs/FORMATS.md, and random inputs to compare with it.
+#!/usr/bin/env python3
+"""What the program answers to an input, by its definition: a model of its own, written from docs/FORMATS.md.
 
-It keeps a whole table for each relation of each version, and one session.
+It keeps a whole table for each relation of each version, and runs whole transactions one after another, in the order of their
+ends. So the reply to a line inside of a transaction is known when that transaction ends, and whether a line is held is told by the
+needs of lines alone.
+
+    tests/model.py [--built STAGE,STAGE.. | all] <input     writes the output of an input
 """
-import re
+import operator, re, sys
+from dataclasses import dataclass
+
+# What of the language is built stage by stage. A line that needs a stage that isn't built is a bad line, and so are `segments` and
+# `checkpoint`: the model has no segments and no files.
+STAGES = {
+    "sessions": "sessions 2 to 64",
+    "questions": "scan with in or where, join, minus",
+    "merges": "merge, graph",
+}
+BUILT = ("sessions", "questions")
 
 BRANCHES, VERSIONS, KEYS, TOUCHED, ROOM = 1024, 65536, 262144, 65536, 1024
+CATALOGUE = b"catalogue"  # the lock on the list of branches; that of a branch is its name
 WORD = re.compile(rb"[a-z][a-z0-9_]{0,31}")
 NO_NAMES = (b"all", b"and", b"catalogue", b"heads", b"in", b"key", b"left", b"of", b"right", b"where")
+OPERATORS = {b"=": operator.eq, b"!=": operator.ne, b"<": operator.lt, b"<=": operator.le, b">": operator.gt, b">=": operator.ge}
 
 
 class BadLine(Exception):
-    """The line is outside the grammar, or of a form that isn't built."""
+    """The line is outside of the grammar."""
 
 
 class Refused(Exception):
@@ -25,8 +42,8 @@ def name(word):
     return word
 
 
-def number(word, most):
-    if not re.fullmatch(rb"0|[1-9][0-9]*", word) or int(word) > most:
+def number(word, most, least=0):
+    if not re.fullmatch(rb"0|[1-9][0-9]*", word) or not least <= int(word) <= most:
         raise BadLine
     return int(word)
 
@@ -36,16 +53,11 @@ def key(word):
 
 
 def value(word):
-    if word.startswith(b"-"):
-        size = number(word[1:], 2**63)
-        if size == 0:
-            raise BadLine
-        return -size
-    return number(word, 2**63 - 1)
+    return -number(word[1:], 2**63, 1) if word.startswith(b"-") else number(word, 2**63 - 1)
 
 
-def several(words):
-    if not 1 <= len(words) <= 15:
+def several(words, most):
+    if not 1 <= len(words) <= most:
         raise BadLine
     return words
 
@@ -58,7 +70,7 @@ def pair(word):
 
 
 def pairs(words):
-    found = [pair(word) for word in several(words)]
+    found = [pair(word) for word in several(words, 15)]
     if len({column for column, _ in found}) < len(found):
         raise BadLine
     return found
@@ -70,325 +82,557 @@ def version(word):
     return name(branch), key(position) if at else None
 
 
-def statement(line):
-    """A line as the name of its statement and the parts of it."""
-    words = line.split(b" ")
-    if len(line) > 4096 or len(words) < 2 or words[0] != b"1":
+def term(column, sign, text):
+    """A column, which is None for the key, an operator and a value."""
+    if sign not in OPERATORS:
         raise BadLine
-    kind, rest = words[1], words[2:]
-    count = len(rest)
-    if kind == b"begin" and count <= 1:
-        room = number(rest[0], TOUCHED) if rest else ROOM
-        if room == 0:
-            raise BadLine
-        return "begin", room
-    if kind in (b"commit", b"abort") and count == 0:
-        return (kind.decode(),)
-    if kind in (b"on", b"log") and count == 1:
-        return kind.decode(), name(rest[0])
-    if kind == b"insert" and count >= 2:
-        return "insert", name(rest[0]), key(rest[1]), [value(word) for word in several(rest[2:])]
-    if kind == b"update" and count >= 2:
-        return "update", name(rest[0]), key(rest[1]), pairs(rest[2:])
-    if kind == b"delete" and count == 2:
-        return "delete", name(rest[0]), key(rest[1])
-    if kind == b"get" and count == 2:
-        return "get", name(rest[0]), key(rest[1]), None
-    if kind == b"get" and count == 4 and rest[2] == b"in":
-        return "get", name(rest[0]), key(rest[1]), version(rest[3])
-    if kind == b"scan" and count == 1:
-        return "scan", name(rest[0])
-    if kind == b"branch" and count == 3 and rest[1] == b"of":
-        return "branch", name(rest[0]), version(rest[2])
+    return (None, sign, key(text)) if column == b"key" else (name(column), sign, value(text))
+
+
+def condition(words):
+    """The terms, of which there are none where there is no word: `where C O V`, then `and C O V` for each further one."""
+    if len(words) % 4 or words[::4] != [b"where", *[b"and"] * (len(words) // 4 - 1)][:len(words)]:
+        raise BadLine
+    terms = [term(*words[at + 1:at + 4]) for at in range(0, len(words), 4)]
+    return several(terms, 16) if words else terms
+
+
+# A line.
+
+@dataclass
+class Statement:
+    kind: str
+    relations: tuple = ()  # that are named, from left to right
+    key: int = None
+    values: tuple = None  # of an insert
+    sets: tuple = ()  # of an update, columns and values
+    terms: tuple = ()  # of a condition
+    names: tuple = ()  # of versions, from left to right
+    branch: bytes = None
+    room: int = ROOM  # of a begin
+    side: str = None  # of a merge
+
+    def columns(self):
+        return [column for column, _ in self.sets] + [column for column, _, _ in self.terms if column is not None]
+
+
+def statement(words):
+    match words:
+        case [b"begin"] | [b"commit"] | [b"abort"] | [b"graph"]:
+            return Statement(words[0].decode())
+        case [b"begin", room]:
+            return Statement("begin", room=number(room, TOUCHED, 1))
+        case [b"on" | b"log" | b"merge" as kind, branch]:
+            return Statement(kind.decode(), branch=name(branch))
+        case [b"merge", branch, b"left" | b"right" as side]:
+            return Statement("merge", branch=name(branch), side=side.decode())
+        case [b"branch", branch, b"of", origin]:
+            return Statement("branch", branch=name(branch), names=[version(origin)])
+        case [b"insert", relation, at, *values]:
+            return Statement("insert", [name(relation)], key(at), values=tuple(value(word) for word in several(values, 15)))
+        case [b"update", relation, at, *sets]:
+            return Statement("update", [name(relation)], key(at), sets=pairs(sets))
+        case [b"delete" | b"get" as kind, relation, at]:
+            return Statement(kind.decode(), [name(relation)], key(at))
+        case [b"get", relation, at, b"in", of]:
+            return Statement("get_in", [name(relation)], key(at), names=[version(of)])
+        case [b"scan", relation, b"in", b"heads", *where]:
+            return Statement("scan_heads", [name(relation)], terms=condition(where))
+        case [b"scan", relation, b"in", names, *where]:
+            return Statement("scan_in", [name(relation)], terms=condition(where), names=[version(word) for word in several(names.split(b","), 64)])
+        case [b"scan", relation, *where]:
+            return Statement("scan", [name(relation)], terms=condition(where))
+        case [b"join", left, right, first, second, *where]:
+            return Statement("join", [name(left), name(right)], terms=condition(where), names=[version(first), version(second)])
+        case [b"minus", relation, first, second]:
+            return Statement("minus", [name(relation)], names=[version(first), version(second)])
     raise BadLine
 
 
-# The dataset.
+def read(line):
+    """The session of a line, which is 0 where none can be read, and its statement, which is None for a bad line."""
+    session, space, rest = line.partition(b" ")
+    if not space or not re.fullmatch(rb"[1-9]|[1-5][0-9]|6[0-4]", session):
+        return 0, None
+    try:
+        return int(session), statement(rest.split(b" ")) if len(line) <= 4096 else None
+    except BadLine:
+        return int(session), None
 
-class Version:
-    def __init__(self, name, parent, tables):
-        self.name, self.parent, self.tables = name, parent, tables
+
+def stages_of(session, said):
+    """The stages that a line needs."""
+    stages = {"sessions"} if session > 1 else set()
+    if said and (said.kind in ("scan_in", "scan_heads", "join", "minus") or said.terms):
+        stages.add("questions")
+    if said and said.kind in ("merge", "graph"):
+        stages.add("merges")
+    return stages
 
 
-class Transaction:
-    def __init__(self, room, tables):
-        self.room, self.touched = room, set()
-        self.tables = {relation: dict(table) for relation, table in tables.items()}
+# Rows and replies.
+
+def numbers(values):
+    return b" ".join(b"%d" % v for v in values)
 
 
 def row(key, values):
-    return b" ".join([b"row %d" % key] + [b"%d" % v for v in values]) + b"\n"
+    return b"row " + numbers((key, *values))
 
 
-class Model:
+def rows(lines):
+    return b"".join(line + b"\n" for line in lines) + b"rows %d\n" % len(lines)
+
+
+def spelled(of):
+    branch, position = of
+    return branch if position is None else b"%s@%d" % (branch, position)
+
+
+def with_key(tables, relation, key, values):
+    """The tables with these values at a key, or without the key where they are None."""
+    contents = {**tables[relation], key: values}
+    if values is None:
+        del contents[key]
+    return {**tables, relation: contents}
+
+
+# Versions.
+
+class Version:
+    """A version by its proper name, with its parents and a whole table for each relation."""
+
+    def __init__(self, name, parents, tables):
+        self.name, self.parents, self.tables = name, parents, tables
+
+
+class State:
     def __init__(self, schema):
         """`schema` is a dictionary from the names of relations to lists of columns."""
+        root = Version(b"master@0", [], {relation: {} for relation in schema})
         self.schema = schema
-        # the versions of each branch by position; at 0 stands the one from which it was made
-        self.branches = {b"master": [Version(b"master@0", None, {relation: {} for relation in schema})]}
-        self.current, self.open = b"master", None
+        # the versions of each branch by position, branches in the order made; at 0 stands the one from which the branch was made
+        self.branches = {b"master": [root]}
+        self.made = [root]  # in the order made
 
-    def reply(self, line):
-        try:
-            kind, *parts = statement(line)
-            return getattr(self, kind)(*parts)
-        except BadLine:
-            return b"refused 1 bad line\n"
-        except Refused as refused:
-            return b"refused " + refused.args[0] + b"\n"
-
-    def head(self):
-        return self.branches[self.current][-1]
-
-    # What statements need.
-
-    def outside(self):
-        if self.open:
-            raise Refused(b"10 in transaction")
-
-    def inside(self):
-        if not self.open:
-            raise Refused(b"11 no transaction")
-
-    def columns(self, relation):
-        if relation not in self.schema:
-            raise Refused(b"2 no relation " + relation)
-        return self.schema[relation]
-
-    def versions(self, branch):
+    def found(self, of):
+        branch, position = of
         if branch not in self.branches:
             raise Refused(b"4 no branch " + branch)
-        return self.branches[branch]
-
-    def made(self, branch, position):
-        versions = self.versions(branch)
+        versions = self.branches[branch]
         if position is None:
             return versions[-1]
         if position >= len(versions):
-            raise Refused(b"5 no version %s@%d" % (branch, position))
+            raise Refused(b"5 no version " + spelled(of))
         return versions[position]
 
-    def table(self, relation):
-        """The working table: that of the transaction, or of the head."""
-        return self.open.tables[relation] if self.open else self.head().tables[relation]
-
-    # The statements.
-
-    def begin(self, room):
-        self.outside()
-        self.open = Transaction(room, self.head().tables)
-        return b"ok\n"
-
-    def commit(self):
-        self.inside()
-        ended, self.open = self.open, None
-        if not ended.touched:
-            return b"ok\n"
-        versions = self.branches[self.current]
-        made = Version(b"%s@%d" % (self.current, len(versions)), versions[-1], ended.tables)
+    def commit(self, branch, second, tables):
+        versions = self.branches[branch]
+        made = Version(b"%s@%d" % (branch, len(versions)), [versions[-1]] + ([second] if second else []), tables)
         versions.append(made)
-        return b"ok " + made.name + b"\n"
-
-    def abort(self):
-        self.inside()
-        self.open = None
-        return b"ok\n"
-
-    def on(self, branch):
-        self.outside()
-        self.versions(branch)
-        self.current = branch
-        return b"ok\n"
-
-    def branch(self, new, of):
-        self.outside()
-        origin = self.made(*of)
-        if new in self.branches:
-            raise Refused(b"14 branch there " + new)
-        if len(self.branches) == BRANCHES:
-            raise Refused(b"15 branches full")
-        self.branches[new] = [origin]
-        return b"ok " + new + b"@0\n"
+        self.made.append(made)
 
     def log(self, branch):
-        versions = self.versions(branch)
-        lines = [b"%s of %s\n" % (made.name, made.parent.name) for made in versions[:0:-1]]
-        first = b"master@0 root\n" if branch == b"master" else b"%s@0 is %s\n" % (branch, versions[0].name)
-        return b"".join(lines) + first + b"positions %d\n" % len(versions)
+        versions = self.branches[branch]
+        lines = [b"%s of %s" % (made.name, b" and ".join(parent.name for parent in made.parents)) for made in versions[:0:-1]]
+        return lines + [b"master@0 root" if branch == b"master" else b"%s@0 is %s" % (branch, versions[0].name)]
 
-    def get(self, relation, key, of):
-        self.columns(relation)
-        is_working = of is None or of == (self.current, None)
-        table = self.table(relation) if is_working else self.made(*of).tables[relation]
-        return row(key, table[key]) if key in table else b"none\n"
 
-    def scan(self, relation):
-        self.columns(relation)
-        table = self.table(relation)
-        return b"".join(row(key, table[key]) for key in sorted(table)) + b"rows %d\n" % len(table)
+def ancestors(version):
+    """With the version itself."""
+    found, todo = set(), [version]
+    while todo:
+        one = todo.pop()
+        if one not in found:
+            found.add(one)
+            todo += one.parents
+    return found
 
-    def insert(self, relation, key, values):
-        columns = self.columns(relation)
-        if len(values) != len(columns):
-            raise Refused(b"21 value count %s %d" % (relation, len(columns)))
-        return self.change(relation, key, True, lambda old: values)
 
-    def update(self, relation, key, assigned):
-        columns = self.columns(relation)
-        for column, _ in assigned:
-            if column not in columns:
-                raise Refused(b"3 no column " + column)
-        new = dict(assigned)
-        return self.change(relation, key, False, lambda old: [new.get(column, v) for column, v in zip(columns, old)])
+def common(state, one, other):
+    """Of the ancestors of both, the one made last."""
+    both = ancestors(one) & ancestors(other)
+    return [version for version in state.made if version in both][-1]
 
-    def delete(self, relation, key):
-        self.columns(relation)
-        return self.change(relation, key, False, lambda old: None)
 
-    def change(self, relation, key, is_insert, final):
-        """Outside a transaction the change is one of its own."""
-        table = self.table(relation)
-        if len(self.branches[self.current]) == VERSIONS:
-            raise Refused(b"16 versions full " + self.current)
-        if is_insert and key in table:
-            raise Refused(b"6 key there %s %d" % (relation, key))
-        if not is_insert and key not in table:
-            raise Refused(b"7 key missing %s %d" % (relation, key))
-        if is_insert and len(table) == KEYS:
-            raise Refused(b"17 table full " + relation)
-        is_alone = self.open is None
-        if is_alone:
-            self.open = Transaction(ROOM, self.head().tables)
-        now = self.open
-        if (relation, key) not in now.touched and len(now.touched) == now.room:
-            raise Refused(b"12 room %d" % now.room)
-        now.touched.add((relation, key))
-        values = final(now.tables[relation].get(key))
-        if values is None:
-            del now.tables[relation][key]
+class Conflict(Exception):
+    """Of the field with this number, or of the whole record where it is None."""
+
+
+def merged(base, left, right, side):
+    """What a merge makes of a record, each time None where there is none. A side settles every conflict."""
+    if left == right:
+        return left
+    if left == base:
+        return right
+    if right == base:
+        return left
+    if left is None or right is None:
+        if side is None:
+            raise Conflict(None)
+        return left if side == "left" else right
+    fields = []
+    for number, (l, r) in enumerate(zip(left, right)):
+        b = base[number] if base else None
+        if l == r or r == b:
+            fields.append(l)
+        elif l == b:
+            fields.append(r)
+        elif side is None:
+            raise Conflict(number)
         else:
-            now.tables[relation][key] = values
-        return self.commit() if is_alone else b"ok\n"
+            fields.append(l if side == "left" else r)
+    return tuple(fields)
 
 
-def output_of(given):
-    """The output for an input whose schema breaks no rule."""
+def merged_tables(schema, base, left, right, side):
+    """The merge of whole tables. The first conflict is that of the least relation, key and field."""
+    result = {}
+    for relation, columns in schema.items():
+        b, l, r = base[relation], left[relation], right[relation]
+        result[relation] = {}
+        for key in sorted(b.keys() | l.keys() | r.keys()):
+            try:
+                kept = merged(b.get(key), l.get(key), r.get(key), side)
+            except Conflict as conflict:
+                field, = conflict.args
+                raise Refused(b"9 conflict %s %d %s" % (relation, key, b"*" if field is None else columns[field]))
+            if kept is not None:
+                result[relation][key] = kept
+    return result
+
+
+# One transaction alone.
+
+class Run:
+    """A transaction that runs alone on a state: a private table, the keys that it touched, and the other head that it merged."""
+
+    def __init__(self, state, current):
+        self.state, self.current = state, current
+        self.tables, self.touched, self.second = state.branches[current][-1].tables, set(), None
+        self.is_begun, self.room = False, ROOM
+        self.origin = self.new = None  # of a new branch
+        self.moved = None  # where the session goes on
+
+    def answer(self, said):
+        if said is None:
+            return b"refused 1 bad line\n"
+        try:
+            self.refuse_early(said)
+            return getattr(self, said.kind)(said)
+        except Refused as refused:
+            return b"refused " + refused.args[0] + b"\n"
+
+    def refuse_early(self, said):
+        """The refusals that the session, the schema and the line alone tell."""
+        if said.kind in ("begin", "on", "branch") and self.is_begun:
+            raise Refused(b"10 in transaction")
+        if said.kind in ("commit", "abort") and not self.is_begun:
+            raise Refused(b"11 no transaction")
+        if said.kind == "merge" and self.has_version():
+            raise Refused(b"13 not first")
+        for relation in said.relations:
+            if relation not in self.state.schema:
+                raise Refused(b"2 no relation " + relation)
+        if said.relations:
+            columns = self.state.schema[said.relations[0]]
+            for column in said.columns():
+                if column not in columns:
+                    raise Refused(b"3 no column " + column)
+            if said.values and len(said.values) != len(columns):
+                raise Refused(b"21 value count %s %d" % (said.relations[0], len(columns)))
+
+    # What it reads, and what it ends with.
+
+    def found(self, of):
+        """The plain name of the current branch is the private table."""
+        return self.tables if of == (self.current, None) else self.state.found(of).tables
+
+    def holds(self, said, key, values):
+        columns = self.state.schema[said.relations[0]]
+        return all(OPERATORS[sign](key if column is None else values[columns.index(column)], number) for column, sign, number in said.terms)
+
+    def rows_of(self, said, tables):
+        """The records of a relation for which the condition holds, by key."""
+        table = tables[said.relations[0]]
+        return [(key, table[key]) for key in sorted(table) if self.holds(said, key, table[key])]
+
+    def has_version(self):
+        return bool(self.touched) or self.second is not None
+
+    def done(self):
+        return b"ok\n" if self.is_begun else self.made()
+
+    def made(self):
+        return b"ok %s@%d\n" % (self.current, len(self.state.branches[self.current])) if self.has_version() else b"ok\n"
+
+    def enter(self):
+        """Its entry, on the state on which it ran."""
+        if self.new is not None:
+            self.state.branches[self.new] = [self.origin]
+        elif self.has_version():
+            self.state.commit(self.current, self.second, self.tables)
+
+    # The statements, where they aren't refused early.
+
+    def begin(self, said):
+        self.is_begun, self.room = True, said.room
+        return b"ok\n"
+
+    def commit(self, said):
+        return self.made()
+
+    def abort(self, said):
+        return b"ok\n"
+
+    def on(self, said):
+        self.state.found((said.branch, None))
+        self.moved = said.branch
+        return b"ok\n"
+
+    def branch(self, said):
+        origin = self.state.found(said.names[0])
+        if said.branch in self.state.branches:
+            raise Refused(b"14 branch there " + said.branch)
+        if len(self.state.branches) == BRANCHES:
+            raise Refused(b"15 branches full")
+        self.new, self.origin = said.branch, origin
+        return b"ok %s@0\n" % said.branch
+
+    def log(self, said):
+        self.state.found((said.branch, None))
+        lines = self.state.log(said.branch)
+        return b"\n".join(lines) + b"\npositions %d\n" % len(lines)
+
+    def graph(self, said):
+        lines = [line for branch in self.state.branches for line in self.state.log(branch)]
+        return b"\n".join(lines) + b"\nversions %d\n" % len(self.state.made)
+
+    def get(self, said):
+        return self.get_of(said, self.tables)
+
+    def get_in(self, said):
+        return self.get_of(said, self.found(said.names[0]))
+
+    def get_of(self, said, tables):
+        table = tables[said.relations[0]]
+        return row(said.key, table[said.key]) + b"\n" if said.key in table else b"none\n"
+
+    def scan(self, said):
+        return rows([row(*record) for record in self.rows_of(said, self.tables)])
+
+    def scan_in(self, said):
+        return self.scan_of(said, said.names)
+
+    def scan_heads(self, said):
+        return self.scan_of(said, [(branch, None) for branch in self.state.branches])
+
+    def scan_of(self, said, names):
+        """Each record once, by key and then by fields, with the names of the versions that have it."""
+        listed = [set(self.rows_of(said, self.found(of))) for of in names]
+        return rows([row(*record) + b" in " + b",".join(spelled(of) for of, found in zip(names, listed) if record in found)
+                     for record in sorted(set().union(*listed))])
+
+    def join(self, said):
+        first, second = [self.found(of) for of in said.names]
+        other = second[said.relations[1]]
+        return rows([b"pair %s | %s" % (numbers((key, *values)), numbers(other[key])) for key, values in self.rows_of(said, first) if key in other])
+
+    def minus(self, said):
+        first, second = [self.found(of) for of in said.names]
+        other = second[said.relations[0]]
+        return rows([row(key, values) for key, values in self.rows_of(said, first) if other.get(key) != values])
+
+    def insert(self, said):
+        return self.change(said, lambda columns, old: said.values)
+
+    def update(self, said):
+        new = dict(said.sets)
+        return self.change(said, lambda columns, old: tuple(new.get(column, v) for column, v in zip(columns, old)))
+
+    def delete(self, said):
+        return self.change(said, lambda columns, old: None)
+
+    def change(self, said, final):
+        relation, = said.relations
+        table = self.tables[relation]
+        self.refuse_full()
+        if said.kind == "insert" and said.key in table:
+            raise Refused(b"6 key there %s %d" % (relation, said.key))
+        if said.kind != "insert" and said.key not in table:
+            raise Refused(b"7 key missing %s %d" % (relation, said.key))
+        if said.kind == "insert" and len(table) == KEYS:
+            raise Refused(b"17 table full " + relation)
+        touched = self.touched | {(relation, said.key)}
+        self.refuse_room(touched)
+        self.touched = touched
+        self.tables = with_key(self.tables, relation, said.key, final(self.state.schema[relation], table.get(said.key)))
+        return self.done()
+
+    def merge(self, said):
+        other, head = self.state.found((said.branch, None)), self.state.branches[self.current][-1]
+        self.refuse_full()
+        base = common(self.state, head, other)
+        result = merged_tables(self.state.schema, base.tables, self.tables, other.tables, said.side)
+        for relation, table in result.items():
+            if len(table) > KEYS:
+                raise Refused(b"17 table full " + relation)
+        changed = {(relation, key) for relation, table in result.items() for key in table.keys() | self.tables[relation].keys()
+                   if table.get(key) != self.tables[relation].get(key)}
+        self.refuse_room(changed)
+        self.tables, self.touched, self.second = result, changed, other
+        return self.done()
+
+    def refuse_full(self):
+        if len(self.state.branches[self.current]) == VERSIONS:
+            raise Refused(b"16 versions full " + self.current)
+
+    def refuse_room(self, touched):
+        if len(touched) > self.room:
+            raise Refused(b"12 room %d" % self.room)
+
+
+# Locks.
+
+def name_needs(state, of):
+    branch, position = of
+    if branch not in state.branches:
+        return {(CATALOGUE, False)}
+    is_made = position is not None and position < len(state.branches[branch])
+    return set() if is_made else {(branch, False)}
+
+
+def needs(state, current, said):
+    """What a statement that isn't refused early needs: locks, each with whether it is exclusive."""
+    found = set().union(*(name_needs(state, of) for of in said.names))
+    if said.kind in ("insert", "update", "delete"):
+        found.add((current, True))
+    if said.kind in ("get", "scan"):
+        found.add((current, False))
+    if said.kind in ("scan_heads", "graph"):
+        found.update((lock, False) for lock in (CATALOGUE, *state.branches))
+    if said.kind == "branch":
+        found.add((CATALOGUE, True))
+    if said.kind in ("log", "merge") or said.kind == "on" and said.branch not in state.branches:
+        found |= name_needs(state, (said.branch, None))
+    if said.kind == "merge" and said.branch in state.branches:
+        found.add((current, True))
+    return found
+
+
+def locks_of(needed, alone=False):
+    """All of them, or the exclusive ones."""
+    return {lock for lock, is_alone in needed if is_alone or not alone}
+
+
+# Lists of lines.
+
+class Desk:
+    """What a session's lines so far make."""
+
+    def __init__(self):
+        self.current, self.is_skipping = b"master", False
+        self.close()
+
+    def close(self):
+        self.lines = []  # of the open transaction, places with statements
+        self.locks, self.locks_alone = set(), set()  # that these lines needed, and those that they needed for themselves
+
+
+class Model:
+    def __init__(self, schema, built=BUILT):
+        self.state, self.built = State(schema), set(built)
+        self.desks, self.texts, self.replies = {}, [], []
+
+    def line(self, text):
+        """Adds a line. Its reply is there at the end of its transaction."""
+        session, said = read(text)
+        if not stages_of(session, said) <= self.built:
+            session, said = session if "sessions" in self.built or session == 1 else 0, None
+        desk, place = self.desks.setdefault(session, Desk()), len(self.texts)
+        self.texts.append(text)
+        self.replies.append(None)
+        is_end = said is not None and said.kind in ("commit", "abort")
+        if desk.is_skipping:
+            self.replies[place] = b"refused 18 skipped\n"
+            desk.is_skipping = not is_end
+            return
+        needed = self.needs_of(desk, said)
+        held = self.holder(session, needed)
+        if held:
+            self.replies[place] = b"refused 8 held %s by %d\n" % held
+            desk.is_skipping = bool(desk.lines)
+            self.end(desk, False)
+            return
+        desk.lines.append((place, said))
+        desk.locks |= locks_of(needed)
+        desk.locks_alone |= locks_of(needed, alone=True)
+        first = desk.lines[0][1]
+        if is_end or first is None or first.kind != "begin":
+            self.end(desk, said is not None and said.kind != "abort")
+
+    def needs_of(self, desk, said):
+        """Of the last line of a transaction, in the run of its lines so far alone. Of the lines before it a merge alone looks further
+        than at the `begin`."""
+        if said is None:
+            return set()
+        run = Run(self.state, desk.current)
+        for _, earlier in desk.lines if said.kind == "merge" else desk.lines[:1]:
+            run.answer(earlier)
+        try:
+            run.refuse_early(said)
+        except Refused:
+            return set()
+        return needs(self.state, desk.current, said)
+
+    def holder(self, session, needed):
+        """The least lock that a line of another session's open transaction keeps from this session, and its least session."""
+        asked, alone = locks_of(needed), locks_of(needed, alone=True)
+        clashes = [(lock, other) for other, desk in self.desks.items() if other != session for lock in asked & desk.locks_alone | alone & desk.locks]
+        order = {lock: number for number, lock in enumerate((CATALOGUE, *self.state.branches))} if clashes else {}
+        return min(clashes, key=lambda clash: (order[clash[0]], clash[1]), default=None)
+
+    def end(self, desk, has_entry):
+        """The lines of a transaction run alone, on the state at its end."""
+        run = Run(self.state, desk.current)
+        for place, said in desk.lines:
+            self.replies[place] = run.answer(said)
+        if has_entry:
+            run.enter()
+        desk.current = run.moved or desk.current
+        desk.close()
+
+    def output(self):
+        """At the end of the lines: open transactions end without an entry."""
+        for session in sorted(self.desks):
+            self.end(self.desks[session], False)
+        return b"".join(b"> " + text + b"\n" + reply for text, reply in zip(self.texts, self.replies, strict=True))
+
+
+def lines_of(given):
+    """Of an input whose schema breaks no rule: the schema, and the lines of the script."""
     lines = [line for line in given.split(b"\n") if line and not line.startswith(b"#")]
     end = lines.index(b"end")
-    model = Model({words[1]: words[2:] for words in (line.split(b" ") for line in lines[:end])})
-    return b"".join(b"> " + line + b"\n" + model.reply(line) for line in lines[end + 1:])
+    return {words[1]: words[2:] for words in (line.split(b" ") for line in lines[:end])}, lines[end + 1:]
 
 
-# Random inputs: `source` is a random.Random, and `model` has run the lines before.
-
-SCHEMAS = (
-    ((b"items", b"a", b"b"),),
-    ((b"a", b"a"), (b"b", b"b", b"a", b"c0")),
-    ((b"genes", b"len", b"score"), (b"notes", b"gene", b"mark"), (b"x_9x_9x_9x_9x_9x_9x_9x_9x_9x_9x_", b"master")),
-    ((b"wide",) + tuple(b"c%d" % n for n in range(15)), (b"on", b"begin", b"on")),
-    tuple((b"r%d" % n, b"a", b"b") for n in range(8)),
-)
-BRANCH_NAMES = (b"master", b"dev", b"ann", b"bob", b"b" * 32)
-OTHER_NAMES = (b"nothing", b"masters", b"r8", b"z", b"a", b"items", b"dev")
-NO_WORDS = (b"heads", b"key", b"in", b"A", b"b" * 33, b"", b"9", b"_a", b"it-s", b"a@0", b"a=1")
-ODD_NUMBERS = (b"18446744073709551615", b"18446744073709551616", b"9223372036854775807", b"9223372036854775808", b"-9223372036854775808",
-               b"-9223372036854775809", b"-1", b"-0", b"01", b"+1", b"", b"1e3", b"9" * 23, b"9" * 40, b"-", b"--1")
-OTHER_LINES = (b"hello", b"1", b"1 ", b" 1 commit", b"1 commit ", b"1  commit", b"1 Commit", b"01 commit", b"0 begin", b"2 begin", b"64 commit", b"65 begin",
-               b"1 begin 0", b"1 begin 65537", b"1 begin 65536 1", b"1 begin -1", b"1 commit 1", b"1 abort now", b"1 graph", b"1 segments",
-               b"1 checkpoint", b"1 merge dev", b"1 merge dev left", b"1 merge master right", b"1 on", b"1 log dev ann", b"1 on master@0",
-               b"1 log master@1", b"1 branch dev", b"1 branch dev of", b"1 branch dev in master", b"1 branch dev@1 of master", b"1 branch of of master",
-               b"1 end", b"1 delete", b"1 insert", b"1 get", b"1 scan", b"1 scan items in", b"1 scan items in heads", b"1 scan items in master",
-               b"1 scan items where a = 1", b"1 join items items master master", b"1 minus items master master", b"> 1 commit", b"1\tcommit",
-               b"1 get items 1" + b"0" * 4083, b"1 insert" + b" items" * 800)
+def output_of(given, built=BUILT):
+    schema, lines = lines_of(given)
+    model = Model(schema, built)
+    for line in lines:
+        model.line(line)
+    return model.output()
 
 
-def one_of(source, names, other=0.06):
-    if source.random() >= other:
-        return source.choice(names)
-    return source.choice(OTHER_NAMES if source.random() < 0.7 else NO_WORDS)
+def built_of(text):
+    """A list of stages in words."""
+    found = tuple(STAGES) if text == "all" else tuple(text.split(",")) if text else ()
+    if not set(found) <= set(STAGES):
+        sys.exit("the stages are %s" % ", ".join(STAGES))
+    return found
 
 
-def random_key(source, keys=()):
-    """Often one of these."""
-    if source.random() < 0.03:
-        return source.choice(ODD_NUMBERS)
-    return b"%d" % (source.choice(sorted(keys)) if keys and source.random() < 0.6 else source.randrange(7))
-
-
-def random_value(source):
-    return source.choice(ODD_NUMBERS) if source.random() < 0.015 else b"%d" % source.randrange(-9, 99)
-
-
-def random_branch(source, model):
-    """Mostly one that is there."""
-    return one_of(source, list(model.branches) if source.random() < 0.85 else BRANCH_NAMES)
-
-
-def random_version(source, model):
-    branch, kind = model.current if source.random() < 0.3 else random_branch(source, model), source.random()
-    if kind < 0.4:
-        return branch
-    if kind < 0.96:
-        return branch + b"@%d" % source.randrange(len(model.branches.get(branch, b"...")) + 1)
-    return branch + b"@" + source.choice(ODD_NUMBERS)
-
-
-def random_pairs(source, columns):
-    count = source.choice((0, 1, 1, 1, 1, 1, 1, 2, 2, 2, 3, 15, 16))
-    chosen = source.sample(columns, min(count, len(columns)))
-    if source.random() < 0.15:
-        chosen.insert(source.randrange(len(chosen) + 1), one_of(source, columns, 0.7))
-    return [column + source.choice((b"=",) * 60 + (b"", b"==", b" =")) + random_value(source) for column in chosen]
-
-
-# How often each statement comes outside and inside of a transaction.
-KINDS = {b"insert": (22, 30), b"update": (13, 17), b"delete": (9, 11), b"get": (5, 6), b"get in": (8, 10), b"scan": (5, 6), b"begin": (10, 2),
-         b"commit": (1, 7), b"abort": (1, 2), b"on": (9, 2), b"log": (6, 4), b"branch": (11, 2)}
-
-
-def random_statement(source, model):
-    kind = source.choices(list(KINDS), [weights[model.open is not None] for weights in KINDS.values()])[0]
-    chosen = source.choice(list(model.schema))
-    columns, there, relation = model.schema[chosen], model.table(chosen), one_of(source, [chosen])
-    if kind == b"insert":
-        count = len(columns) if source.random() < 0.93 else source.randrange(18)
-        return [kind, relation, random_key(source)] + [random_value(source) for _ in range(count)]
-    if kind == b"update":
-        return [kind, relation, random_key(source, there)] + random_pairs(source, columns)
-    if kind in (b"delete", b"get"):
-        return [kind, relation, random_key(source, there)]
-    if kind == b"get in":
-        return [b"get", relation, random_key(source), b"in", random_version(source, model)]
-    if kind == b"scan":
-        return [kind, relation]
-    if kind == b"begin":
-        return [kind] + source.choice(([], [b"1"], [b"2"], [b"2"], [b"3"], [b"4"], [b"65536"]))
-    if kind in (b"on", b"log"):
-        return [kind, random_branch(source, model)]
-    if kind == b"branch":
-        return [kind, one_of(source, BRANCH_NAMES), b"of", random_version(source, model)]
-    return [kind]
-
-
-def random_line(source, model):
-    """A line that is mostly well formed."""
-    if source.random() < 0.05:
-        return source.choice(OTHER_LINES)
-    line = b" ".join([b"1"] + random_statement(source, model))
-    if source.random() < 0.05:  # one byte too many, too few, or another one
-        at, byte = source.randrange(len(line) + 1), bytes([source.choice(b" -#0129azAZ_@=\x00\xff\r\t")])
-        line = source.choice([line[:at] + byte + line[at:], line[:max(at - 1, 0)] + line[at:], line[:at] + byte + line[at + 1:]])
-    return line
-
-
-def random_script(source):
-    """An input: a schema of one to eight relations, and 40 to 80 lines."""
-    schema = source.choice(SCHEMAS)
-    model = Model({name: columns for name, *columns in schema})
-    lines = [b" ".join((b"relation",) + relation) for relation in schema] + [b"end"]
-    for _ in range(source.randrange(40, 81)):
-        line = source.choice((b"", b"# a comment", b"#")) if source.random() < 0.02 else random_line(source, model)
-        if line and not line.startswith(b"#"):
-            model.reply(line)
-        lines.append(line)
-    return b"\n".join(lines) + source.choice((b"", b"\n"))
+if __name__ == "__main__":
+    if sys.argv[1:2] not in ([], ["--built"]) or len(sys.argv) not in (1, 3):
+        sys.exit(__doc__)
+    sys.stdout.buffer.write(output_of(sys.stdin.buffer.read(), built_of(sys.argv[2]) if sys.argv[2:] else BUILT))

@@ -1,43 +1,140 @@
 -- Lines one after another.
-use Rattle.std.proofs.Common.{◌≡◌, ℕ, true, false, cond, List, [], ◌∷◌, ◌++◌, length, ap, sym, ◌∙◌, refl, arith, append_assoc, Option, Some}
-use Rattle.std.proofs.lemmas.List.{append-nil}
+use Rattle.std.proofs.Common.{◌≡◌, ℕ, suc, true, false, cond, List, [], ◌∷◌, ◌++◌, length, map, ap, sym, ◌∙◌, refl, arith, append_assoc, Option, Some}
+use Rattle.std.proofs.lemmas.List.{append-nil, append_cancel_left, map-append, length-map}
 use Rattle.db_value.specs.Text.{lines, is_passed_over}
+use Rattle.db_value.specs.declared.reply.Reply.{Reply}
+use Rattle.db_value.specs.declared.step.Step.{Step}
+use Rattle.db_store.specs.State.{State}
+use Rattle.reply_text.specs.Reply.{echo_text, reply_text}
+use Rattle.db_core.specs.Order.{Said, World, opening, next, after, replies}
+use Rattle.db_core.specs.Laws.{AllHaveRoom}
+use Rattle.db_core.specs.Kept.{Kept, saids, world_of, Stands}
+use Rattle.db_core.proofs.Boards.{growth_law}
+use Rattle.db_core.proofs.Rooms.{room_law}
 use Rattle.decibel_main.specs.Device.{Appends, AppendsFront, AppendsShort}
-use Rattle.decibel_main.specs.Order.{World, next, after}
-use Rattle.decibel_main.specs.Output.{kept, answer_of, out}
+use Rattle.decibel_main.specs.Output.{lines_run, said, world_after, answer_of, out}
+use Rattle.decibel_main.specs.Heard.{Hears}
+
+-- ---- a script's lines
 
 -- a passed-over line is not run
-pub kept_passed : (line : List ℕ) (more : List (List ℕ)) → is_passed_over line ≡ true → kept (line ∷ more) ≡ kept more
-kept_passed line more e = ap (λ b. cond b (kept more) (line ∷ kept more)) e
+pub passed : (line : List ℕ) (more : List (List ℕ)) → is_passed_over line ≡ true → lines_run (line ∷ more) ≡ lines_run more
+passed line more e = ap (λ b. cond b (lines_run more) (line ∷ lines_run more)) e
 
-pub kept_line : (line : List ℕ) (more : List (List ℕ)) → is_passed_over line ≡ false → kept (line ∷ more) ≡ line ∷ kept more
-kept_line line more e = ap (λ b. cond b (kept more) (line ∷ kept more)) e
+pub not_passed : (line : List ℕ) (more : List (List ℕ)) → is_passed_over line ≡ false → lines_run (line ∷ more) ≡ line ∷ lines_run more
+not_passed line more e = ap (λ b. cond b (lines_run more) (line ∷ lines_run more)) e
 
 pub lines_empty : (bs : List ℕ) → length bs ≡ 0 → lines bs ≡ []
 lines_empty [] e = refl
 lines_empty (b ∷ bs) e = absurd (omega arith)
 
--- one line more
-pub after_more : (w : World) (ran : List (List ℕ)) (line : List ℕ) → after w (ran ++ line ∷ []) ≡ next (after w ran) line
-after_more w [] line = refl
-after_more w (x ∷ xs) line = after_more (next w x) xs line
+-- ---- the room of lines that are read
+
+pub all_roomy : (lines : List (List ℕ)) → AllHaveRoom (map said lines)
+all_roomy [] = tt
+all_roomy (line ∷ more) = (room_law line false, all_roomy more)
+
+steps_roomy : (steps : List Step) → AllHaveRoom (saids steps)
+steps_roomy [] = tt
+steps_roomy (s ∷ more) = (room_law s.line s.failed, steps_roomy more)
+
+roomy-append : (xs ys : List Said) → AllHaveRoom xs → AllHaveRoom ys → AllHaveRoom (xs ++ ys)
+roomy-append [] ys p q = q
+roomy-append (x ∷ xs) ys p q = (p.0, roomy-append xs ys p.1 q)
+
+-- ---- worlds
+
+after-append : (w : World) (xs ys : List Said) → after w (xs ++ ys) ≡ after (after w xs) ys
+after-append w [] ys = refl
+after-append w (x ∷ xs) ys = after-append (next w x) xs ys
+
+-- what a core has heard made its world
+pub heard_world : (old new : Kept) (lines : List (List ℕ)) → Hears old new lines → world_of new ≡ world_after (world_of old) lines
+heard_world old new lines h =
+    ap (λ (s : State). after (opening s) (saids new.steps)) h.opening ∙ ap (after (opening old.opening)) h.steps ∙ after-append (opening old.opening) (saids old.steps) (map said lines)
+
+pub hears_more : (old mid new : Kept) (xs ys : List (List ℕ)) → Hears old mid xs → Hears mid new ys → Hears old new (xs ++ ys)
+hears_more old mid new xs ys p q = record {
+  opening = q.opening ∙ p.opening;
+  steps = q.steps ∙ ap (λ t. t ++ map said ys) p.steps ∙ append_assoc (saids old.steps) (map said xs) (map said ys) ∙ ap (λ t. saids old.steps ++ t) (sym (map-append said xs ys));
+}
+
+pub hears_none : (k : Kept) → Hears k k []
+hears_none k = record { opening = refl; steps = sym (append-nil (saids k.steps)) }
+
+-- ---- replies behind those of a core
+
+-- replies to lines stand when more lines come
+grows : (k : Kept) (xs ys : List Said) → Stands k → AllHaveRoom xs → AllHaveRoom ys → replies (world_of k) (xs ++ ys) ≡ replies (world_of k) xs ++ replies (after (world_of k) xs) ys
+grows k xs ys stands p q =
+    let w : World = opening k.opening in
+    let past : List Said = saids k.steps in
+    let old : AllHaveRoom past = steps_roomy k.steps in
+    append_cancel_left (replies w past) (replies (world_of k) (xs ++ ys)) (replies (world_of k) xs ++ replies (after (world_of k) xs) ys) (
+    sym (growth_law k.opening past (xs ++ ys) stands.sound stands.counted old (roomy-append xs ys p q))
+    ∙ ap (replies w) (sym (append_assoc past xs ys))
+    ∙ growth_law k.opening (past ++ xs) ys stands.sound stands.counted (roomy-append past xs old p) q
+    ∙ ap (λ t. t ++ replies (after w (past ++ xs)) ys) (growth_law k.opening past xs stands.sound stands.counted old p)
+    ∙ append_assoc (replies w past) (replies (world_of k) xs) (replies (after w (past ++ xs)) ys)
+    ∙ ap (λ (v : World). replies w past ++ (replies (world_of k) xs ++ replies v ys)) (after-append w past xs)
+    )
+
+-- ---- output
+
+-- echoes with these replies
+abbrev answers : List (List ℕ) → List Reply → List ℕ
+answers [] rs = []
+answers (line ∷ more) [] = []
+answers (line ∷ more) (r ∷ rs) = (echo_text line ++ reply_text r) ++ answers more rs
+
+out_answers : (w : World) (lines : List (List ℕ)) → out w lines ≡ answers lines (replies w (map said lines))
+unfolding out
+out_answers w [] = refl
+out_answers w (line ∷ more) = ap (λ t. answer_of w line more ++ t) (out_answers (next w (said line)) more)
+
+answers-append : (xs ys : List (List ℕ)) (rs ss : List Reply) → length rs ≡ length xs → answers (xs ++ ys) (rs ++ ss) ≡ answers xs rs ++ answers ys ss
+answers-append [] ys [] ss e = refl
+answers-append [] ys (r ∷ rs) ss e = absurd (omega arith)
+answers-append (x ∷ xs) ys [] ss e = absurd (omega arith)
+answers-append (x ∷ xs) ys (r ∷ rs) ss e =
+    ap (λ t. (echo_text x ++ reply_text r) ++ t) (answers-append xs ys rs ss (omega arith)) ∙ sym (append_assoc (echo_text x ++ reply_text r) (answers xs rs) (answers ys ss))
+
+length-replies : (w : World) (xs : List Said) → length (replies w xs) ≡ length xs
+length-replies w [] = refl
+length-replies w (x ∷ xs) = ap suc (length-replies (next w x) xs)
+
+-- the output of lines and then others
+pub out-append : (k : Kept) (ran more : List (List ℕ)) → Stands k → out (world_of k) (ran ++ more) ≡ out (world_of k) ran ++ out (world_after (world_of k) ran) more
+out-append k ran more stands =
+    let w : World = world_of k in
+    let v : World = world_after w ran in
+    out_answers w (ran ++ more)
+    ∙ ap (λ (s : List Said). answers (ran ++ more) (replies w s)) (map-append said ran more)
+    ∙ ap (answers (ran ++ more)) (grows k (map said ran) (map said more) stands (all_roomy ran) (all_roomy more))
+    ∙ answers-append ran more (replies w (map said ran)) (replies v (map said more)) (length-replies w (map said ran) ∙ length-map ran said)
+    ∙ ap (λ t. t ++ answers more (replies v (map said more))) (sym (out_answers w ran))
+    ∙ ap (λ t. out w ran ++ t) (sym (out_answers v more))
 
 pub out_end : (w : World) → out w [] ≡ []
 unfolding out
 out_end w = refl
 
--- the output of lines and then others
-pub out-append : (w : World) (ran more : List (List ℕ)) → out w (ran ++ more) ≡ out w ran ++ out (after w ran) more
+out_line : (w : World) (line : List ℕ) (later : List (List ℕ)) → out w (line ∷ later) ≡ answer_of w line later ++ out (next w (said line)) later
 unfolding out
-out-append w [] more = refl
-out-append w (x ∷ xs) more = ap (λ t. answer_of w x ++ t) (out-append (next w x) xs more) ∙ sym (append_assoc (answer_of w x) (out (next w x) xs) (out (after (next w x) xs) more))
+out_line w line later = refl
 
-pub out_one : (w : World) (line : List ℕ) → out w (line ∷ []) ≡ answer_of w line
-unfolding out
-out_one w line = append-nil (answer_of w line)
+-- the output of lines that stand before another and later ones
+pub out_front : (k : Kept) (ran : List (List ℕ)) (line : List ℕ) (later : List (List ℕ)) → Stands k
+    → out (world_of k) (ran ++ line ∷ later) ≡ out (world_of k) ran ++ (answer_of (world_after (world_of k) ran) line later ++ out (next (world_after (world_of k) ran) (said line)) later)
+out_front k ran line later stands = out-append k ran (line ∷ later) stands ∙ ap (λ t. out (world_of k) ran ++ t) (out_line (world_after (world_of k) ran) line later)
 
-pub out_more : (w : World) (ran : List (List ℕ)) (line : List ℕ) → out w (ran ++ line ∷ []) ≡ out w ran ++ answer_of (after w ran) line
-out_more w ran line = out-append w ran (line ∷ []) ∙ ap (λ t. out w ran ++ t) (out_one (after w ran) line)
+-- one line more
+pub out_more : (k : Kept) (ran : List (List ℕ)) (line : List ℕ) → Stands k → out (world_of k) (ran ++ line ∷ []) ≡ out (world_of k) ran ++ answer_of (world_after (world_of k) ran) line []
+out_more k ran line stands =
+    let w : World = world_after (world_of k) ran in
+    out_front k ran line [] stands ∙ ap (λ t. out (world_of k) ran ++ (answer_of w line [] ++ t)) (out_end (next w (said line))) ∙ ap (λ t. out (world_of k) ran ++ t) (append-nil (answer_of w line []))
+
+-- ---- what was written
 
 pub appends_then : (a b c : Option (List ℕ)) (x y : List ℕ) → Appends a b x → Appends b c y → Appends a c (x ++ y)
 appends_then a b c x y p q = λ old h. q (old ++ x) (p old h) ∙ ap Some (append_assoc old x y)
@@ -61,9 +158,3 @@ front_then a b c x y rest all p q e = λ old h.
       f.2 ∙ ap Some (append_assoc old x f.0),
       e ∙ ap (λ t. x ++ (t ++ rest)) f.3 ∙ ap (λ t. x ++ t) (append_assoc f.0 f.1 rest) ∙ sym (append_assoc x f.0 (f.1 ++ rest)),
     )
-
--- the output of lines that stand before others
-pub out_front : (w : World) (ran : List (List ℕ)) (line : List ℕ) (later : List (List ℕ)) → out w (ran ++ line ∷ later) ≡ out w ran ++ (answer_of (after w ran) line ++ out (after w (ran ++ line ∷ [])) later)
-out_front w ran line later =
-    ap (out w) (sym (append_assoc ran (line ∷ []) later)) ∙ out-append w (ran ++ line ∷ []) later
-    ∙ ap (λ t. t ++ out (after w (ran ++ line ∷ [])) later) (out_more w ran line) ∙ append_assoc (out w ran) (answer_of (after w ran) line) (out (after w (ran ++ line ∷ [])) later)

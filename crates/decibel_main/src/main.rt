@@ -5,10 +5,9 @@
 //!
 //! | file | has |
 //! |---|---|
-//! | `specs/Order.antt`, `specs/Output.antt` | lists of lines, and what is written for them |
-//! | `specs/Stands.antt` | what a session keeps, against the lines so far |
+//! | `specs/Output.antt` | what is written for lines |
+//! | `specs/Heard.antt` | which lines were answered |
 //! | `specs/Top.antt`, `specs/Ends.antt` | how a call ends |
-//! | `src/seat.rt`, `src/session.rt` | a session's transactions and statements |
 //! | `src/run.rt` | lines one after another |
 //! | `src/devices.rt`, `src/standard.rt` | devices whole, and the standard streams |
 //! | `src/top.rt` | the top call |
@@ -17,11 +16,13 @@
 mod devices;
 #[cfg(test)]
 mod join_tests;
+#[cfg(test)]
+mod merge_tests;
 mod run;
 #[cfg(test)]
 mod scan_tests;
-mod seat;
-mod session;
+#[cfg(test)]
+mod session_tests;
 mod standard;
 #[cfg(test)]
 mod tests;

@@ -97,7 +97,7 @@ fn refuses_what_is_in_no_form(rt: HostRuntime) -> Result<(), Fail> {
         "01 scan items",
         "0 scan items",
         "65 begin",
-        "2 scan items",
+        "2",
         "1 scan Items",
         "1 begin 65537",
         "1 get items 01",
@@ -106,9 +106,11 @@ fn refuses_what_is_in_no_form(rt: HostRuntime) -> Result<(), Fail> {
         "1 insert items 1 -0 1",
         "1 insert items 1 1 9223372036854775808",
         "1 graph",
+        "1 segments",
+        "1 checkpoint",
         "1 merge master",
-        "1 scan items in master",
-        "1 scan items where a = 1",
+        "1 scan items in",
+        "1 scan items where",
     ];
     for line in lines {
         let input = format!(in rt.alloc(); "relation items a b\nend\n{line}\n")?;
@@ -262,6 +264,16 @@ fn script_of(alloc: Global, output: &str) -> Result<String, Fail> {
     Ok(script)
 }
 
+/// Each output is that of its echoed lines on a new dataset.
+pub fn answers(rt: &impl Abort, alloc: Global, outputs: &[(&str, &str)]) -> Result<(), Fail> {
+    for (name, output) in outputs {
+        let script = script_of(alloc, output)?;
+        let call = try_with(name, script.as_str());
+        ends(rt, alloc, &call, Status::Done, output)?;
+    }
+    Ok(())
+}
+
 #[test]
 fn curates_by_one_session(rt: HostRuntime) -> Result<(), Fail> {
     let runs = [
@@ -269,12 +281,7 @@ fn curates_by_one_session(rt: HostRuntime) -> Result<(), Fail> {
         ("versions and branches", BRANCHES),
         ("refusals in their order", REFUSED),
     ];
-    for (name, output) in runs {
-        let script = script_of(rt.alloc(), output)?;
-        let call = try_with(name, script.as_str());
-        ends(&rt, rt.alloc(), &call, Status::Done, output)?;
-    }
-    Ok(())
+    answers(&rt, rt.alloc(), &runs)
 }
 
 #[test]
