@@ -1,22 +1,24 @@
 //! A store that keeps one whole table for each version.
-ghost use Rattle.std.specs.Prelude.{◌≡◌, ◌<◌, ◌≤◌, ◌+◌, ◌^◌, true, nat_lt, ◌&&◌, map, position, length, IfOk, IfSome, OnOk, OnErr, vec_len, vec_capacity};
+ghost use Rattle.std.specs.Prelude.{◌≡◌, ◌<◌, ◌≤◌, ◌+◌, ◌^◌, true, nat_lt, ◌&&◌, map, length, IfOk, IfSome, OnOk, OnErr, vec_len, vec_capacity};
+ghost use Rattle.std.specs.FinMap.{len};
 ghost use Rattle.std.specs.List.{All, AllZip};
 ghost use Rattle.db_value.specs.declared.entry.Entry.TheVariants.{Commit};
-ghost use Rattle.db_value.specs.Text.{same};
 ghost use Rattle.db_value.specs.Schema.{most_relations};
-ghost use Rattle.db_store.specs.Dataset.{new_dataset, branch_named, branch_at, version_at, head_of, proper, proper_if, is_made, IsMade};
+ghost use Rattle.db_store.specs.Dataset.{new_dataset, branch_at, version_at, head_of, proper, proper_if, is_made, IsMade};
 ghost use Rattle.db_store.specs.Fits.{fits, second_fits, most_branches, most_versions};
 ghost use Rattle.db_store.specs.Sound.{IsSound};
 ghost use Rattle.db_store.specs.Counted.{IsCounted};
 ghost use Rattle.db_store.specs.Order.{numbers_if, number_of, lineage, IsOrdered};
 ghost use Rattle.db_store.specs.State.{whole};
 ghost use Rattle.plain_store.specs.Numbers.{list_if};
+ghost use Rattle.plain_store.specs.ByName.{AreNumbers};
 ghost use Rattle.plain_store.specs.Plain.{id_of_place, kept_dataset, HasRoom, Widens, IsReady, IsReadyBranch};
 
 use crate::PlainView;
 use crate::fit::{
     branch_of, changes_fit, changes_of, is_within, makes_version, name_of, origin_of, second_of,
 };
+use crate::names::BranchNames;
 use crate::numbers::{add_version, new_graph, number_in, reserve_versions};
 use crate::plain_branch::{PlainBranch, PlainVersion};
 use crate::plain_table::PlainTable;
@@ -55,6 +57,7 @@ pub struct PlainStore {
     alloc: Global,
     schema: Schema,
     branches: Vec<PlainBranch>,
+    names: BranchNames,
     order: Vec<VersionPlace>,
     graph: Graph,
     spare: usize,
@@ -62,19 +65,15 @@ pub struct PlainStore {
     ghost counted: { IsCounted (kept_dataset schema branches.items order.items) },
     ghost few_relations: { length schema ≤ most_relations },
     ghost branch_room: { most_branches ≤ vec_capacity branches },
+    ghost named: { AreNumbers names.numbers (kept_dataset schema branches.items order.items) },
+    ghost names_count: { len names.numbers ≡ length branches.items },
+    ghost names_room: { most_branches ≤ names.room },
     ghost rooms: { All (HasRoom spare) branches.items },
     ghost order_room: { vec_len order + spare ≤ vec_capacity order },
     ghost ordered: { IsOrdered (kept_dataset schema branches.items order.items) },
     ghost lined: { graph.versions ≡ lineage (kept_dataset schema branches.items order.items) },
     ghost graph_room: { spare ≤ graph.spare },
     ghost numbered: { length order.items + spare < 2 ^ 32 },
-}
-
-// The first branch with a name.
-fn place_of(branches: &[PlainBranch], name: &Name) -> Option<usize>
-    ensures { result ≡ position (λ k. same k.branch.name name.now) branches.now }
-{
-    branches.iter().position(|branch| branch.is_named(name))
 }
 
 // The id of the parts of a version.
@@ -127,6 +126,8 @@ impl PlainStore {
         let master = PlainBranch::begin(alloc, name, root, root, first)?;
         let mut branches = Vec::with_capacity(alloc, MOST_BRANCHES)?;
         branches.push(master)?;
+        let mut names = BranchNames::with_room(alloc, MOST_BRANCHES)?;
+        names.add(name, 0);
         let mut order = Vec::new(alloc);
         order.push(root)?;
         let graph = new_graph(alloc)?;
@@ -134,18 +135,11 @@ impl PlainStore {
             alloc,
             schema,
             branches,
+            names,
             order,
             graph,
             spare: 0,
         })
-    }
-
-    // The number of the branch with a name.
-    fn place(&self, name: &Name) -> Option<usize>
-        ensures place { result ≡ branch_named (dataset_in self.now) name.now }
-        ensures within { IfSome result (λ at. at < most_branches) }
-    {
-        place_of(&self.branches, name)
     }
 
     // A branch.
@@ -317,10 +311,7 @@ impl Store for PlainStore {
     }
 
     fn branch(&self, name: &Name) -> Option<u32> {
-        match self.place(name) {
-            None => None,
-            Some(at) => Some(at as u32),
-        }
+        self.names.number(name)
     }
 
     fn branch_name(&self, branch: u32) -> Name {
@@ -366,7 +357,7 @@ impl Store for PlainStore {
                 changes,
             } => self.commit_fits(*branch, second, changes.as_slice()),
             Entry::Branch { name, origin } => {
-                self.place(name).is_none()
+                self.names.number(name).is_none()
                     && self.branches.len() < MOST_BRANCHES
                     && self.is_made(*origin)
             }
@@ -384,12 +375,14 @@ impl Store for PlainStore {
     fn duplicate(&self) -> Result<PlainStore, AllocError> {
         let schema = self.schema.duplicate()?;
         let branches = duplicates(self.alloc, &self.branches)?;
+        let names = self.names.duplicate(self.alloc, MOST_BRANCHES)?;
         let order = Vec::from_slice(self.alloc, self.order.as_slice())?;
         let graph = self.graph.duplicate()?;
         Ok(PlainStore {
             alloc: self.alloc,
             schema,
             branches,
+            names,
             order,
             graph,
             spare: 0,
@@ -429,6 +422,8 @@ impl Store for PlainStore {
 
     fn install_branch(&mut self, prepared: PlainPreparedBranch) {
         let PlainPreparedBranch { branch } = prepared;
+        let number = self.branches.len() as u32;
+        self.names.add(branch.name(), number);
         self.branches.push_reserved(branch);
         self.spare = 0;
     }
