@@ -5,3 +5,4 @@ pub mod TableLemmas
 pub mod PreferLemmas
 pub mod OrderLemmas
 pub mod MadeLemmas
+pub mod ClashLemmas

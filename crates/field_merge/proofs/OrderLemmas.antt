@@ -104,9 +104,35 @@ module _ (prefer : Prefer) (base left right : Table) where
   pub merged_ascends : ascends (table_changes prefer base left right) ≡ true
   merged_ascends = (all_in_order 0 (length left)).1
 
+-- ---- what each change passes
+
+module _ (p : Change → Bool) where
+  all_flat : (of : ℕ → List Change) (ks : List ℕ) → ((k : ℕ) → list_all p (of k) ≡ true) → list_all p (flat_map of ks) ≡ true
+  all_flat of [] each = refl
+  all_flat of (k ∷ ks) each = list_all-append p (of k) (flat_map of ks) ∙ and_from (list_all p (of k)) (list_all p (flat_map of ks)) (each k) (all_flat of ks each)
+
+  all_from : (of : ℕ → List Change) (n count most : ℕ) → n + count ≤ most → ((r : ℕ) → r < most → list_all p (of r) ≡ true) → list_all p (flat_map of (range_with_len n count)) ≡ true
+  all_from of n zero most h each = refl
+  all_from of n (suc count) most h each = list_all-append p (of n) (flat_map of (range_with_len (n + 1) count))
+      ∙ and_from (list_all p (of n)) (list_all p (flat_map of (range_with_len (n + 1) count))) (each n (omega arith)) (all_from of (n + 1) count most (omega arith) each)
+
+-- ---- they are of relations of the table
+
+within_where : (n relation key : ℕ) (left : Option (List Value)) (r : Result (Option (List Value)) (Option ℕ)) → relation < n → list_all (λ (c : Change). nat_lt c.relation n) (change_where relation key left r) ≡ true
+within_where n relation key left (Err field) h = refl
+within_where n relation key left (Ok state) h = elim (same_state state left) as (λ b. list_all (λ (c : Change). nat_lt c.relation n) (cond b [] (record { relation = relation; key = key; fields = state } ∷ [])) ≡ true) [
+  | true ↦ refl
+  | false ↦ and_from (nat_lt relation n) true (lt-ltb relation n h) refl
+]
+
+pub merged_within : (prefer : Prefer) (base left right : Table) → list_all (λ (c : Change). nat_lt c.relation (length left)) (table_changes prefer base left right) ≡ true
+merged_within prefer base left right = all_from (λ (c : Change). nat_lt c.relation (length left)) (λ r. relation_changes prefer r (relation_at base r) (relation_at left r) (relation_at right r)) 0 (length left) (length left) (omega arith)
+    (λ r h. all_flat (λ (c : Change). nat_lt c.relation (length left)) (λ key. change_where r key (finite.get (relation_at left r) key) (merge_key prefer (relation_at base r) (relation_at left r) (relation_at right r) key)) (all_keys (relation_at base r) (relation_at left r) (relation_at right r))
+    (λ key. within_where (length left) r key (finite.get (relation_at left r) key) (merge_key prefer (relation_at base r) (relation_at left r) (relation_at right r) key) h))
+
 -- ---- they have a field for each column
 
-abbrev HasFields : ℕ → Option (List Value) → Type 0
+abbrev pub HasFields : ℕ → Option (List Value) → Type 0
 HasFields n None = Unit {0}
 HasFields n (Some fields) = length fields ≡ n
 
@@ -162,16 +188,7 @@ module _ (schema : List Relation) where
     | false ↦ and_from (nat_lt relation (length schema) && has_fields (length (columns_at schema relation)) state) true (and_from (nat_lt relation (length schema)) (has_fields (length (columns_at schema relation)) state) (lt-ltb relation (length schema) h) (has_test (length (columns_at schema relation)) state k)) refl
   ]
 
-  all_flat : (of : ℕ → List Change) (ks : List ℕ) → ((k : ℕ) → list_all (change_fits schema) (of k) ≡ true) → list_all (change_fits schema) (flat_map of ks) ≡ true
-  all_flat of [] each = refl
-  all_flat of (k ∷ ks) each = list_all-append (change_fits schema) (of k) (flat_map of ks) ∙ and_from (list_all (change_fits schema) (of k)) (list_all (change_fits schema) (flat_map of ks)) (each k) (all_flat of ks each)
-
-  all_from : (of : ℕ → List Change) (n count : ℕ) → n + count ≤ length schema → ((r : ℕ) → r < length schema → list_all (change_fits schema) (of r) ≡ true) → list_all (change_fits schema) (flat_map of (range_with_len n count)) ≡ true
-  all_from of n zero h each = refl
-  all_from of n (suc count) h each = list_all-append (change_fits schema) (of n) (flat_map of (range_with_len (n + 1) count))
-      ∙ and_from (list_all (change_fits schema) (of n)) (list_all (change_fits schema) (flat_map of (range_with_len (n + 1) count))) (each n (omega arith)) (all_from of (n + 1) count (omega arith) each)
-
-  table_has : (t : Table) (r key : ℕ) → IsTable schema t → r < length schema → HasFields (length (columns_at schema r)) (finite.get (relation_at t r) key)
+  pub table_has : (t : Table) (r key : ℕ) → IsTable schema t → r < length schema → HasFields (length (columns_at schema r)) (finite.get (relation_at t r) key)
   table_has t r key is h = at (finite.get (relation_at t r) key) refl
     where
       at : (o : Option (List Value)) → finite.get (relation_at t r) key ≡ o → HasFields (length (columns_at schema r)) o
@@ -179,7 +196,7 @@ module _ (schema : List Relation) where
       at (Some fields) e = is.counted r key fields (subst (λ n. r < n) (sym is.wide) h) e
 
   pub merged_fits : (prefer : Prefer) (base left right : Table) → IsTable schema left → IsTable schema right → list_all (change_fits schema) (table_changes prefer base left right) ≡ true
-  merged_fits prefer base left right l m = all_from (λ r. relation_changes prefer r (relation_at base r) (relation_at left r) (relation_at right r)) 0 (length left) (omega (arith, l.wide))
-      (λ r h. all_flat (λ key. change_where r key (finite.get (relation_at left r) key) (merge_key prefer (relation_at base r) (relation_at left r) (relation_at right r) key)) (all_keys (relation_at base r) (relation_at left r) (relation_at right r))
+  merged_fits prefer base left right l m = all_from (change_fits schema) (λ r. relation_changes prefer r (relation_at base r) (relation_at left r) (relation_at right r)) 0 (length left) (length schema) (omega (arith, l.wide))
+      (λ r h. all_flat (change_fits schema) (λ key. change_where r key (finite.get (relation_at left r) key) (merge_key prefer (relation_at base r) (relation_at left r) (relation_at right r) key)) (all_keys (relation_at base r) (relation_at left r) (relation_at right r))
       (λ key. change_has r key (finite.get (relation_at left r) key) (merge_key prefer (relation_at base r) (relation_at left r) (relation_at right r) key) h
       (at_has (length (columns_at schema r)) prefer (finite.get (relation_at base r) key) (finite.get (relation_at left r) key) (finite.get (relation_at right r) key) (table_has left r key l h) (table_has right r key m h))))

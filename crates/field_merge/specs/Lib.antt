@@ -1,3 +1,4 @@
 pub mod Merge
 pub mod Rows
 pub mod Walk
+pub mod Named

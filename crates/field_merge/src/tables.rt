@@ -1,6 +1,7 @@
 //! The merge of three tables.
 ghost use Rattle.std.specs.Prelude.{◌≡◌, ℕ, ◌+◌, ◌≤◌, ◌<◌, ◌++◌, [], Option, Ok, Err, Some, true, length, map, IfOk, OnOk};
 ghost use Rattle.std.specs.List.{list_all};
+ghost use Rattle.db_value.specs.Relations.{columns_at};
 ghost use Rattle.db_value.specs.declared.condition.Prefer.TheVariants.{Neither};
 ghost use Rattle.db_store.specs.Table.{relation_at, rows_of, with_changes};
 ghost use Rattle.std.specs.FinMap as finite;
@@ -8,6 +9,7 @@ ghost use Rattle.db_store.specs.Counted.{IsTable};
 ghost use Rattle.db_store.specs.Fits.{ascends, change_fits};
 ghost use Rattle.field_merge.specs.declared.stop.MergeStop.TheVariants.{Conflict};
 ghost use Rattle.field_merge.specs.Merge.{merge_key, relation_changes, relation_clashes, table_changes, table_clashes, least_clash};
+ghost use Rattle.field_merge.specs.Named.{IsFieldOf};
 ghost use Rattle.field_merge.specs.Walk.{records_of};
 
 use crate::MergeStop;
@@ -130,6 +132,8 @@ pub fn merge_tables<B: View, L: View, R: View>(
     ensures conflict { (r k : ℕ) (f : Option ℕ) → result ≡ Err (Conflict r k f)
         → least_clash (table_clashes prefer (B.table base.now) (L.table left.now) (R.table right.now)) ≡ Some (record { relation = r; key = k; field = f }) }
     ensures asked { (r k : ℕ) (f : Option ℕ) → result ≡ Err (Conflict r k f) → prefer ≡ Neither }
+    ensures relation { (r k : ℕ) (f : Option ℕ) → result ≡ Err (Conflict r k f) → r < length schema.now }
+    ensures field { (r k : ℕ) (f : Option ℕ) → result ≡ Err (Conflict r k f) → IsFieldOf (length (columns_at schema.now r)) f }
 {
     let mut all = Vec::new(alloc);
     for relation in 0..relation_count(schema) {

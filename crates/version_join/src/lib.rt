@@ -18,3 +18,4 @@ mod look;
 
 pub use differences::minus;
 pub use joins::join;
+pub use look::find_fields;

@@ -8,6 +8,7 @@ use Rattle.field_merge.specs.Merge.{Clash, least_clash, relation_changes, relati
 use Rattle.field_merge.proofs.TableLemmas.{gathered_more, none_more, least_of, none_left, gathered_all, same_stop}
 use Rattle.field_merge.proofs.MadeLemmas.{merged_table}
 use Rattle.field_merge.proofs.OrderLemmas.{merged_ascends, merged_fits}
+use Rattle.field_merge.proofs.ClashLemmas.{least_within}
 use Rattle.field_merge.proofs.tables.merge_tables.Goals as goal
 
 pub loop-relation-preserved : goal.loop-relation-preserved
@@ -30,6 +31,14 @@ returns-in-Err-clause-conflict g c = λ r k f e.
     let h : c.loop-relation.relation < length left = omega (arith, c.loop-relation-test.true, c.relation_count-relation-end.ensures, c.requires.left.wide) in
     ap least_clash (sym c.loop-relation.invariant.clashes)
     ∙ least_of (λ r. relation_clashes c.args.prefer r (relation_at base r) (relation_at left r) (relation_at right r)) c.loop-relation.relation (length left) clash h (c.in-Err.ensures.conflict r k f (same_stop _ _ e))
+
+pub returns-in-Err-clause-relation : goal.returns-in-Err-clause-relation
+returns-in-Err-clause-relation g c = λ r k f e.
+    (least_within c.args.schema.now c.args.prefer (g.B.View.table c.args.base.now) (g.L.View.table c.args.left.now) (g.R.View.table c.args.right.now) (record { relation = r; key = k; field = f }) c.requires.left (returns-in-Err-clause-conflict g c r k f e)).0
+
+pub returns-in-Err-clause-field : goal.returns-in-Err-clause-field
+returns-in-Err-clause-field g c = λ r k f e.
+    (least_within c.args.schema.now c.args.prefer (g.B.View.table c.args.base.now) (g.L.View.table c.args.left.now) (g.R.View.table c.args.right.now) (record { relation = r; key = k; field = f }) c.requires.left (returns-in-Err-clause-conflict g c r k f e)).1
 
 pub returns-clause-order : goal.returns-clause-order
 returns-clause-order g c =
