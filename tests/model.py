@@ -17,7 +17,7 @@ STAGES = {
     "questions": "scan with in or where, join, minus",
     "merges": "merge, graph",
 }
-BUILT = ("sessions", "questions")
+BUILT = ("sessions", "questions", "merges")
 
 BRANCHES, VERSIONS, KEYS, TOUCHED, ROOM = 1024, 65536, 262144, 65536, 1024
 CATALOGUE = b"catalogue"  # the lock on the list of branches; that of a branch is its name

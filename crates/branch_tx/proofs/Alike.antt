@@ -3,12 +3,13 @@ use Rattle.std.proofs.Common.{◌≡◌, ◌≢◌, ℕ, zero, suc, ◌<◌, ◌
 use Rattle.std.specs.Ordering.{nat_cmp}
 use Rattle.std.specs.FinMap as finite
 use Rattle.std.specs.List.{list_all}
-use Rattle.std.proofs.lemmas.Bool.{and_parts, leb-true}
+use Rattle.std.proofs.lemmas.Bool.{and_parts, leb-true, ltb-true}
 use Rattle.std.proofs.lemmas.List.{length-set, length-replicate, get_or-set_other}
 use Rattle.db_value.specs.Schema.{most_relations}
 use Rattle.db_value.specs.Relations.{is_counted, has_columns}
 use Rattle.db_value.specs.declared.schema.Relation.{Relation}
 use Rattle.db_value.specs.declared.version.VersionPlace.{VersionPlace}
+use Rattle.db_value.specs.declared.entry.Change.{Change}
 use Rattle.db_value.specs.declared.entry.Entry.TheVariants.{Commit as CommitEntry}
 use Rattle.db_store.specs.Table.{Table}
 use Rattle.db_store.specs.Overlay.{Overlay, untouched, overlay_at, touch}
@@ -16,14 +17,16 @@ use Rattle.db_store.specs.Dataset.{Dataset, head_of, head_place}
 use Rattle.db_store.specs.Sound.{IsSound}
 use Rattle.db_store.specs.Counted.{IsTable, IsCounted}
 use Rattle.db_store.proofs.OverlayLemmas.{laid_untouched}
+use Rattle.field_merge.proofs.OrderLemmas.{merged_within}
 use Rattle.stmt_text.specs.declared.stmt.Stmt.{Stmt}
 use Rattle.branch_tx.specs.Keeping.{Private, private_copy, privately, over_table}
 use Rattle.branch_tx.specs.Act.{Tx, Outcome}
-use Rattle.branch_tx.specs.Alone.{step, fresh, alone, overlaid, reply_alone, reply_after, entry_made, entry_of}
+use Rattle.branch_tx.specs.Merging.{put_all}
+use Rattle.branch_tx.specs.Alone.{common_table, step, fresh, alone, overlaid, reply_alone, reply_after, entry_made, entry_of}
 use Rattle.branch_tx.specs.Laws.{private_of, as_private, PrivateLaw}
 use Rattle.branch_tx.proofs.Private.{State, no_keys, IsIn, changes_same}
 use Rattle.branch_tx.proofs.Images.{image, changed_alike, step_same}
-use Rattle.branch_tx.proofs.Keeps.{step_keeps}
+use Rattle.branch_tx.proofs.Keeps.{merge_changes, step_keeps}
 
 -- ---- the work of a transaction
 
@@ -51,6 +54,12 @@ work_touched t os r key st h w = record {
       ap (λ (o : Overlay). finite.get o other) (get_or-set_other os r j (finite.insert (overlay_at os r) key st) finite.empty apart) ∙ w.inside j other l;
 }
 
+work_all : (t : Table) (os : List Overlay) (cs : List Change) → list_all (λ c. nat_lt c.relation (length t)) cs ≡ true → IsWork t os → IsWork t (put_all (over_table t) os cs)
+work_all t os [] h w = w
+work_all t os (c ∷ cs) h w =
+    let two = and_parts (nat_lt c.relation (length t)) (list_all (λ c. nat_lt c.relation (length t)) cs) h in
+    work_all t (touch os c.relation c.key c.fields) cs two.1 (work_touched t os c.relation c.key c.fields (ltb-true c.relation (length t) two.0) w)
+
 pub overlaid_work : (d : Dataset) (b : ℕ) (xs : List Stmt) → length (head_of d b) ≡ length d.schema → IsWork (head_of d b) (overlaid d b xs).work
 overlaid_work d b [] e = work_untouched (head_of d b)
 overlaid_work d b (x ∷ xs) e =
@@ -60,6 +69,7 @@ overlaid_work d b (x ∷ xs) e =
     (λ r key st c. let l = c.within in work_touched (head_of d b) (overlaid d b xs).work r key st (omega (arith, l, e)) old)
     (λ name origin is. old)
     (λ name i is. old)
+    (λ name prefer c is m. work_all (head_of d b) (overlaid d b xs).work (merge_changes d b prefer c) (merged_within prefer (common_table d b c) (head_of d b) (head_of d c)) old)
 
 -- ---- the head
 
@@ -82,7 +92,7 @@ module _ (d : Dataset) (b : ℕ) (table : length (head_of d b) ≡ length d.sche
   lines_same : (xs : List Stmt) (x : Stmt) → step privately d b (as_private (head_of d b) (overlaid d b xs)) x ≡ image (head_of d b) (step (over_table (head_of d b)) d b (overlaid d b xs) x)
   lines_same xs x =
       let w = overlaid_work d b xs table in
-      step_same (head_of d b) d b (overlaid d b xs) x (record { table = omega (arith, table, few); work = w.wide }) table
+      step_same (head_of d b) d b (overlaid d b xs) x (record { table = omega (arith, table, few); work = w.wide }) table table
 
   -- the one is made of the other
   pub alone_same : (xs : List Stmt) → alone d b xs ≡ as_private (head_of d b) (overlaid d b xs)

@@ -20,7 +20,8 @@ use Rattle.lock_table.specs.declared.need.Need.{Need}
 use Rattle.stmt_text.specs.declared.stmt.ScanOver.{ScanOver}
 use Rattle.stmt_text.specs.declared.stmt.ScanOver.TheVariants.{Current, Named, Heads}
 use Rattle.branch_tx.specs.Keeping.{Keeping, over_table}
-use Rattle.branch_tx.specs.Found.{Found, NoBranch, NoPosition, Head, Fixed, found_by, found, Source, Own, Other, source_of, branch_names, plain, lacking, lacking_or, first_lacking}
+use Rattle.version_log.specs.Found.{Found, NoBranch, NoPosition, Head, Fixed, found_by, found, branch_names, plain}
+use Rattle.branch_tx.specs.Found.{Source, Own, Other, source_of, lacking, lacking_or, first_lacking}
 use Rattle.branch_tx.specs.Act.{Tx, Outcome, answered, unless, column_refusal, marked, union_marked, pairs_of, unlike, contents_from, rows_from, scan_versions, scan_over, scan_of, join_in, join_of, minus_of}
 use Rattle.branch_tx.specs.Needs.{catalogue, lock_of, shared, found_needs, names_needs, branch_needs, scan_needs}
 use Rattle.branch_tx.specs.Frame.{Within}
@@ -38,7 +39,7 @@ within_both N [] ms v w = w
 within_both N (n ∷ ns) ms v w = (v.0, within_both N ns ms v.1 w)
 
 -- the locks of all branches are held
-branch_within : (N : ℕ → Type 0) (n b : ℕ) → Within N (branch_needs n) → b < n → N (lock_of b)
+pub branch_within : (N : ℕ → Type 0) (n b : ℕ) → Within N (branch_needs n) → b < n → N (lock_of b)
 branch_within N zero b w l = absurd (omega (arith, l))
 branch_within N (suc n) b w l =
     let both = within_parts N (branch_needs n) (shared (lock_of n) ∷ []) w in

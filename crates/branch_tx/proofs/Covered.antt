@@ -18,11 +18,12 @@ use Rattle.stmt_text.specs.declared.stmt.Stmt.TheVariants.{Insert, Update, Delet
 use Rattle.stmt_text.specs.declared.stmt.ScanOver.{ScanOver}
 use Rattle.stmt_text.specs.declared.stmt.ScanOver.TheVariants.{Current, Named, Heads}
 use Rattle.branch_tx.specs.Keeping.{Keeping, over_table}
-use Rattle.branch_tx.specs.Found.{Source, Own, Other, Lacking, found, source_of, branch_names, plain, lacking, lacking_or, first_lacking}
+use Rattle.version_log.specs.Found.{found, branch_names, plain}
+use Rattle.branch_tx.specs.Found.{Source, Own, Other, Lacking, source_of, lacking, lacking_or, first_lacking}
 use Rattle.branch_tx.specs.Act.{Tx, Outcome, relation_named, refused, answered, unless, column_refusal, get_from, get_of, marked, union_marked, pairs_of, unlike, contents_from, rows_from, scan_versions, scan_over, scan_of, join_of, minus_of, act}
 use Rattle.branch_tx.specs.Alone.{ground_of}
-use Rattle.branch_tx.specs.Granted.{Granted, is_current, lent_table, lent_source, source_in, names_or_none, ground_in, tx_in, acted}
-use Rattle.branch_tx.specs.Needs.{is_early}
+use Rattle.branch_tx.specs.Granted.{Granted, has_done, is_current, lent_table, lent_source, source_in, names_or_none, ground_in, tx_in, acted}
+use Rattle.branch_tx.specs.Early.{is_early}
 use Rattle.branch_tx.specs.Frame.{step_over}
 use Rattle.branch_tx.specs.Covers.{holds_alone, has_version, has_at, has_heads, has_over, is_granted, covers, IsGrantedOn, CoveredLaw}
 use Rattle.branch_tx.proofs.EarlyLines.{early_why, early_refused, act_early}
@@ -186,19 +187,19 @@ module _ (g : Granted) (d : Dataset) (b : ℕ) (m : IsGrantedOn g d b) where
       ∙ ap (λ (schema : List Relation). minus_of rule tx name (sources v) (sources w) (relation_named schema name)) m.schema
   granted_match _ h = absurd cc
 
-  early_match : (x : Stmt) → is_early g.schema true x ≡ true → acted g x ≡ step_over d b tx x
+  early_match : (x : Stmt) → is_early g.schema true (has_done g) x ≡ true → acted g x ≡ step_over d b tx x
   early_match x e =
-      act_early own (ground_in g) (source_in g) (names_or_none g.heads) tx x e
-      ∙ ap (λ (schema : List Relation). refused tx (early_why schema x)) m.schema
-      ∙ sym (early_refused rule d b tx x (ap (λ (schema : List Relation). is_early schema true x) (sym m.schema) ∙ e))
+      act_early own (ground_in g) (source_in g) (names_or_none g.heads) tx (has_done g) x e
+      ∙ ap (λ (schema : List Relation). refused tx (early_why schema true (has_done g) x)) m.schema
+      ∙ sym (early_refused rule d b tx x (ap (λ (schema : List Relation). is_early schema true (has_done g) x) (sym m.schema) ∙ e))
 
-  covered_by : (x : Stmt) (q : Bool) → is_early g.schema true x ≡ q → (q || is_granted g x) ≡ true → acted g x ≡ step_over d b tx x
+  covered_by : (x : Stmt) (q : Bool) → is_early g.schema true (has_done g) x ≡ q → (q || is_granted g x) ≡ true → acted g x ≡ step_over d b tx x
   covered_by x true e h = early_match x e
   covered_by x false e h = granted_match x h
 
   -- a statement that is covered is answered as one line more of the transaction
   covered_step : (x : Stmt) → covers g x ≡ true → acted g x ≡ step_over d b tx x
-  covered_step x h = covered_by x (is_early g.schema true x) refl h
+  covered_step x h = covered_by x (is_early g.schema true (has_done g) x) refl h
 
 pub covered_is : CoveredLaw
 covered_is g d b x m h = covered_step g d b m x h

@@ -1,7 +1,6 @@
--- A line that is refused early: its reply depends on the schema and on whether a transaction is open, and it leaves the transaction.
-use Rattle.std.proofs.Common.{◌≡◌, ℕ, ◌==◌, ◌||◌, not, is_some, Bool, true, false, cond, List, [], ◌∷◌, length, map, refl, ap, ◌∙◌, Option, Some, None}
+-- A line that is refused early: its reply depends on the schema and on whether a transaction is open and has changed something, and it leaves the transaction.
+use Rattle.std.proofs.Common.{◌≡◌, ℕ, ◌==◌, is_some, Bool, true, false, cond, List, [], ◌∷◌, length, map, refl, ap, ◌∙◌, Option, Some, None}
 use Rattle.std.specs.Prelude.{Result, Ok, Err}
-use Rattle.std.proofs.lemmas.Bool.{not-true}
 use Rattle.db_value.specs.Value.{Value}
 use Rattle.db_value.specs.Relations.{columns_at}
 use Rattle.db_value.specs.Pred.{first_unknown}
@@ -13,61 +12,37 @@ use Rattle.db_value.specs.declared.version.VersionName.{VersionName}
 use Rattle.db_value.specs.declared.reply.Reply.{Reply}
 use Rattle.db_value.specs.declared.reply.Reply.TheVariants.{Done}
 use Rattle.db_value.specs.declared.reply.Refusal.{Refusal}
-use Rattle.db_value.specs.declared.reply.Refusal.TheVariants.{Line, NoRelation, NoColumn, InTransaction, NoTransaction, ValueCount}
+use Rattle.db_value.specs.declared.reply.Refusal.TheVariants.{Line, InTransaction, NoTransaction, NotFirst}
 use Rattle.db_store.specs.Dataset.{Dataset}
 use Rattle.stmt_text.specs.declared.stmt.Stmt.{Stmt}
-use Rattle.stmt_text.specs.declared.stmt.Stmt.TheVariants.{Begin, Commit, Abort, On, LogOf, Branch, Insert, Update, Delete, Get, Scan, Join, Minus}
+use Rattle.stmt_text.specs.declared.stmt.Stmt.TheVariants.{Begin, Commit, Abort, On, LogOf, Graph, Branch, Merge, Insert, Update, Delete, Get, Scan, Join, Minus}
 use Rattle.stmt_text.specs.declared.stmt.NamedSet.{NamedSet}
 use Rattle.stmt_text.specs.declared.stmt.ScanOver.{ScanOver}
 use Rattle.stmt_text.specs.declared.stmt.ScanOver.TheVariants.{Current, Named, Heads}
 use Rattle.branch_tx.specs.Keeping.{Keeping}
-use Rattle.branch_tx.specs.Found.{Source, plain, first_lacking}
+use Rattle.version_log.specs.Found.{plain}
+use Rattle.branch_tx.specs.Found.{Source, first_lacking}
 use Rattle.branch_tx.specs.Act.{Tx, Outcome, Ground, relation_named, resolved, refused, unless, column_refusal, insert_of, update_in, update_of, delete_of, get_of, scan_over, scan_of, join_of, minus_of, act}
-use Rattle.branch_tx.specs.Alone.{ground_of, told, told_of, step}
-use Rattle.branch_tx.specs.Needs.{is_miscounted, is_unresolved, is_misnamed, is_unasked, is_early}
+use Rattle.branch_tx.specs.Alone.{ground_of, told, told_of, has_changed, step}
+use Rattle.branch_tx.specs.Early.{outside_refusal, inside_refusal, first_refusal, relation_refusal, count_refusal, unresolved_refusal, set_refusal, ask_refusal, join_refusal, early_refusal, is_early}
 use Rattle.branch_tx.proofs.Acts.{is_done}
 
 -- ---- why it is refused
 
-abbrev count_why : List Relation → List ℕ → Option ℕ → Refusal
-count_why schema name None = NoRelation name
-count_why schema name (Some r) = ValueCount name (length (columns_at schema r))
+abbrev why_of : Option Refusal → Refusal
+why_of None = Line
+why_of (Some why) = why
 
-abbrev column_why : Result (List Set) (List ℕ) → Refusal
-column_why (Ok sets) = Line
-column_why (Err column) = NoColumn column
+abbrev pub early_why : List Relation → Bool → Bool → Stmt → Refusal
+early_why schema begun changed x = why_of (early_refusal schema begun changed x)
 
-abbrev set_why : List Relation → List ℕ → List NamedSet → Option ℕ → Refusal
-set_why schema name sets None = NoRelation name
-set_why schema name sets (Some r) = column_why (resolved (columns_at schema r) sets)
+-- an early line is refused, and by nothing else
+early_some : (o : Option Refusal) → is_some o ≡ true → o ≡ Some (why_of o)
+early_some None e = absurd cc
+early_some (Some why) e = refl
 
-abbrev unknown_why : Option (List ℕ) → Refusal
-unknown_why None = Line
-unknown_why (Some column) = NoColumn column
-
-abbrev ask_why : List Relation → List ℕ → List Term → Option ℕ → Refusal
-ask_why schema name terms None = NoRelation name
-ask_why schema name terms (Some r) = unknown_why (first_unknown (columns_at schema r) terms)
-
-abbrev join_why : List Relation → List ℕ → List ℕ → List Term → Option ℕ → Option ℕ → Refusal
-join_why schema name other terms None q = NoRelation name
-join_why schema name other terms (Some r) None = NoRelation other
-join_why schema name other terms (Some r) (Some s) = unknown_why (first_unknown (columns_at schema r) terms)
-
-abbrev pub early_why : List Relation → Stmt → Refusal
-early_why schema (Begin room) = InTransaction
-early_why schema Commit = NoTransaction
-early_why schema Abort = NoTransaction
-early_why schema (On name) = InTransaction
-early_why schema (Branch name origin) = InTransaction
-early_why schema (Insert name key fields) = count_why schema name (relation_named schema name)
-early_why schema (Update name key sets) = set_why schema name sets (relation_named schema name)
-early_why schema (Delete name key) = NoRelation name
-early_why schema (Get name key at) = NoRelation name
-early_why schema (Scan name over terms) = ask_why schema name terms (relation_named schema name)
-early_why schema (Join left right v w terms) = join_why schema left right terms (relation_named schema left) (relation_named schema right)
-early_why schema (Minus name v w) = NoRelation name
-early_why schema _ = Line
+pub early_is : (schema : List Relation) (begun changed : Bool) (x : Stmt) → is_early schema begun changed x ≡ true → early_refusal schema begun changed x ≡ Some (early_why schema begun changed x)
+early_is schema begun changed x e = early_some (early_refusal schema begun changed x) e
 
 -- ---- a reply that isn't of a change is told as it is
 
@@ -85,52 +60,62 @@ module _ {W : Type 0} (k : Keeping W) where
 
   -- ---- each form
 
-  cond_true : (q : Bool) (x y : Outcome W) → q ≡ true → cond q x y ≡ x
-  cond_true q x y e = ap (λ (p : Bool). cond p x y) e
+  outside_early : (tx : Tx W) (q : Bool) (x : Outcome W) → is_some (outside_refusal q) ≡ true → cond q (refused tx InTransaction) x ≡ refused tx (why_of (outside_refusal q))
+  outside_early tx true x e = refl
+  outside_early tx false x e = absurd cc
 
-  cond_not : (q : Bool) (x y : Outcome W) → not q ≡ true → cond q x y ≡ y
-  cond_not q x y e = ap (λ (p : Bool). cond p x y) (not-true q e)
+  inside_early : (tx : Tx W) (q : Bool) (x : Outcome W) → is_some (inside_refusal q) ≡ true → cond q x (refused tx NoTransaction) ≡ refused tx (why_of (inside_refusal q))
+  inside_early tx true x e = absurd cc
+  inside_early tx false x e = refl
 
-  pub insert_early : (g : Ground) (tx : Tx W) (name : List ℕ) (key : ℕ) (fields : List Value) (o : Option ℕ) → is_miscounted g.schema fields o ≡ true → insert_of k g tx name key fields o ≡ refused tx (count_why g.schema name o)
+  first_early : (tx : Tx W) (q : Bool) (x : Outcome W) → is_some (first_refusal q) ≡ true → cond q (refused tx NotFirst) x ≡ refused tx (why_of (first_refusal q))
+  first_early tx true x e = refl
+  first_early tx false x e = absurd cc
+
+  first_refused : (tx : Tx W) (q : Bool) → is_some (first_refusal q) ≡ true → refused tx NotFirst ≡ refused tx (why_of (first_refusal q))
+  first_refused tx true e = refl
+  first_refused tx false e = absurd cc
+
+  count_early : (tx : Tx W) (q : Bool) (why : Refusal) (x : Outcome W) → is_some (cond q None (Some why)) ≡ true → cond q x (refused tx why) ≡ refused tx (why_of (cond q None (Some why)))
+  count_early tx true why x e = absurd cc
+  count_early tx false why x e = refl
+
+  pub insert_early : (g : Ground) (tx : Tx W) (name : List ℕ) (key : ℕ) (fields : List Value) (o : Option ℕ) → is_some (count_refusal g.schema name fields o) ≡ true → insert_of k g tx name key fields o ≡ refused tx (why_of (count_refusal g.schema name fields o))
   insert_early g tx name key fields None e = refl
-  insert_early g tx name key fields (Some r) e = cond_not (length fields == length (columns_at g.schema r)) _ _ e
+  insert_early g tx name key fields (Some r) e = count_early tx (length fields == length (columns_at g.schema r)) _ _ e
 
-  update_early : (g : Ground) (tx : Tx W) (r : ℕ) (name : List ℕ) (key : ℕ) (sets : Result (List Set) (List ℕ)) → is_unresolved sets ≡ true → update_in k g tx r name key sets ≡ refused tx (column_why sets)
+  update_early : (g : Ground) (tx : Tx W) (r : ℕ) (name : List ℕ) (key : ℕ) (sets : Result (List Set) (List ℕ)) → is_some (unresolved_refusal sets) ≡ true → update_in k g tx r name key sets ≡ refused tx (why_of (unresolved_refusal sets))
   update_early g tx r name key (Ok sets) e = absurd cc
   update_early g tx r name key (Err column) e = refl
 
-  pub update_of_early : (g : Ground) (tx : Tx W) (name : List ℕ) (key : ℕ) (sets : List NamedSet) (o : Option ℕ) → is_misnamed g.schema sets o ≡ true → update_of k g tx name key sets o ≡ refused tx (set_why g.schema name sets o)
+  pub update_of_early : (g : Ground) (tx : Tx W) (name : List ℕ) (key : ℕ) (sets : List NamedSet) (o : Option ℕ) → is_some (set_refusal g.schema name sets o) ≡ true → update_of k g tx name key sets o ≡ refused tx (why_of (set_refusal g.schema name sets o))
   update_of_early g tx name key sets None e = refl
   update_of_early g tx name key sets (Some r) e = update_early g tx r name key (resolved (columns_at g.schema r) sets) e
 
-  pub delete_early : (g : Ground) (tx : Tx W) (name : List ℕ) (key : ℕ) (o : Option ℕ) → not (is_some o) ≡ true → delete_of k g tx name key o ≡ refused tx (NoRelation name)
+  pub delete_early : (g : Ground) (tx : Tx W) (name : List ℕ) (key : ℕ) (o : Option ℕ) → is_some (relation_refusal name o) ≡ true → delete_of k g tx name key o ≡ refused tx (why_of (relation_refusal name o))
   delete_early g tx name key None e = refl
   delete_early g tx name key (Some r) e = absurd cc
 
-  pub get_early : (sources : VersionName → Source) (tx : Tx W) (name : List ℕ) (key : ℕ) (at : Option VersionName) (o : Option ℕ) → not (is_some o) ≡ true → get_of k sources tx name key at o ≡ refused tx (NoRelation name)
+  pub get_early : (sources : VersionName → Source) (tx : Tx W) (name : List ℕ) (key : ℕ) (at : Option VersionName) (o : Option ℕ) → is_some (relation_refusal name o) ≡ true → get_of k sources tx name key at o ≡ refused tx (why_of (relation_refusal name o))
   get_early sources tx name key at None e = refl
   get_early sources tx name key at (Some r) e = absurd cc
 
-  unknown_early : (tx : Tx W) (o : Option (List ℕ)) (x : Outcome W) → is_some o ≡ true → unless tx (column_refusal o) x ≡ refused tx (unknown_why o)
-  unknown_early tx None x e = absurd cc
-  unknown_early tx (Some column) x e = refl
+  unless_early : (tx : Tx W) (o : Option Refusal) (x : Outcome W) → is_some o ≡ true → unless tx o x ≡ refused tx (why_of o)
+  unless_early tx None x e = absurd cc
+  unless_early tx (Some why) x e = refl
 
-  pub scan_early : (schema : List Relation) (sources : VersionName → Source) (heads : List (List ℕ)) (tx : Tx W) (name : List ℕ) (over : ScanOver) (terms : List Term) (o : Option ℕ) → is_unasked schema terms o ≡ true
-      → scan_of k schema sources heads tx name over terms o ≡ refused tx (ask_why schema name terms o)
+  pub scan_early : (schema : List Relation) (sources : VersionName → Source) (heads : List (List ℕ)) (tx : Tx W) (name : List ℕ) (over : ScanOver) (terms : List Term) (o : Option ℕ) → is_some (ask_refusal schema name terms o) ≡ true
+      → scan_of k schema sources heads tx name over terms o ≡ refused tx (why_of (ask_refusal schema name terms o))
   scan_early schema sources heads tx name over terms None e = refl
-  scan_early schema sources heads tx name over terms (Some r) e = unknown_early tx (first_unknown (columns_at schema r) terms) _ e
+  scan_early schema sources heads tx name over terms (Some r) e = unless_early tx (column_refusal (first_unknown (columns_at schema r) terms)) _ e
 
-  either : (q : Bool) → q || false ≡ true → q ≡ true
-  either true e = refl
-  either false e = e
-
-  pub join_early : (schema : List Relation) (tx : Tx W) (name other : List ℕ) (left right : Source) (terms : List Term) (o q : Option ℕ) → is_unasked schema terms o || not (is_some q) ≡ true
-      → join_of k schema tx name other left right terms o q ≡ refused tx (join_why schema name other terms o q)
+  pub join_early : (schema : List Relation) (tx : Tx W) (name other : List ℕ) (left right : Source) (terms : List Term) (o q : Option ℕ) → is_some (join_refusal schema name other terms o q) ≡ true
+      → join_of k schema tx name other left right terms o q ≡ refused tx (why_of (join_refusal schema name other terms o q))
   join_early schema tx name other left right terms None q e = refl
   join_early schema tx name other left right terms (Some r) None e = refl
-  join_early schema tx name other left right terms (Some r) (Some s) e = unknown_early tx (first_unknown (columns_at schema r) terms) _ (either _ e)
+  join_early schema tx name other left right terms (Some r) (Some s) e = unless_early tx (column_refusal (first_unknown (columns_at schema r) terms)) _ e
 
-  pub minus_early : (tx : Tx W) (name : List ℕ) (left right : Source) (o : Option ℕ) → not (is_some o) ≡ true → minus_of k tx name left right o ≡ refused tx (NoRelation name)
+  pub minus_early : (tx : Tx W) (name : List ℕ) (left right : Source) (o : Option ℕ) → is_some (relation_refusal name o) ≡ true → minus_of k tx name left right o ≡ refused tx (why_of (relation_refusal name o))
   minus_early tx name left right None e = refl
   minus_early tx name left right (Some r) e = absurd cc
 
@@ -162,13 +147,15 @@ module _ {W : Type 0} (k : Keeping W) where
   told_early : (d : Dataset) (b : ℕ) (tx : Tx W) (o : Outcome W) (why : Refusal) → o ≡ refused tx why → told_of d b tx.begun o ≡ refused tx why
   told_early d b tx o why e = ap (told_of d b tx.begun) e ∙ told_refusal d b tx.begun tx why
 
-  pub early_refused : (d : Dataset) (b : ℕ) (tx : Tx W) (x : Stmt) → is_early d.schema tx.begun x ≡ true → step k d b tx x ≡ refused tx (early_why d.schema x)
-  early_refused d b tx (Begin room) e = cond_true tx.begun _ _ e
-  early_refused d b tx Commit e = cond_not tx.begun _ _ e
-  early_refused d b tx Abort e = cond_not tx.begun _ _ e
-  early_refused d b tx (On name) e = cond_true tx.begun _ _ e
+  pub early_refused : (d : Dataset) (b : ℕ) (tx : Tx W) (x : Stmt) → is_early d.schema tx.begun (has_changed k tx) x ≡ true → step k d b tx x ≡ refused tx (early_why d.schema tx.begun (has_changed k tx) x)
+  early_refused d b tx (Begin room) e = outside_early tx tx.begun _ e
+  early_refused d b tx Commit e = inside_early tx tx.begun _ e
+  early_refused d b tx Abort e = inside_early tx tx.begun _ e
+  early_refused d b tx (On name) e = outside_early tx tx.begun _ e
   early_refused d b tx (LogOf name) e = absurd cc
-  early_refused d b tx (Branch name origin) e = cond_true tx.begun _ _ e
+  early_refused d b tx Graph e = absurd cc
+  early_refused d b tx (Branch name origin) e = outside_early tx tx.begun _ e
+  early_refused d b tx (Merge name prefer) e = told_early d b tx _ _ (first_early tx (has_changed k tx) _ e)
   early_refused d b tx (Insert name key fields) e = told_early d b tx _ _ (insert_early (ground_of d b) tx name key fields (relation_named d.schema name) e)
   early_refused d b tx (Update name key sets) e = told_early d b tx _ _ (update_of_early (ground_of d b) tx name key sets (relation_named d.schema name) e)
   early_refused d b tx (Delete name key) e = told_early d b tx _ _ (delete_early (ground_of d b) tx name key (relation_named d.schema name) e)
@@ -179,18 +166,20 @@ module _ {W : Type 0} (k : Keeping W) where
   early_refused d b tx _ e = told_refusal d b tx.begun tx Line
 
   -- the same of a statement in an open transaction, by what it knows
-  pub act_early : (g : Ground) (sources : VersionName → Source) (heads : List (List ℕ)) (tx : Tx W) (x : Stmt) → is_early g.schema true x ≡ true → act k g sources heads tx x ≡ refused tx (early_why g.schema x)
-  act_early g sources heads tx (Begin room) e = refl
-  act_early g sources heads tx Commit e = absurd cc
-  act_early g sources heads tx Abort e = absurd cc
-  act_early g sources heads tx (On name) e = refl
-  act_early g sources heads tx (LogOf name) e = absurd cc
-  act_early g sources heads tx (Branch name origin) e = refl
-  act_early g sources heads tx (Insert name key fields) e = insert_early g tx name key fields (relation_named g.schema name) e
-  act_early g sources heads tx (Update name key sets) e = update_of_early g tx name key sets (relation_named g.schema name) e
-  act_early g sources heads tx (Delete name key) e = delete_early g tx name key (relation_named g.schema name) e
-  act_early g sources heads tx (Get name key at) e = get_early sources tx name key at (relation_named g.schema name) e
-  act_early g sources heads tx (Scan name over terms) e = scan_early g.schema sources heads tx name over terms (relation_named g.schema name) e
-  act_early g sources heads tx (Join left right v w terms) e = join_early g.schema tx left right (sources v) (sources w) terms (relation_named g.schema left) (relation_named g.schema right) e
-  act_early g sources heads tx (Minus name v w) e = minus_early tx name (sources v) (sources w) (relation_named g.schema name) e
-  act_early g sources heads tx _ e = refl
+  pub act_early : (g : Ground) (sources : VersionName → Source) (heads : List (List ℕ)) (tx : Tx W) (changed : Bool) (x : Stmt) → is_early g.schema true changed x ≡ true → act k g sources heads tx x ≡ refused tx (early_why g.schema true changed x)
+  act_early g sources heads tx changed (Begin room) e = refl
+  act_early g sources heads tx changed Commit e = absurd cc
+  act_early g sources heads tx changed Abort e = absurd cc
+  act_early g sources heads tx changed (On name) e = refl
+  act_early g sources heads tx changed (LogOf name) e = absurd cc
+  act_early g sources heads tx changed Graph e = absurd cc
+  act_early g sources heads tx changed (Branch name origin) e = refl
+  act_early g sources heads tx changed (Merge name prefer) e = first_refused tx changed e
+  act_early g sources heads tx changed (Insert name key fields) e = insert_early g tx name key fields (relation_named g.schema name) e
+  act_early g sources heads tx changed (Update name key sets) e = update_of_early g tx name key sets (relation_named g.schema name) e
+  act_early g sources heads tx changed (Delete name key) e = delete_early g tx name key (relation_named g.schema name) e
+  act_early g sources heads tx changed (Get name key at) e = get_early sources tx name key at (relation_named g.schema name) e
+  act_early g sources heads tx changed (Scan name over terms) e = scan_early g.schema sources heads tx name over terms (relation_named g.schema name) e
+  act_early g sources heads tx changed (Join left right v w terms) e = join_early g.schema tx left right (sources v) (sources w) terms (relation_named g.schema left) (relation_named g.schema right) e
+  act_early g sources heads tx changed (Minus name v w) e = minus_early tx name (sources v) (sources w) (relation_named g.schema name) e
+  act_early g sources heads tx changed _ e = refl

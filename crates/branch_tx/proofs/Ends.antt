@@ -14,10 +14,10 @@ use Rattle.db_value.specs.declared.version.VersionPlace.{VersionPlace}
 use Rattle.db_value.specs.declared.entry.Entry.{Entry}
 use Rattle.db_value.specs.declared.entry.Entry.TheVariants.{Commit as CommitEntry, Branch as BranchEntry}
 use Rattle.db_store.specs.Table.{Table, relation_at, with_changes}
-use Rattle.db_store.specs.Overlay.{Overlay, overlay_at, count_touched, over, laid, change_of, changes_from}
+use Rattle.db_store.specs.Overlay.{Overlay, overlay_at, over, laid, change_of, changes_from}
 use Rattle.db_store.specs.OverlayRules.{get_laid}
 use Rattle.db_store.specs.Dataset.{Dataset, branch_at, head_of}
-use Rattle.db_store.specs.Fits.{fits, has_fields, change_fits, is_within, second_fits, most_versions}
+use Rattle.db_store.specs.Fits.{fits, has_fields, change_fits, is_within, most_versions}
 use Rattle.db_store.specs.Counted.{IsTable}
 use Rattle.db_store.specs.Growth.{commit_from}
 use Rattle.db_store.proofs.OverlayLemmas.{length_laid, length_changes, with_overlays, changes_ascend}
@@ -70,19 +70,18 @@ changes_fitting schema t os inside s = overlays_fit schema 0 os (λ r key st g. 
 commit_fits : (d : Dataset) (b : ℕ) (tx : Tx (List Overlay)) → b < length d.branches → IsWork (head_of d b) tx.work → IsFitting d b tx → has_changed (over_table (head_of d b)) tx ≡ true → fits d (CommitEntry b tx.second (changes_from 0 tx.work)) ≡ true
 commit_fits d b tx h w f c = commit_from d b tx.second (changes_from 0 tx.work) (record {
   there = h;
-  room = leb-false most_versions (length (branch_at d b).versions) (f.open_branch touched);
-  second = ap (second_fits d) f.second;
-  makes = ap (λ (o : Option VersionPlace). is_some o || nat_lt 0 (length (changes_from 0 tx.work))) f.second ∙ ap (nat_lt 0) (length_changes 0 tx.work) ∙ touched;
+  room = leb-false most_versions (length (branch_at d b).versions) (f.open_branch c);
+  second = f.second;
+  makes = either (nat_lt 0 (length (changes_from 0 tx.work))) (is_some tx.second) (ap (λ n. nat_lt 0 n || is_some tx.second) (length_changes 0 tx.work) ∙ c);
   changes = and_from _ _ (and_from _ _ (let n = length_changes 0 tx.work in let k = f.touches in le-leb (length (changes_from 0 tx.work)) 65536 (omega (arith, n, k))) (changes_ascend 0 tx.work)) (changes_fitting d.schema (head_of d b) tx.work w.inside f.table);
   within = ap is_within (with_overlays (head_of d b) tx.work) ∙ within_from (laid (head_of d b) tx.work) f.table.few;
 })
   where
-    only : (q : Bool) (o : Option VersionPlace) → o ≡ None → (q || is_some o) ≡ true → q ≡ true
-    only true o n e = refl
-    only false o n e = sym (ap is_some n) ∙ e
-
-    touched : nat_lt 0 (count_touched tx.work) ≡ true
-    touched = only (nat_lt 0 (count_touched tx.work)) tx.second f.second c
+    either : (p q : Bool) → (p || q) ≡ true → (q || p) ≡ true
+    either true true e = refl
+    either true false e = refl
+    either false true e = refl
+    either false false e = e
 
 some_entry : (q : Bool) (x e : Entry) → cond q (Some x) None ≡ Some e → (q ≡ true) × (x ≡ e)
 some_entry true x e h = (refl, cc)
@@ -100,7 +99,7 @@ pub entry_is : EntryLaw
 entry_is d b xs e s c h roomy is =
     let t = head_table d b c s h in
     let few = few_relations d.schema c.relations in
-    entry_fits d b (overlaid d b xs) (overlaid d b xs).made e h (overlaid_work d b xs t.wide) (overlaid_fitting d b xs s t few roomy) refl is
+    entry_fits d b (overlaid d b xs) (overlaid d b xs).made e h (overlaid_work d b xs t.wide) (overlaid_fitting d b xs s (λ other l. head_table d other c s l) h few roomy) refl is
 
 -- ---- the table
 

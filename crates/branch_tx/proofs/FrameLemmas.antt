@@ -1,38 +1,46 @@
 -- Lines of one transaction give the same before and after entries that spare their needs.
-use Rattle.std.proofs.Common.{◌≡◌, ℕ, ◌<◌, Bool, true, false, cond, List, [], ◌∷◌, length, refl, ap, sym, ◌∙◌, subst, Option, Some, None}
+use Rattle.std.proofs.Common.{◌≡◌, ℕ, ◌<◌, ◌-◌, arith, Bool, true, false, cond, List, [], ◌∷◌, length, refl, ap, sym, ◌∙◌, subst, Option, Some, None}
 use Rattle.db_value.specs.declared.schema.Relation.{Relation}
 use Rattle.db_value.specs.declared.condition.Term.{Term}
+use Rattle.db_value.specs.declared.condition.Prefer.{Prefer}
 use Rattle.db_value.specs.declared.version.VersionName.{VersionName}
 use Rattle.db_value.specs.declared.entry.Entry.{Entry}
 use Rattle.db_value.specs.declared.reply.Reply.{Reply}
 use Rattle.db_value.specs.declared.reply.Reply.TheVariants.{Done}
-use Rattle.db_value.specs.declared.reply.Refusal.TheVariants.{Line, InTransaction, NoTransaction}
+use Rattle.db_value.specs.declared.reply.Refusal.{Refusal}
+use Rattle.db_value.specs.declared.reply.Refusal.TheVariants.{Line, NoBranch, InTransaction, NoTransaction, NotFirst}
 use Rattle.db_store.specs.Overlay.{Overlay}
-use Rattle.db_store.specs.Dataset.{Dataset, branch_named, head_of, apply}
+use Rattle.db_store.specs.Dataset.{Branch as BranchOf, Dataset, Version, branch_named, head_of, head_place, table_at, apply, IsMade}
+use Rattle.db_store.specs.Order.{IsOrdered, common}
 use Rattle.db_store.specs.Sound.{IsSound}
 use Rattle.db_store.proofs.SoundLemmas.{sound_stays}
+use Rattle.db_store.proofs.OrderMade.{common_made, ordered_stays}
 use Rattle.stmt_text.specs.declared.stmt.Stmt.{Stmt}
-use Rattle.stmt_text.specs.declared.stmt.Stmt.TheVariants.{Begin, Commit, Abort, On, LogOf, Branch, Insert, Update, Delete, Get, Scan, Join, Minus}
+use Rattle.stmt_text.specs.declared.stmt.Stmt.TheVariants.{Begin, Commit, Abort, On, LogOf, Graph, Branch, Merge, Insert, Update, Delete, Get, Scan, Join, Minus}
 use Rattle.stmt_text.specs.declared.stmt.ScanOver.{ScanOver}
 use Rattle.branch_tx.specs.Keeping.{Keeping, over_table}
-use Rattle.branch_tx.specs.Found.{Found, Source, Own, Other, Lacking, found, lack, source_of, branch_names}
+use Rattle.version_log.specs.Found.{Found, found, lack, branch_names}
+use Rattle.branch_tx.specs.Found.{Source, Own, Other, Lacking, source_of}
 use Rattle.branch_tx.specs.Act.{Tx, Outcome, relation_named, refused, answered, get_from, get_of, scan_of, join_of, minus_of, act}
-use Rattle.branch_tx.specs.Alone.{ground_of, told_of, made_next, log_of, place_in, on_of, branch_as, branch_of, overlaid}
-use Rattle.branch_tx.specs.Needs.{catalogue, lock_of, found_needs, source_needs, names_needs, scan_needs, on_needs, log_needs, is_early, stmt_needs, needs, exclusive}
-use Rattle.branch_tx.specs.Frame.{Whole, and_then, step_over, whole, apply_all, AllFit, Within, AllWithin, AllSpare, LockOf, FrameLaw}
+use Rattle.version_log.specs.Log.{log_of}
+use Rattle.branch_tx.specs.Merging.{merge_in}
+use Rattle.branch_tx.specs.Alone.{ground_of, told_of, made_next, common_table, merge_named, place_in, on_of, branch_as, branch_of, overlaid}
+use Rattle.branch_tx.specs.Early.{is_early}
+use Rattle.branch_tx.specs.Needs.{catalogue, lock_of, found_needs, source_needs, names_needs, branch_needs, scan_needs, on_needs, log_needs, merge_needs, stmt_needs, needs, shared, exclusive}
+use Rattle.branch_tx.specs.Frame.{Whole, and_then, is_changed, step_over, whole, apply_all, AllFit, Within, AllWithin, AllSpare, LockOf, FrameLaw}
 use Rattle.branch_tx.proofs.Entries.{Frame, frame_entry, named_there}
 use Rattle.branch_tx.proofs.EarlyLines.{early_why, early_refused, told_answer, told_refusal, scan_asks, join_asks, minus_asks}
-use Rattle.branch_tx.proofs.LogsStay.{log_stays}
+use Rattle.branch_tx.proofs.LogsStay.{log_stays, graph_stays}
 use Rattle.branch_tx.proofs.ReadsStay.{found_stays, named_stays, head_stays, ground_stays, next_stays, told_stays, from_stays}
-use Rattle.branch_tx.proofs.AsksStay.{names_same, scan_needs_same, scan_stays, join_stays, minus_stays}
-use Rattle.branch_tx.proofs.LineKeeps.{is_changed, changed_needed, within_any}
+use Rattle.branch_tx.proofs.AsksStay.{branch_within, names_same, scan_needs_same, scan_stays, join_stays, minus_stays}
+use Rattle.branch_tx.proofs.LineKeeps.{changed_needed, within_any}
 
 -- the transaction of lines run alone is the one with changes over the head
 pub whole_overlaid : (d : Dataset) (b : ℕ) (xs : List Stmt) → (whole d b xs).tx ≡ overlaid d b xs
 whole_overlaid d b [] = refl
 whole_overlaid d b (x ∷ xs) = ap (λ (tx : Tx (List Overlay)). (step_over d b tx x).tx) (whole_overlaid d b xs)
 
-module _ (N : ℕ → Type 0) (s t : Dataset) (f : Frame N s t) (sound : IsSound s) (b : ℕ) (there : b < length s.branches) where
+module _ (N : ℕ → Type 0) (s t : Dataset) (f : Frame N s t) (sound : IsSound s) (ordered : IsOrdered s) (b : ℕ) (there : b < length s.branches) where
   -- ---- the reply to a line
 
   -- a line that needs the current branch
@@ -108,12 +116,51 @@ module _ (N : ℕ → Type 0) (s t : Dataset) (f : Frame N s t) (sound : IsSound
       let count = f.count h in
       λ i. branch_as tx name (place_in (same i)) (lack (same i)) (named i) (count i)
 
+  -- a merge reads two heads, and their common ancestor, which stays
+  place_stays : (c : ℕ) → c < length s.branches → N (lock_of c) → head_place t c ≡ head_place s c
+  place_stays c l h = ap (λ (x : BranchOf). record { branch = c; position = length x.versions - 1 }) (f.locked c l h)
+
+  head_made : (c : ℕ) → c < length s.branches → IsMade s (head_place s c)
+  head_made c l = (l, let r = sound.rooted c l in omega (arith, r))
+
+  common_stays : (c : ℕ) → c < length s.branches → N (lock_of b) → N (lock_of c) → common_table t b c ≡ common_table s b c
+  common_stays c l h m =
+      let own = place_stays b there h in
+      let other = place_stays c l m in
+      (λ i. table_at t (common t (own i) (other i)))
+      ∙ ap (table_at t) (f.ancestor (head_place s b) (head_place s c) (head_made b there) (head_made c l))
+      ∙ ap (λ (v : Version). v.table) (f.version (common s (head_place s b) (head_place s c)) (common_made s (head_place s b) (head_place s c) sound ordered (head_made b there) (head_made c l)))
+
+  -- refusals tell no version
+  unmade : (tx : Tx (List Overlay)) (c : Bool) (one other : Refusal) → told_of t b tx.begun (cond c (refused tx one) (refused tx other)) ≡ told_of s b tx.begun (cond c (refused tx one) (refused tx other))
+  unmade tx true one other = told_refusal (over_table (head_of t b)) t b tx.begun tx one ∙ sym (told_refusal (over_table (head_of s b)) s b tx.begun tx one)
+  unmade tx false one other = told_refusal (over_table (head_of t b)) t b tx.begun tx other ∙ sym (told_refusal (over_table (head_of s b)) s b tx.begun tx other)
+
+  merge_stays : (tx : Tx (List Overlay)) (name : List ℕ) (prefer : Prefer) (o : Option ℕ) → branch_named s name ≡ o → Within N (merge_needs b o)
+      → told_of t b tx.begun (cond (is_changed tx) (refused tx NotFirst) (merge_named (over_table (head_of t b)) t b tx name prefer (branch_named t name)))
+      ≡ told_of s b tx.begun (cond (is_changed tx) (refused tx NotFirst) (merge_named (over_table (head_of s b)) s b tx name prefer o))
+  merge_stays tx name prefer None e w =
+      ap (λ (o : Option ℕ). told_of t b tx.begun (cond (is_changed tx) (refused tx NotFirst) (merge_named (over_table (head_of t b)) t b tx name prefer o))) (f.unnamed w.0 name e)
+      ∙ unmade tx (is_changed tx) NotFirst (NoBranch name)
+  merge_stays tx name prefer (Some c) e w =
+      let l : c < length s.branches = named_there s name c e in
+      let head = head_stays N s t f b there w.0 in
+      let ground = ground_stays N s t f b there w.0 in
+      let place = place_stays c l w.1.0 in
+      let base = common_stays c l w.0 w.1.0 in
+      let right = head_stays N s t f c l w.1.0 in
+      ap (λ (o : Option ℕ). told_of t b tx.begun (cond (is_changed tx) (refused tx NotFirst) (merge_named (over_table (head_of t b)) t b tx name prefer o))) (f.named name c e)
+      ∙ (λ i. told_of t b tx.begun (cond (is_changed tx) (refused tx NotFirst) (merge_in (over_table (head i)) (ground i) tx (place i) prefer (base i) (head i) (right i))))
+      ∙ told_stays N s t f b tx.begun (cond (is_changed tx) (refused tx NotFirst) (merge_named (over_table (head_of s b)) s b tx name prefer (Some c))) there w.0
+
   late_stays : (tx : Tx (List Overlay)) (x : Stmt) → (is_changed tx ≡ true → N (lock_of b)) → Within N (stmt_needs s b x) → step_over t b tx x ≡ step_over s b tx x
   late_stays tx (Begin room) h w = refl
   late_stays tx Commit h w = ap (λ (r : Reply). cond tx.begun (answered tx r) (refused tx NoTransaction)) (commit_at tx (is_changed tx) refl h)
   late_stays tx Abort h w = refl
   late_stays tx (On name) h w = ap (λ (o : Outcome (List Overlay)). cond tx.begun (refused tx InTransaction) o) (on_stays tx name (branch_named s name) refl w)
   late_stays tx (LogOf name) h w = ap (answered tx) (log_same name (branch_named s name) refl w)
+  late_stays tx Graph h w = ap (answered tx) (graph_stays N s t f sound w.0 (λ c l. branch_within N (length s.branches) c w.1 l))
+  late_stays tx (Merge name prefer) h w = merge_stays tx name prefer (branch_named s name) refl w
   late_stays tx (Branch name origin) h w = ap (λ (o : Outcome (List Overlay)). cond tx.begun (refused tx InTransaction) o) (branch_stays tx name origin w.0 w.1)
   late_stays tx (Insert name key fields) h w = act_stays tx (Insert name key fields) (λ u. source_of b (found s u)) (branch_names s) w.0
   late_stays tx (Update name key sets) h w = act_stays tx (Update name key sets) (λ u. source_of b (found s u)) (branch_names s) w.0
@@ -124,13 +171,13 @@ module _ (N : ℕ → Type 0) (s t : Dataset) (f : Frame N s t) (sound : IsSound
   late_stays tx (Minus name v u) h w = minus_line tx name v u w
   late_stays tx _ h w = told_refusal (over_table (head_of t b)) t b tx.begun tx Line ∙ sym (told_refusal (over_table (head_of s b)) s b tx.begun tx Line)
 
-  early_stays : (tx : Tx (List Overlay)) (x : Stmt) → is_early s.schema tx.begun x ≡ true → step_over t b tx x ≡ step_over s b tx x
+  early_stays : (tx : Tx (List Overlay)) (x : Stmt) → is_early s.schema tx.begun (is_changed tx) x ≡ true → step_over t b tx x ≡ step_over s b tx x
   early_stays tx x e =
-      early_refused (over_table (head_of t b)) t b tx x (ap (λ (schema : List Relation). is_early schema tx.begun x) f.schema ∙ e)
-      ∙ ap (λ (schema : List Relation). refused tx (early_why schema x)) f.schema
+      early_refused (over_table (head_of t b)) t b tx x (ap (λ (schema : List Relation). is_early schema tx.begun (is_changed tx) x) f.schema ∙ e)
+      ∙ ap (λ (schema : List Relation). refused tx (early_why schema tx.begun (is_changed tx) x)) f.schema
       ∙ sym (early_refused (over_table (head_of s b)) s b tx x e)
 
-  step_at : (tx : Tx (List Overlay)) (x : Stmt) (q : Bool) → is_early s.schema tx.begun x ≡ q → (is_changed tx ≡ true → N (lock_of b)) → Within N (cond q [] (stmt_needs s b x)) → step_over t b tx x ≡ step_over s b tx x
+  step_at : (tx : Tx (List Overlay)) (x : Stmt) (q : Bool) → is_early s.schema tx.begun (is_changed tx) x ≡ q → (is_changed tx ≡ true → N (lock_of b)) → Within N (cond q [] (stmt_needs s b x)) → step_over t b tx x ≡ step_over s b tx x
   step_at tx x true e h w = early_stays tx x e
   step_at tx x false e h w = late_stays tx x h w
 
@@ -148,9 +195,15 @@ module _ (N : ℕ → Type 0) (s t : Dataset) (f : Frame N s t) (sound : IsSound
   log_needs_same name None e w = ap log_needs (f.unnamed w.0 name e)
   log_needs_same name (Some c) e w = ap log_needs (f.named name c e)
 
+  merge_needs_same : (name : List ℕ) (o : Option ℕ) → branch_named s name ≡ o → Within N (merge_needs b o) → merge_needs b (branch_named t name) ≡ merge_needs b o
+  merge_needs_same name None e w = ap (merge_needs b) (f.unnamed w.0 name e)
+  merge_needs_same name (Some c) e w = ap (merge_needs b) (f.named name c e)
+
   late_needs : (x : Stmt) → Within N (stmt_needs s b x) → stmt_needs t b x ≡ stmt_needs s b x
   late_needs (On name) w = on_same name (branch_named s name) refl w
   late_needs (LogOf name) w = log_needs_same name (branch_named s name) refl w
+  late_needs Graph w = ap (λ n. shared catalogue ∷ branch_needs n) (f.count w.0)
+  late_needs (Merge name prefer) w = merge_needs_same name (branch_named s name) refl w
   late_needs (Branch name origin) w = ap (λ (x : Found). exclusive catalogue ∷ found_needs x) (found_stays N s t f origin w.1)
   late_needs (Get name key at) w = source_same at w
   late_needs (Scan name over terms) w = scan_needs_same N s t f b over w
@@ -158,14 +211,14 @@ module _ (N : ℕ → Type 0) (s t : Dataset) (f : Frame N s t) (sound : IsSound
   late_needs (Minus name v u) w = names_same N s t f (v ∷ u ∷ []) w
   late_needs _ w = refl
 
-  needs_at : (x : Stmt) (begun q : Bool) → is_early s.schema begun x ≡ q → Within N (cond q [] (stmt_needs s b x)) → cond q [] (stmt_needs t b x) ≡ cond q [] (stmt_needs s b x)
-  needs_at x begun true e w = refl
-  needs_at x begun false e w = late_needs x w
+  needs_at : (x : Stmt) (begun changed q : Bool) → is_early s.schema begun changed x ≡ q → Within N (cond q [] (stmt_needs s b x)) → cond q [] (stmt_needs t b x) ≡ cond q [] (stmt_needs s b x)
+  needs_at x begun changed true e w = refl
+  needs_at x begun changed false e w = late_needs x w
 
-  needs_stay : (x : Stmt) (begun : Bool) → Within N (needs s b begun x) → needs t b begun x ≡ needs s b begun x
-  needs_stay x begun w =
-      ap (λ (schema : List Relation). cond (is_early schema begun x) [] (stmt_needs t b x)) f.schema
-      ∙ needs_at x begun (is_early s.schema begun x) refl w
+  needs_stay : (x : Stmt) (begun changed : Bool) → Within N (needs s b begun changed x) → needs t b begun changed x ≡ needs s b begun changed x
+  needs_stay x begun changed w =
+      ap (λ (schema : List Relation). cond (is_early schema begun changed x) [] (stmt_needs t b x)) f.schema
+      ∙ needs_at x begun changed (is_early s.schema begun changed x) refl w
 
   -- ---- lines
 
@@ -173,20 +226,20 @@ module _ (N : ℕ → Type 0) (s t : Dataset) (f : Frame N s t) (sound : IsSound
   whole_stays [] w = refl
   whole_stays (x ∷ xs) w =
       let tx : Tx (List Overlay) = (whole s b xs).tx in
-      let line = step_at tx x (is_early s.schema tx.begun x) refl (λ e. within_any N (whole s b xs).needs (exclusive (lock_of b)) w.1 (changed_needed s b xs e)) w.0 in
-      let own = needs_stay x tx.begun w.0 in
-      ap (λ (v : Whole). and_then v (step_over t b v.tx x) (needs t b v.tx.begun x)) (whole_stays xs w.1)
+      let line = step_at tx x (is_early s.schema tx.begun (is_changed tx) x) refl (λ e. within_any N (whole s b xs).needs (exclusive (lock_of b)) w.1 (changed_needed s b xs e)) w.0 in
+      let own = needs_stay x tx.begun (is_changed tx) w.0 in
+      ap (λ (v : Whole). and_then v (step_over t b v.tx x) (needs t b v.tx.begun (is_changed v.tx) x)) (whole_stays xs w.1)
       ∙ (λ i. and_then (whole s b xs) (line i) (own i))
 
 -- ---- entries
 
-pub whole_kept : (N : ℕ → Type 0) (s : Dataset) (es : List Entry) → IsSound s → AllFit s es → AllSpare N es → (b : ℕ) (xs : List Stmt) → b < length s.branches → AllWithin N (whole s b xs).needs
+pub whole_kept : (N : ℕ → Type 0) (s : Dataset) (es : List Entry) → IsSound s → IsOrdered s → AllFit s es → AllSpare N es → (b : ℕ) (xs : List Stmt) → b < length s.branches → AllWithin N (whole s b xs).needs
     → whole (apply_all s es) b xs ≡ whole s b xs
-whole_kept N s [] sound fit free b xs l w = refl
-whole_kept N s (e ∷ es) sound fit free b xs l w =
-    let f : Frame N s (apply s e) = frame_entry N s e free.0 in
-    let one : whole (apply s e) b xs ≡ whole s b xs = whole_stays N s (apply s e) f sound b l xs w in
-    whole_kept N (apply s e) es (sound_stays s e sound fit.0) fit.1 free.1 b xs (f.there b l) (subst (λ (v : Whole). AllWithin N v.needs) (sym one) w) ∙ one
+whole_kept N s [] sound ordered fit free b xs l w = refl
+whole_kept N s (e ∷ es) sound ordered fit free b xs l w =
+    let f : Frame N s (apply s e) = frame_entry N s e sound ordered fit.0 free.0 in
+    let one : whole (apply s e) b xs ≡ whole s b xs = whole_stays N s (apply s e) f sound ordered b l xs w in
+    whole_kept N (apply s e) es (sound_stays s e sound fit.0) (ordered_stays s e sound ordered fit.0) fit.1 free.1 b xs (f.there b l) (subst (λ (v : Whole). AllWithin N v.needs) (sym one) w) ∙ one
 
 pub frame_law : FrameLaw
-frame_law s b lines locks es sound fit l w free = whole_kept (LockOf locks) s es sound fit free b lines l w
+frame_law s b lines locks es sound ordered fit l w free = whole_kept (LockOf locks) s es sound ordered fit free b lines l w

@@ -1,6 +1,9 @@
 -- A line does the same to a private table as to the changes that make it.
-use Rattle.std.proofs.Common.{◌≡◌, ℕ, ◌<◌, ◌≤◌, ◌==◌, nat_lt, Bool, true, false, cond, ◌||◌, is_some, List, [], ◌∷◌, length, map, Option, Some, None, Result, Ok, Err, refl, ap, ◌∙◌, arith}
-use Rattle.std.specs.List.{filter}
+use Rattle.std.proofs.Common.{◌≡◌, ℕ, ◌<◌, ◌≤◌, ◌==◌, nat_lt, Bool, true, false, cond, ◌||◌, is_some, List, [], ◌∷◌, length, map, Option, Some, None, Result, Ok, Err, refl, ap, ◌∙◌, subst, arith}
+use Rattle.std.specs.List.{filter, list_all}
+use Rattle.std.specs.FinMap as finite
+use Rattle.std.proofs.lemmas.Bool.{and_parts, ltb-true}
+use Rattle.std.proofs.lemmas.List.{length-set}
 use Rattle.std.proofs.lemmas.List.Quantifiers.{position-Some}
 use Rattle.db_value.specs.Value.{Value}
 use Rattle.db_value.specs.Relations.{columns_at, no_relation}
@@ -11,24 +14,31 @@ use Rattle.db_value.specs.declared.record.Record.{Record}
 use Rattle.db_value.specs.declared.schema.Relation.{Relation}
 use Rattle.db_value.specs.declared.condition.Set.{Set}
 use Rattle.db_value.specs.declared.condition.Term.{Term}
+use Rattle.db_value.specs.declared.condition.Prefer.{Prefer}
+use Rattle.db_value.specs.declared.entry.Change.{Change}
 use Rattle.db_value.specs.declared.version.VersionName.{VersionName}
 use Rattle.db_value.specs.declared.version.VersionPlace.{VersionPlace}
 use Rattle.db_value.specs.declared.reply.Reply.TheVariants.{Done, Listed, Paired}
 use Rattle.db_value.specs.declared.reply.Refusal.{Refusal}
+use Rattle.db_value.specs.declared.reply.Refusal.TheVariants.{NotFirst}
 use Rattle.db_store.specs.Table.{Table, rows_of}
-use Rattle.db_store.specs.Overlay.{Overlay}
-use Rattle.db_store.specs.Dataset.{Dataset, branch_named}
+use Rattle.db_store.specs.Overlay.{Overlay, overlay_at, touch}
+use Rattle.db_store.specs.Dataset.{Dataset, branch_named, head_of, head_place}
 use Rattle.db_store.specs.Fits.{most_branches}
+use Rattle.field_merge.specs.Merge.{table_changes}
+use Rattle.field_merge.proofs.OrderLemmas.{merged_within}
 use Rattle.stmt_text.specs.declared.stmt.Stmt.{Stmt}
-use Rattle.stmt_text.specs.declared.stmt.Stmt.TheVariants.{Begin, Commit, Abort, On, LogOf, Branch, Insert, Update, Delete, Get, Scan, Join, Minus}
+use Rattle.stmt_text.specs.declared.stmt.Stmt.TheVariants.{Begin, Commit, Abort, On, LogOf, Graph, Branch, Merge, Insert, Update, Delete, Get, Scan, Join, Minus}
 use Rattle.stmt_text.specs.declared.stmt.NamedSet.{NamedSet}
 use Rattle.stmt_text.specs.declared.stmt.ScanOver.{ScanOver}
 use Rattle.stmt_text.specs.declared.stmt.ScanOver.TheVariants.{Current, Named, Heads}
 use Rattle.branch_tx.specs.Keeping.{Private, privately, over_table}
-use Rattle.branch_tx.specs.Found.{found, lack, Source, Own, Other, Lacking, source_of, branch_names, plain, first_lacking}
-use Rattle.branch_tx.specs.Act.{Tx, Outcome, Ground, relation_named, resolved, updated, insert_refusal, change_refusal, answered, unless, column_refusal, unless_full, fields_at, has_space, has_room, changed_to, insert_in, insert_of, update_in, update_of, delete_of, get_from, source_at, get_of, marked, union_marked, pairs_of, unlike, contents_from, rows_from, scan_versions, scan_over, scan_of, join_in, join_with, join_of, minus_of, act}
-use Rattle.branch_tx.specs.Alone.{ground_of, told_of, place_in, has_changed, on_of, branch_as, step, made_next}
-use Rattle.branch_tx.specs.Laws.{as_private}
+use Rattle.version_log.specs.Found.{found, lack, branch_names, plain}
+use Rattle.branch_tx.specs.Found.{Source, Own, Other, Lacking, source_of, first_lacking}
+use Rattle.branch_tx.specs.Act.{Tx, Outcome, Ground, relation_named, resolved, updated, insert_refusal, change_refusal, refused, answered, unless, column_refusal, unless_full, fields_at, has_space, has_room, changed_to, insert_in, insert_of, update_in, update_of, delete_of, get_from, source_at, get_of, marked, union_marked, pairs_of, unlike, contents_from, rows_from, scan_versions, scan_over, scan_of, join_in, join_with, join_of, minus_of, act}
+use Rattle.branch_tx.specs.Merging.{refusal_of_merge, put_all, merged_to}
+use Rattle.branch_tx.specs.Alone.{ground_of, told_of, common_table, place_in, has_changed, on_of, branch_as, merge_named, step, made_next}
+use Rattle.branch_tx.specs.Laws.{private_of, as_private}
 use Rattle.branch_tx.proofs.Private.{State, touched_same, touches_same, put_same}
 
 -- the outcome on the private table
@@ -183,12 +193,41 @@ branch_as_same t tx name at None None count = cond_same t (nat_lt count most_bra
 pub changed_alike : (t : Table) (tx : Tx (List Overlay)) → has_changed privately (as_private t tx) ≡ has_changed (over_table t) tx
 changed_alike t tx = ap (λ n. nat_lt 0 n || is_some tx.second) (touches_same tx.work)
 
+-- ---- merges
+
+put_all_same : (t : Table) (os : List Overlay) (cs : List Change) → length t ≤ length os → list_all (λ c. nat_lt c.relation (length t)) cs ≡ true → put_all privately (private_of t os) cs ≡ private_of t (put_all (over_table t) os cs)
+put_all_same t os [] n w = refl
+put_all_same t os (c ∷ cs) n w =
+    let two = and_parts (nat_lt c.relation (length t)) (list_all (λ c. nat_lt c.relation (length t)) cs) w in
+    let h : c.relation < length t = ltb-true c.relation (length t) two.0 in
+    let m = length-set os c.relation (finite.insert (overlay_at os c.relation) c.key c.fields) in
+    ap (λ (p : Private). put_all privately p cs) (put_same t os c.relation c.key c.fields h (omega (arith, h, n)))
+    ∙ put_all_same t (touch os c.relation c.key c.fields) cs (omega (arith, n, m)) two.1
+
+merged_same : (t : Table) (tx : Tx (List Overlay)) (from : VersionPlace) (cs : List Change) (o : Option Refusal) → IsWide t tx → list_all (λ c. nat_lt c.relation (length t)) cs ≡ true → merged_to privately (as_private t tx) from cs o ≡ image t (merged_to (over_table t) tx from cs o)
+merged_same t tx from cs (Some why) w h = refl
+merged_same t tx from cs None w h =
+    let few = w.table in
+    let work = w.work in
+    ap (λ (p : Private). answered (record (as_private t tx) { work = p; second = Some from }) Done) (put_all_same t tx.work cs (omega (arith, few, work)) h)
+
+merge_same : (t : Table) (d : Dataset) (b : ℕ) (tx : Tx (List Overlay)) (name : List ℕ) (prefer : Prefer) (o : Option ℕ) → IsWide t tx → length (head_of d b) ≡ length t → merge_named privately d b (as_private t tx) name prefer o ≡ image t (merge_named (over_table t) d b tx name prefer o)
+merge_same t d b tx name prefer None w e = refl
+merge_same t d b tx name prefer (Some c) w e =
+    cond_same t (ground_of d b).full _ _ _ _ refl (merged_same t tx (head_place d c) (table_changes prefer (common_table d b c) (head_of d b) (head_of d c)) (refusal_of_merge d.schema tx.room prefer (common_table d b c) (head_of d b) (head_of d c)) w
+    (subst (λ n. list_all (λ x. nat_lt x.relation n) (table_changes prefer (common_table d b c) (head_of d b) (head_of d c)) ≡ true) e (merged_within prefer (common_table d b c) (head_of d b) (head_of d c))))
+
 -- one line
-pub step_same : (t : Table) (d : Dataset) (b : ℕ) (tx : Tx (List Overlay)) (x : Stmt) → IsWide t tx → length t ≡ length d.schema → step privately d b (as_private t tx) x ≡ image t (step (over_table t) d b tx x)
-step_same t d b tx (Begin room) w e = cond_same t tx.begun _ _ _ _ refl refl
-step_same t d b tx Commit w e = cond_same t tx.begun _ _ _ _ (ap (λ q. answered (as_private t tx) (cond q (made_next d b) Done)) (changed_alike t tx)) refl
-step_same t d b tx Abort w e = cond_same t tx.begun _ _ _ _ refl refl
-step_same t d b tx (On name) w e = cond_same t tx.begun _ _ _ _ refl (on_same t tx name (branch_named d name))
-step_same t d b tx (LogOf name) w e = refl
-step_same t d b tx (Branch name origin) w e = cond_same t tx.begun _ _ _ _ refl (branch_as_same t tx name (place_in (found d origin)) (lack (found d origin)) (branch_named d name) (length d.branches))
-step_same t d b tx x w e = ap (told_of d b tx.begun) (act_same t (ground_of d b) (λ v. source_of b (found d v)) (branch_names d) tx x w e)
+pub step_same : (t : Table) (d : Dataset) (b : ℕ) (tx : Tx (List Overlay)) (x : Stmt) → IsWide t tx → length t ≡ length d.schema → length (head_of d b) ≡ length d.schema → step privately d b (as_private t tx) x ≡ image t (step (over_table t) d b tx x)
+step_same t d b tx (Begin room) w e n = cond_same t tx.begun _ _ _ _ refl refl
+step_same t d b tx Commit w e n = cond_same t tx.begun _ _ _ _ (ap (λ q. answered (as_private t tx) (cond q (made_next d b) Done)) (changed_alike t tx)) refl
+step_same t d b tx Abort w e n = cond_same t tx.begun _ _ _ _ refl refl
+step_same t d b tx (On name) w e n = cond_same t tx.begun _ _ _ _ refl (on_same t tx name (branch_named d name))
+step_same t d b tx (LogOf name) w e n = refl
+step_same t d b tx Graph w e n = refl
+step_same t d b tx (Branch name origin) w e n = cond_same t tx.begun _ _ _ _ refl (branch_as_same t tx name (place_in (found d origin)) (lack (found d origin)) (branch_named d name) (length d.branches))
+step_same t d b tx (Merge name prefer) w e n =
+    ap (told_of d b tx.begun)
+    (ap (λ q. cond q (refused (as_private t tx) NotFirst) (merge_named privately d b (as_private t tx) name prefer (branch_named d name))) (changed_alike t tx)
+    ∙ cond_same t (has_changed (over_table t) tx) _ _ _ _ refl (merge_same t d b tx name prefer (branch_named d name) w (omega (arith, e, n))))
+step_same t d b tx x w e n = ap (told_of d b tx.begun) (act_same t (ground_of d b) (λ v. source_of b (found d v)) (branch_names d) tx x w e)

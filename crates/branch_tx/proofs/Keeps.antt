@@ -9,20 +9,25 @@ use Rattle.db_value.specs.declared.record.Record.{Record}
 use Rattle.db_value.specs.declared.schema.Relation.{Relation}
 use Rattle.db_value.specs.declared.condition.Set.{Set}
 use Rattle.db_value.specs.declared.condition.Term.{Term}
+use Rattle.db_value.specs.declared.condition.Prefer.{Prefer}
+use Rattle.db_value.specs.declared.entry.Change.{Change}
 use Rattle.db_value.specs.declared.version.VersionName.{VersionName}
 use Rattle.db_value.specs.declared.version.VersionPlace.{VersionPlace}
 use Rattle.db_value.specs.declared.reply.Refusal.{Refusal}
-use Rattle.db_store.specs.Dataset.{Dataset, branch_named}
+use Rattle.db_store.specs.Dataset.{Dataset, branch_named, head_of, head_place}
 use Rattle.db_store.specs.Fits.{most_branches}
+use Rattle.field_merge.specs.Merge.{table_changes}
 use Rattle.stmt_text.specs.declared.stmt.Stmt.{Stmt}
-use Rattle.stmt_text.specs.declared.stmt.Stmt.TheVariants.{Begin, Commit, Abort, On, LogOf, Branch, Insert, Update, Delete, Get, Scan, Join, Minus}
+use Rattle.stmt_text.specs.declared.stmt.Stmt.TheVariants.{Begin, Commit, Abort, On, LogOf, Graph, Branch, Merge, Insert, Update, Delete, Get, Scan, Join, Minus}
 use Rattle.stmt_text.specs.declared.stmt.NamedSet.{NamedSet}
 use Rattle.stmt_text.specs.declared.stmt.ScanOver.{ScanOver}
 use Rattle.stmt_text.specs.declared.stmt.ScanOver.TheVariants.{Current, Named, Heads}
 use Rattle.branch_tx.specs.Keeping.{Keeping}
-use Rattle.branch_tx.specs.Found.{Found, found, lack, Source, Own, Other, Lacking, source_of, branch_names, plain, first_lacking}
+use Rattle.version_log.specs.Found.{Found, found, lack, branch_names, plain}
+use Rattle.branch_tx.specs.Found.{Source, Own, Other, Lacking, source_of, first_lacking}
 use Rattle.branch_tx.specs.Act.{Tx, Outcome, Ground, relation_named, resolved, updated, insert_refusal, change_refusal, unless, column_refusal, unless_full, fields_at, has_space, has_room, changed_to, insert_of, update_in, update_of, delete_of, get_from, source_at, get_of, scan_versions, scan_over, scan_of, join_with, join_of, minus_of, act}
-use Rattle.branch_tx.specs.Alone.{ground_of, place_in, room_of, on_of, branch_as, step}
+use Rattle.branch_tx.specs.Merging.{refusal_of_merge, put_all, merged_to}
+use Rattle.branch_tx.specs.Alone.{ground_of, common_table, place_in, room_of, on_of, branch_as, has_changed, merge_named, step}
 use Rattle.branch_tx.proofs.Private.{State}
 use Rattle.branch_tx.proofs.Images.{named_within}
 use Rattle.branch_tx.proofs.WithSets.{length-with_sets}
@@ -46,6 +51,24 @@ pub record IsBranch (d : Dataset) (name : List ℕ) (f : Found) : Type 0 where
   pub origin : lack f ≡ None
   pub new : branch_named d name ≡ None
   pub room : nat_lt (length d.branches) most_branches ≡ true
+
+-- the changes of a merge of the head of branch c into branch b
+abbrev pub merge_changes : Dataset → ℕ → Prefer → ℕ → List Change
+merge_changes d b prefer c = table_changes prefer (common_table d b c) (head_of d b) (head_of d c)
+
+-- why it is refused
+abbrev pub why_unmerged : Dataset → ℕ → ℕ → Prefer → ℕ → Option Refusal
+why_unmerged d b room prefer c = refusal_of_merge d.schema room prefer (common_table d b c) (head_of d b) (head_of d c)
+
+-- a merge that a transaction accepts
+pub record IsMerge {W : Type 0} (k : Keeping W) (d : Dataset) (b : ℕ) (tx : Tx W) (prefer : Prefer) (c : ℕ) : Type 0 where
+  pub first : has_changed k tx ≡ false
+  pub open_branch : (ground_of d b).full ≡ false
+  pub accepted : why_unmerged d b tx.room prefer c ≡ None
+
+-- a transaction after it
+abbrev pub merged_with : {W : Type 0} → Keeping W → Dataset → ℕ → Tx W → Prefer → ℕ → Tx W
+merged_with k d b tx prefer c = record tx { work = put_all k tx.work (merge_changes d b prefer c); second = Some (head_place d c) }
 
 module _ {W : Type 0} (k : Keeping W) (P : Tx W → Type 0) where
   pub cond_keeps : (q : Bool) (x y : Outcome W) → P x.tx → P y.tx → P (cond q x y).tx
@@ -165,18 +188,31 @@ module _ {W : Type 0} (k : Keeping W) (P : Tx W → Type 0) where
   branch_keeps tx name at None (Some old) count h f = h
   branch_keeps tx name at None None count h f = cond_by (nat_lt count most_branches) _ _ (f refl refl) (λ q. h)
 
+  merged_keeps : (tx : Tx W) (from : VersionPlace) (cs : List Change) (o : Option Refusal) → P tx → (o ≡ None → P (record tx { work = put_all k tx.work cs; second = Some from })) → P (merged_to k tx from cs o).tx
+  merged_keeps tx from cs (Some why) h f = h
+  merged_keeps tx from cs None h f = f refl
+
+  pub merge_keeps : (d : Dataset) (b : ℕ) (tx : Tx W) (name : List ℕ) (prefer : Prefer) (o : Option ℕ) → P tx
+      → ((c : ℕ) → o ≡ Some c → (ground_of d b).full ≡ false → why_unmerged d b tx.room prefer c ≡ None → P (merged_with k d b tx prefer c)) → P (merge_named k d b tx name prefer o).tx
+  merge_keeps d b tx name prefer None h f = h
+  merge_keeps d b tx name prefer (Some c) h f = cond_by (ground_of d b).full _ _ (λ q. h) (λ q. merged_keeps tx (head_place d c) (merge_changes d b prefer c) (why_unmerged d b tx.room prefer c) h (λ a. f c refl q a))
+
   -- what stands of a transaction stands after a line
   pub step_keeps : (d : Dataset) (b : ℕ) (tx : Tx W) (x : Stmt) → P tx
       → ((room : Option ℕ) → x ≡ Begin room → P (record tx { begun = true; room = room_of room }))
       → ((r key : ℕ) (st : State) → IsChange k (ground_of d b) tx r key st → P (record tx { work = k.put tx.work r key st }))
       → ((name : List ℕ) (origin : VersionName) → IsBranch d name (found d origin) → P (record tx { made = Some (name, place_in (found d origin)) }))
       → ((name : List ℕ) (i : ℕ) → branch_named d name ≡ Some i → P (record tx { moved = Some i }))
+      → ((name : List ℕ) (prefer : Prefer) (c : ℕ) → branch_named d name ≡ Some c → IsMerge k d b tx prefer c → P (merged_with k d b tx prefer c))
       → P (step k d b tx x).tx
-  step_keeps d b tx (Begin room) h begin change new move = cond_keeps tx.begun _ _ h (begin room refl)
-  step_keeps d b tx Commit h begin change new move = cond_keeps tx.begun _ _ h h
-  step_keeps d b tx Abort h begin change new move = cond_keeps tx.begun _ _ h h
-  step_keeps d b tx (On name) h begin change new move = cond_keeps tx.begun _ _ h (on_keeps tx name (branch_named d name) h (move name))
-  step_keeps d b tx (LogOf name) h begin change new move = h
-  step_keeps d b tx (Branch name origin) h begin change new move = cond_keeps tx.begun _ _ h
+  step_keeps d b tx (Begin room) h begin change new move merge = cond_keeps tx.begun _ _ h (begin room refl)
+  step_keeps d b tx Commit h begin change new move merge = cond_keeps tx.begun _ _ h h
+  step_keeps d b tx Abort h begin change new move merge = cond_keeps tx.begun _ _ h h
+  step_keeps d b tx (On name) h begin change new move merge = cond_keeps tx.begun _ _ h (on_keeps tx name (branch_named d name) h (move name))
+  step_keeps d b tx (LogOf name) h begin change new move merge = h
+  step_keeps d b tx Graph h begin change new move merge = h
+  step_keeps d b tx (Merge name prefer) h begin change new move merge = cond_by (has_changed k tx) _ _ (λ q. h)
+      (λ q. merge_keeps d b tx name prefer (branch_named d name) h (λ c e l a. merge name prefer c e (record { first = q; open_branch = l; accepted = a })))
+  step_keeps d b tx (Branch name origin) h begin change new move merge = cond_keeps tx.begun _ _ h
       (branch_keeps tx name (place_in (found d origin)) (lack (found d origin)) (branch_named d name) (length d.branches) h (λ a c e. new name origin (record { origin = a; new = c; room = e })))
-  step_keeps d b tx x h begin change new move = act_keeps (ground_of d b) (λ v. source_of b (found d v)) (branch_names d) tx x h change
+  step_keeps d b tx x h begin change new move merge = act_keeps (ground_of d b) (λ v. source_of b (found d v)) (branch_names d) tx x h change

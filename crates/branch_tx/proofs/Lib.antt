@@ -1,4 +1,6 @@
 pub mod WideLemmas
+pub mod Spellings
+pub mod LentLemmas
 pub mod SetLemmas
 pub mod TermLemmas
 pub mod Private
@@ -10,7 +12,6 @@ pub mod Alike
 pub mod Tables
 pub mod Fitting
 pub mod Ends
-pub mod LogLemmas
 pub mod Acts
 pub mod Entries
 pub mod EarlyLines
@@ -20,4 +21,5 @@ pub mod AsksStay
 pub mod LineKeeps
 pub mod FrameLemmas
 pub mod Covered
+pub mod MergeLemmas
 pub mod Examples

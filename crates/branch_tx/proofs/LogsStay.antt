@@ -1,13 +1,15 @@
--- The log of a branch stays under the branch's lock.
-use Rattle.std.proofs.Common.{◌≡◌, ℕ, zero, suc, ◌<◌, ◌-◌, ◌==◌, Bool, true, false, cond, List, [], ◌∷◌, length, refl, ap, ◌∙◌, arith, Option, Some, None}
+-- The log of a branch stays under the branch's lock, and the graph under all locks.
+use Rattle.std.proofs.Common.{◌≡◌, ℕ, zero, suc, ◌<◌, ◌-◌, ◌==◌, Bool, true, false, cond, List, [], ◌∷◌, ◌++◌, length, ◌≤◌, refl, ap, ◌∙◌, arith, Option, Some, None}
+use Rattle.db_value.specs.declared.report.LogLine.{LogLine}
 use Rattle.db_value.specs.declared.version.VersionPlace.{VersionPlace}
 use Rattle.db_value.specs.declared.report.LogLine.TheVariants.{Root, Same as SameAs, Made as MadeAt}
 use Rattle.db_value.specs.declared.reply.Reply.TheVariants.{Versions}
 use Rattle.db_store.specs.Dataset.{Branch, Dataset, Version, branch_at, last_of, version_at, proper, proper_if, before, IsMade}
 use Rattle.db_store.specs.Sound.{IsSound}
 use Rattle.db_store.proofs.StateLemmas.{proper_made}
-use Rattle.branch_tx.specs.Alone.{name_of, name_if, made_line, log_line, log_down, log_of}
-use Rattle.branch_tx.specs.Needs.{lock_of}
+use Rattle.version_log.specs.Log.{name_of, name_if, made_line, log_line, log_down, branch_log, log_of}
+use Rattle.version_log.specs.Graph.{first_logs, graph_of}
+use Rattle.branch_tx.specs.Needs.{catalogue, lock_of}
 use Rattle.branch_tx.proofs.Entries.{Frame}
 
 module _ (N : ℕ → Type 0) (s t : Dataset) (f : Frame N s t) (sound : IsSound s) where
@@ -51,7 +53,24 @@ module _ (N : ℕ → Type 0) (s t : Dataset) (f : Frame N s t) (sound : IsSound
       let more = down_stays b n l (omega (arith, h)) in
       λ i. line i ∷ more i
 
-  pub log_stays : (name : List ℕ) (b : ℕ) → b < length s.branches → N (lock_of b) → log_of t name (Some b) ≡ log_of s name (Some b)
-  log_stays name b l h =
+  -- the whole log of a branch
+  all_stays : (b : ℕ) → b < length s.branches → N (lock_of b) → branch_log t b ≡ branch_log s b
+  all_stays b l h =
       let last : last_of t b ≡ last_of s b = ap (λ (x : Branch). length x.versions - 1) (f.locked b l h) in
-      ap (λ n. Versions (log_down t b n) false) last ∙ ap (λ ls. Versions ls false) (down_stays b (last_of s b) l (let r = sound.rooted b l in omega (arith, r)))
+      ap (log_down t b) last ∙ down_stays b (last_of s b) l (let r = sound.rooted b l in omega (arith, r))
+
+  pub log_stays : (name : List ℕ) (b : ℕ) → b < length s.branches → N (lock_of b) → log_of t name (Some b) ≡ log_of s name (Some b)
+  log_stays name b l h = ap (λ (ls : List LogLine). Versions ls false) (all_stays b l h)
+
+  logs_stay : (n : ℕ) → n ≤ length s.branches → ((b : ℕ) → b < length s.branches → N (lock_of b)) → first_logs t n ≡ first_logs s n
+  logs_stay zero h all = refl
+  logs_stay (suc n) h all =
+      let l : n < length s.branches = omega (arith, h) in
+      let more = logs_stay n (omega (arith, h)) all in
+      let here = all_stays n l (all n l) in
+      λ i. more i ++ here i
+
+  pub graph_stays : N catalogue → ((b : ℕ) → b < length s.branches → N (lock_of b)) → graph_of t ≡ graph_of s
+  graph_stays c all =
+      ap (λ n. Versions (first_logs t n) true) (f.count c)
+      ∙ ap (λ (ls : List LogLine). Versions ls true) (logs_stay (length s.branches) (omega arith) all)

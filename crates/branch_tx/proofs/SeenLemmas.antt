@@ -26,10 +26,9 @@ lent_at true n table t rest l f e = let same : table ≡ t = cc in ap length (sy
 lent_at false n table t rest l f e = f e
 
 -- a view that was lent is as wide as all are
-pub lent_wide : {L : Type 0} (name : L → VersionName) (table : L → Table) (n : ℕ) (ls : List L) (v : VersionName) (t : Table) → AllWide n (map table ls) → lent_table (map (λ l. (name l, table l)) ls) v ≡ Some t → length t ≡ n
-lent_wide name table n [] v t w e = absurd cc
-lent_wide name table n (l ∷ ls) v t w e =
-    lent_at (same_version (name l) v) n (table l) t (lent_table (map (λ x. (name x, table x)) ls) v) (w 0 (omega arith)) (lent_wide name table n ls v t (λ i h. w (suc i) (omega (arith, h)))) e
+pub lent_wide : (n : ℕ) (ls : List (VersionName × Table)) (v : VersionName) (t : Table) → AllWide n (map (λ l. l.1) ls) → lent_table ls v ≡ Some t → length t ≡ n
+lent_wide n [] v t w e = absurd cc
+lent_wide n (l ∷ ls) v t w e = lent_at (same_version l.0 v) n l.1 t (lent_table ls v) (w 0 (omega arith)) (lent_wide n ls v t (λ i h. w (suc i) (omega (arith, h)))) e
 
 -- ---- several names
 

@@ -1,6 +1,7 @@
 -- Tables that all have so many relations.
-use Rattle.std.proofs.Common.{◌≡◌, ℕ, zero, suc, ◌<◌, List, [], ◌∷◌, length, take, map, get_or, arith, sym}
+use Rattle.std.proofs.Common.{◌≡◌, ℕ, zero, suc, ◌<◌, List, [], ◌∷◌, length, take, map, get_or, arith, subst}
 use Rattle.std.proofs.lemmas.List.{take-map}
+use Rattle.db_value.specs.declared.version.VersionName.{VersionName}
 use Rattle.db_store.specs.Table.{Table}
 use Rattle.branch_tx.specs.TxState.{AllWide}
 
@@ -9,11 +10,11 @@ front_at : (n k : ℕ) (t : Table) (ts : List Table) → length t ≡ n → AllW
 front_at n k t ts e w zero h = e
 front_at n k t ts e w (suc i) h = w i (omega arith)
 
-pub wide_take : (n k : ℕ) (ts : List Table) → AllWide n ts → AllWide n (take k ts)
+wide_take : (n k : ℕ) (ts : List Table) → AllWide n ts → AllWide n (take k ts)
 wide_take n zero ts w = λ i h. absurd (omega arith)
 wide_take n (suc k) [] w = w
 wide_take n (suc k) (t ∷ ts) w = front_at n k t ts (w zero (omega arith)) (wide_take n k ts (λ j l. w (suc j) (omega arith)))
 
--- what is taken of a list, and made of
-pub taken : {A B : Type 0} (f : A → B) (k : ℕ) (xs : List A) → map f (take k xs) ≡ take k (map f xs)
-taken f k xs = sym (take-map f k xs)
+-- the first few of tables under names
+pub wide_taken : (n k : ℕ) (ls : List (VersionName × Table)) → AllWide n (map (λ l. l.1) ls) → AllWide n (map (λ l. l.1) (take k ls))
+wide_taken n k ls w = subst (AllWide n) (take-map (λ l. l.1) k ls) (wide_take n k (map (λ l. l.1) ls) w)

@@ -16,19 +16,20 @@ use Rattle.db_value.specs.declared.version.VersionPlace.{VersionPlace}
 use Rattle.db_value.specs.declared.reply.Reply.{Reply}
 use Rattle.db_value.specs.declared.reply.Reply.TheVariants.{Done, One, Listed, Paired, Refused}
 use Rattle.db_value.specs.declared.reply.Refusal.{Refusal}
-use Rattle.db_value.specs.declared.reply.Refusal.TheVariants.{Line, InTransaction, NoRelation, NoColumn, KeyThere, KeyMissing, Room, VersionsFull, TableFull, ValueCount}
+use Rattle.db_value.specs.declared.reply.Refusal.TheVariants.{Line, InTransaction, NotFirst, NoRelation, NoColumn, KeyThere, KeyMissing, Room, VersionsFull, TableFull, ValueCount}
 use Rattle.db_store.specs.Table.{Contents, relation_at, rows_of}
 use Rattle.db_store.specs.Fits.{most_keys}
 use Rattle.db_store.specs.Work.{with_sets}
 pub use Rattle.multi_scan.specs.Multi.{marked, union_marked}
 pub use Rattle.version_join.specs.Join.{pairs_of, unlike}
 use Rattle.stmt_text.specs.declared.stmt.Stmt.{Stmt}
-use Rattle.stmt_text.specs.declared.stmt.Stmt.TheVariants.{Begin, On, Branch, Insert, Update, Delete, Get, Scan, Join, Minus}
+use Rattle.stmt_text.specs.declared.stmt.Stmt.TheVariants.{Begin, On, Branch, Merge, Insert, Update, Delete, Get, Scan, Join, Minus}
 use Rattle.stmt_text.specs.declared.stmt.NamedSet.{NamedSet}
 use Rattle.stmt_text.specs.declared.stmt.ScanOver.{ScanOver}
 use Rattle.stmt_text.specs.declared.stmt.ScanOver.TheVariants.{Current, Named, Heads}
 use Rattle.branch_tx.specs.Keeping.{Keeping}
-use Rattle.branch_tx.specs.Found.{Source, Own, Other, Lacking, plain, first_lacking}
+use Rattle.version_log.specs.Found.{plain}
+use Rattle.branch_tx.specs.Found.{Source, Own, Other, Lacking, first_lacking}
 
 -- a transaction: whether `begin` opened it, its room for touched keys, and how it keeps its working table; the second parent that a merge gives, a branch that it makes, and the branch to which it moves its session
 pub record Tx (W : Type 0) : Type 0 where
@@ -224,11 +225,12 @@ module _ {W : Type 0} (k : Keeping W) where
   minus_of tx name left right None = refused tx (NoRelation name)
   minus_of tx name left right (Some r) = minus_in tx r left right
 
-  -- A statement in an open transaction, which isn't an end of it, with the names of all branches. A form that isn't built yet is a bad line.
+  -- A statement in an open transaction, which isn't an end of it, with the names of all branches. A merge stands here only where it isn't the first to change something. A form that isn't built yet is a bad line.
   abbrev pub act : Ground → (VersionName → Source) → List (List ℕ) → Tx W → Stmt → Outcome W
   act g sources heads tx (Begin room) = refused tx InTransaction
   act g sources heads tx (On name) = refused tx InTransaction
   act g sources heads tx (Branch name origin) = refused tx InTransaction
+  act g sources heads tx (Merge name prefer) = refused tx NotFirst
   act g sources heads tx (Insert name key fields) = insert_of g tx name key fields (relation_named g.schema name)
   act g sources heads tx (Update name key sets) = update_of g tx name key sets (relation_named g.schema name)
   act g sources heads tx (Delete name key) = delete_of g tx name key (relation_named g.schema name)

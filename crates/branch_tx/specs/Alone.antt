@@ -1,23 +1,27 @@
 -- One transaction run alone on a dataset, on a branch b. Lists of lines are newest first.
-use Rattle.std.specs.Prelude.{ℕ, zero, suc, ◌==◌, ◌||◌, nat_lt, nat_le, is_some, cond, Bool, true, false, List, [], ◌∷◌, length, Option, Some, None}
-use Rattle.db_value.specs.declared.version.VersionName.{VersionName}
+use Rattle.std.specs.Prelude.{ℕ, ◌||◌, nat_lt, nat_le, is_some, cond, Bool, true, false, List, [], ◌∷◌, length, Option, Some, None}
+use Rattle.db_value.specs.declared.condition.Prefer.{Prefer}
 use Rattle.db_value.specs.declared.version.VersionPlace.{VersionPlace}
 use Rattle.db_value.specs.declared.entry.Entry.{Entry}
 use Rattle.db_value.specs.declared.entry.Entry.TheVariants.{Commit as CommitEntry, Branch as BranchEntry}
-use Rattle.db_value.specs.declared.report.LogLine.{LogLine}
-use Rattle.db_value.specs.declared.report.LogLine.TheVariants.{Root, Same as SameAs, Made as MadeAt}
 use Rattle.db_value.specs.declared.reply.Reply.{Reply}
-use Rattle.db_value.specs.declared.reply.Reply.TheVariants.{Done, Made, Versions, Refused}
+use Rattle.db_value.specs.declared.reply.Reply.TheVariants.{Done, Made}
 use Rattle.db_value.specs.declared.reply.Refusal.{Refusal}
-use Rattle.db_value.specs.declared.reply.Refusal.TheVariants.{NoBranch as RefusedBranch, InTransaction, NoTransaction, BranchThere, BranchesFull}
+use Rattle.db_value.specs.declared.reply.Refusal.TheVariants.{NoBranch as RefusedBranch, InTransaction, NoTransaction, NotFirst, BranchThere, BranchesFull}
 use Rattle.db_store.specs.Overlay.{Overlay, untouched}
-use Rattle.db_store.specs.Dataset.{Dataset, branch_at, branch_named, head_of, last_of, first_parent, second_parent}
+use Rattle.db_store.specs.Table.{Table}
+use Rattle.db_store.specs.Dataset.{Dataset, branch_at, branch_named, head_of, head_place, table_at}
+use Rattle.db_store.specs.Order.{common}
 use Rattle.db_store.specs.Fits.{most_branches, most_versions}
 use Rattle.stmt_text.specs.declared.stmt.Stmt.{Stmt}
-use Rattle.stmt_text.specs.declared.stmt.Stmt.TheVariants.{Begin, Commit, Abort, On, LogOf, Branch}
+use Rattle.stmt_text.specs.declared.stmt.Stmt.TheVariants.{Begin, Commit, Abort, On, LogOf, Graph, Branch, Merge}
 use Rattle.branch_tx.specs.Keeping.{Keeping, Private, private_copy, privately, over_table}
-use Rattle.branch_tx.specs.Found.{Found, Fixed, Head, NoBranch, NoPosition, branch_names, found, lack, source_of}
+use Rattle.version_log.specs.Found.{Found, Fixed, Head, NoBranch, NoPosition, branch_names, found, lack}
+use Rattle.version_log.specs.Log.{log_of}
+use Rattle.version_log.specs.Graph.{graph_of}
+use Rattle.branch_tx.specs.Found.{source_of}
 use Rattle.branch_tx.specs.Act.{Tx, Outcome, Ground, refused, answered, act}
+use Rattle.branch_tx.specs.Merging.{merge_in}
 
 -- the room of a transaction for which none is told
 abbrev pub usual_room : ℕ
@@ -48,32 +52,9 @@ told d b false reply = reply
 abbrev pub told_of : {W : Type 0} → Dataset → ℕ → Bool → Outcome W → Outcome W
 told_of d b begun o = record { tx = o.tx; reply = told d b begun o.reply }
 
--- the name of a version by its place
-abbrev pub name_of : Dataset → VersionPlace → VersionName
-name_of d at = record { branch = (branch_at d at.branch).name; position = Some at.position }
-
-abbrev pub name_if : Dataset → Option VersionPlace → Option VersionName
-name_if d None = None
-name_if d (Some at) = Some (name_of d at)
-
--- a version that a commit made, where its first parent is told
-abbrev pub made_line : Dataset → VersionPlace → Option VersionPlace → LogLine
-made_line d at None = Root
-made_line d at (Some parent) = MadeAt (name_of d at) (name_of d parent) (name_if d (second_parent d at))
-
--- the version at a position of a branch, as a log tells it
-abbrev pub log_line : Dataset → ℕ → ℕ → LogLine
-log_line d b zero = cond (b == 0) Root (SameAs (branch_at d b).name (name_of d (branch_at d b).base))
-log_line d b (suc n) = made_line d (record { branch = b; position = suc n }) (first_parent d (record { branch = b; position = suc n }))
-
--- the versions of a branch from a position down to 0
-abbrev pub log_down : Dataset → ℕ → ℕ → List LogLine
-log_down d b zero = log_line d b zero ∷ []
-log_down d b (suc n) = log_line d b (suc n) ∷ log_down d b n
-
-abbrev pub log_of : Dataset → List ℕ → Option ℕ → Reply
-log_of d name None = Refused (RefusedBranch name)
-log_of d name (Some b) = Versions (log_down d b (last_of d b)) false
+-- the table of the common ancestor of two branches' heads that was made last
+abbrev pub common_table : Dataset → ℕ → ℕ → Table
+common_table d b c = table_at d (common d (head_place d b) (head_place d c))
 
 abbrev pub place_in : Found → VersionPlace
 place_in (NoBranch name) = record { branch = 0; position = 0 }
@@ -102,6 +83,15 @@ module _ {W : Type 0} (k : Keeping W) where
   abbrev pub commit_reply : Dataset → ℕ → Tx W → Reply
   commit_reply d b tx = cond (has_changed tx) (made_next d b) Done
 
+  -- The head of a named branch is merged into branch b, over the common ancestor that was made last. Nothing is touched yet, so the working table is the head of b.
+  abbrev pub merge_named : Dataset → ℕ → Tx W → List ℕ → Prefer → Option ℕ → Outcome W
+  merge_named d b tx name prefer None = refused tx (RefusedBranch name)
+  merge_named d b tx name prefer (Some c) = merge_in k (ground_of d b) tx (head_place d c) prefer (common_table d b c) (head_of d b) (head_of d c)
+
+  -- a merge comes before every change
+  abbrev pub merge_of : Dataset → ℕ → Tx W → List ℕ → Prefer → Outcome W
+  merge_of d b tx name prefer = cond (has_changed tx) (refused tx NotFirst) (merge_named d b tx name prefer (branch_named d name))
+
   -- one line, after lines that left tx
   abbrev pub step : Dataset → ℕ → Tx W → Stmt → Outcome W
   step d b tx (Begin room) = cond tx.begun (refused tx InTransaction) (answered (record tx { begun = true; room = room_of room }) Done)
@@ -109,7 +99,9 @@ module _ {W : Type 0} (k : Keeping W) where
   step d b tx Abort = cond tx.begun (answered tx Done) (refused tx NoTransaction)
   step d b tx (On name) = cond tx.begun (refused tx InTransaction) (on_of tx name (branch_named d name))
   step d b tx (LogOf name) = answered tx (log_of d name (branch_named d name))
+  step d b tx Graph = answered tx (graph_of d)
   step d b tx (Branch name origin) = cond tx.begun (refused tx InTransaction) (branch_of d tx name (found d origin))
+  step d b tx (Merge name prefer) = told_of d b tx.begun (merge_of d b tx name prefer)
   step d b tx x = told_of d b tx.begun (act k (ground_of d b) (λ v. source_of b (found d v)) (branch_names d) tx x)
 
   abbrev pub after_lines : W → Dataset → ℕ → List Stmt → Tx W

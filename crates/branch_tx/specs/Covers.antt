@@ -7,10 +7,11 @@ use Rattle.stmt_text.specs.declared.stmt.Stmt.{Stmt}
 use Rattle.stmt_text.specs.declared.stmt.Stmt.TheVariants.{Insert, Update, Delete, Get, Scan, Join, Minus}
 use Rattle.stmt_text.specs.declared.stmt.ScanOver.{ScanOver}
 use Rattle.stmt_text.specs.declared.stmt.ScanOver.TheVariants.{Current, Named, Heads}
-use Rattle.branch_tx.specs.Found.{found, source_of, branch_names, plain}
+use Rattle.version_log.specs.Found.{found, branch_names, plain}
+use Rattle.branch_tx.specs.Found.{source_of}
 use Rattle.branch_tx.specs.Alone.{ground_of}
-use Rattle.branch_tx.specs.Granted.{Granted, is_current, lent_table, source_in, ground_in, tx_in, acted}
-use Rattle.branch_tx.specs.Needs.{is_early}
+use Rattle.branch_tx.specs.Granted.{Granted, has_done, is_current, lent_table, source_in, ground_in, tx_in, acted}
+use Rattle.branch_tx.specs.Early.{is_early}
 use Rattle.branch_tx.specs.Frame.{step_over}
 
 -- its branch is granted exclusively
@@ -50,7 +51,7 @@ is_granted g _ = false
 
 -- the statement is refused early, or all that it needs is granted
 abbrev pub covers : Granted → Stmt → Bool
-covers g x = is_early g.schema true x || is_granted g x
+covers g x = is_early g.schema true (has_done g) x || is_granted g x
 
 -- what was granted to it is what branch b of the dataset has, and its versions
 pub record IsGrantedOn (g : Granted) (d : Dataset) (b : ℕ) : Type 0 where

@@ -1,12 +1,13 @@
 -- The frame law: a transaction doesn't notice what others do outside its needs.
-use Rattle.std.specs.Prelude.{◌≡◌, ◌<◌, ◌⊎◌, ℕ, true, List, [], ◌∷◌, length}
+use Rattle.std.specs.Prelude.{◌≡◌, ◌<◌, ◌⊎◌, ℕ, nat_lt, ◌||◌, is_some, Bool, true, List, [], ◌∷◌, length}
 use Rattle.db_value.specs.declared.entry.Entry.{Entry}
 use Rattle.db_value.specs.declared.entry.Entry.TheVariants.{Commit, Branch as NewBranch}
 use Rattle.db_value.specs.declared.reply.Reply.{Reply}
-use Rattle.db_store.specs.Overlay.{Overlay, untouched}
+use Rattle.db_store.specs.Overlay.{Overlay, untouched, count_touched}
 use Rattle.db_store.specs.Dataset.{Dataset, head_of, apply}
 use Rattle.db_store.specs.Fits.{fits}
 use Rattle.db_store.specs.Sound.{IsSound}
+use Rattle.db_store.specs.Order.{IsOrdered}
 use Rattle.lock_table.specs.declared.need.Need.{Need}
 use Rattle.stmt_text.specs.declared.stmt.Stmt.{Stmt}
 use Rattle.branch_tx.specs.Keeping.{over_table}
@@ -24,6 +25,10 @@ pub record Whole : Type 0 where
 abbrev pub and_then : Whole → Outcome (List Overlay) → List Need → Whole
 and_then w o ns = record { tx = o.tx; replies = o.reply ∷ w.replies; needs = ns ∷ w.needs }
 
+-- whether something was changed, which depends on no table
+abbrev pub is_changed : Tx (List Overlay) → Bool
+is_changed tx = nat_lt 0 (count_touched tx.work) || is_some tx.second
+
 -- one line on branch b, with changes over its head
 abbrev pub step_over : Dataset → ℕ → Tx (List Overlay) → Stmt → Outcome (List Overlay)
 step_over d b tx x = step (over_table (head_of d b)) d b tx x
@@ -31,7 +36,7 @@ step_over d b tx x = step (over_table (head_of d b)) d b tx x
 -- the lines of one transaction, newest first, run alone on branch b of a dataset
 abbrev pub whole : Dataset → ℕ → List Stmt → Whole
 whole d b [] = record { tx = fresh untouched; replies = []; needs = [] }
-whole d b (x ∷ xs) = and_then (whole d b xs) (step_over d b (whole d b xs).tx x) (needs d b (whole d b xs).tx.begun x)
+whole d b (x ∷ xs) = and_then (whole d b xs) (step_over d b (whole d b xs).tx x) (needs d b (whole d b xs).tx.begun (is_changed (whole d b xs).tx) x)
 
 -- a dataset after entries
 abbrev pub apply_all : Dataset → List Entry → Dataset
@@ -68,5 +73,5 @@ LockOf (n ∷ ns) lock = (n.lock ≡ lock) ⊎ LockOf ns lock
 
 -- after entries that spare the locks of its needs, a transaction gives the same replies, has the same needs and makes the same changes
 abbrev pub FrameLaw : Type 0
-FrameLaw = (s : Dataset) (b : ℕ) (lines : List Stmt) (locks : List Need) (es : List Entry) → IsSound s → AllFit s es → b < length s.branches
+FrameLaw = (s : Dataset) (b : ℕ) (lines : List Stmt) (locks : List Need) (es : List Entry) → IsSound s → IsOrdered s → AllFit s es → b < length s.branches
     → AllWithin (LockOf locks) (whole s b lines).needs → AllSpare (LockOf locks) es → whole (apply_all s es) b lines ≡ whole s b lines

@@ -7,6 +7,8 @@ use Rattle.db_value.specs.declared.schema.Relation.{Relation}
 use Rattle.db_value.specs.declared.record.Record.{Record}
 use Rattle.db_value.specs.declared.condition.Set.{Set}
 use Rattle.db_value.specs.declared.version.VersionName.{VersionName}
+use Rattle.db_value.specs.declared.version.VersionPlace.{VersionPlace}
+use Rattle.db_value.specs.declared.condition.Prefer.{Prefer}
 use Rattle.db_value.specs.declared.reply.Refusal.TheVariants.{Line}
 use Rattle.db_store.specs.Table.{Table, table_code, relation_at}
 use Rattle.db_store.specs.Overlay.{Overlay, overlay_code, laid}
@@ -14,6 +16,8 @@ use Rattle.stmt_text.specs.declared.stmt.Stmt.{Stmt}
 use Rattle.branch_tx.specs.Keeping.{over_table}
 use Rattle.branch_tx.specs.Found.{Source, Own, Other, Lacking}
 use Rattle.branch_tx.specs.Act.{Tx, Outcome, Ground, act, insert_free, update_free, delete_free, record_with}
+use Rattle.branch_tx.specs.Merging.{merge_in}
+use Rattle.branch_tx.specs.Frame.{is_changed}
 
 pub record Granted : Type 0 where
   pub schema : List Relation
@@ -25,6 +29,8 @@ pub record Granted : Type 0 where
   pub head : Table
   pub overlays : List Overlay
   pub room : ℕ
+  -- the second parent, once it merged
+  pub second : Option VersionPlace
   -- the versions that were lent, with their tables
   pub lent : List (VersionName × Table)
   -- the names of all branches, once they were noted
@@ -36,18 +42,21 @@ relation_code = code_by (List ℕ × List (List ℕ)) (coded× (coded_list coded
 abbrev pub version_code : Coded VersionName
 version_code = code_by (List ℕ × Option ℕ) (coded× (coded_list coded_ℕ) (coded_option coded_ℕ)) (λ v. (v.branch, v.position)) (λ p. record { branch = p.0; position = p.1 }) (λ _. refl)
 
+abbrev pub place_code : Coded VersionPlace
+place_code = code_by (ℕ × ℕ) (coded× coded_ℕ coded_ℕ) (λ p. (p.branch, p.position)) (λ p. record { branch = p.0; position = p.1 }) (λ _. refl)
+
 -- a granted transaction can be told apart from others
 abbrev pub granted_code : Coded Granted
 granted_code = code_by
-    (List Relation × (List ℕ × (Option (Bool × Bool) × (Table × (List Overlay × (ℕ × (List (VersionName × Table) × Option (List (List ℕ)))))))))
-    (coded× (coded_list relation_code) (coded× (coded_list coded_ℕ) (coded× (coded_option (coded× coded_bool coded_bool)) (coded× table_code (coded× (coded_list overlay_code) (coded× coded_ℕ (coded× (coded_list (coded× version_code table_code)) (coded_option (coded_list (coded_list coded_ℕ))))))))))
-    (λ g. (g.schema, (g.name, (g.held, (g.head, (g.overlays, (g.room, (g.lent, g.heads))))))))
-    (λ p. record { schema = p.0; name = p.1.0; held = p.1.1.0; head = p.1.1.1.0; overlays = p.1.1.1.1.0; room = p.1.1.1.1.1.0; lent = p.1.1.1.1.1.1.0; heads = p.1.1.1.1.1.1.1 })
+    (List Relation × (List ℕ × (Option (Bool × Bool) × (Table × (List Overlay × (ℕ × (Option VersionPlace × (List (VersionName × Table) × Option (List (List ℕ))))))))))
+    (coded× (coded_list relation_code) (coded× (coded_list coded_ℕ) (coded× (coded_option (coded× coded_bool coded_bool)) (coded× table_code (coded× (coded_list overlay_code) (coded× coded_ℕ (coded× (coded_option place_code) (coded× (coded_list (coded× version_code table_code)) (coded_option (coded_list (coded_list coded_ℕ)))))))))))
+    (λ g. (g.schema, (g.name, (g.held, (g.head, (g.overlays, (g.room, (g.second, (g.lent, g.heads)))))))))
+    (λ p. record { schema = p.0; name = p.1.0; held = p.1.1.0; head = p.1.1.1.0; overlays = p.1.1.1.1.0; room = p.1.1.1.1.1.0; second = p.1.1.1.1.1.1.0; lent = p.1.1.1.1.1.1.1.0; heads = p.1.1.1.1.1.1.1.1 })
     (λ _. refl)
 
 -- a transaction to which nothing is granted yet
 abbrev pub ungranted : List Relation → List ℕ → Table → List Overlay → ℕ → Granted
-ungranted schema name head overlays room = record { schema = schema; name = name; held = None; head = head; overlays = overlays; room = room; lent = []; heads = None }
+ungranted schema name head overlays room = record { schema = schema; name = name; held = None; head = head; overlays = overlays; room = room; second = None; lent = []; heads = None }
 
 abbrev pub held_full : Option (Bool × Bool) → Bool
 held_full None = false
@@ -89,7 +98,11 @@ abbrev pub ground_in : Granted → Ground
 ground_in g = record { schema = g.schema; name = g.name; full = held_full g.held }
 
 abbrev pub tx_in : Granted → Tx (List Overlay)
-tx_in g = record { begun = true; room = g.room; work = g.overlays; second = None; made = None; moved = None }
+tx_in g = record { begun = true; room = g.room; work = g.overlays; second = g.second; made = None; moved = None }
+
+-- whether it has changed something: it touched a key, or merged
+abbrev pub has_done : Granted → Bool
+has_done g = is_changed (tx_in g)
 
 -- what a statement does in it
 abbrev pub acted : Granted → Stmt → Outcome (List Overlay)
@@ -102,6 +115,14 @@ with_work g o = record g { overlays = o.tx.work }
 -- it after a statement
 abbrev pub left : Granted → Stmt → Granted
 left g x = with_work g (acted g x)
+
+-- what a merge of a table that stands at a place does in it, over the common ancestor's table
+abbrev pub merged : Granted → VersionPlace → Prefer → Table → Table → Outcome (List Overlay)
+merged g from prefer base right = merge_in (over_table g.head) (ground_in g) (tx_in g) from prefer base g.head right
+
+-- it after a merge
+abbrev pub with_merge : Granted → Outcome (List Overlay) → Granted
+with_merge g o = record g { overlays = o.tx.work; second = o.tx.second }
 
 -- what an insertion does where the branch isn't full
 abbrev pub placed : Granted → ℕ → List ℕ → Record → Outcome (List Overlay)

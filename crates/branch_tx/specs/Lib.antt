@@ -1,10 +1,13 @@
 pub mod Keeping
 pub mod Found
 pub mod Act
+pub mod Merging
 pub mod Alone
 pub mod Granted
+pub mod Lending
 pub mod Stops
 pub mod TxState
+pub mod Early
 pub mod Needs
 pub mod Frame
 pub mod Covers

@@ -6,7 +6,7 @@ ghost use Rattle.db_value.specs.Condition.{holds};
 ghost use Rattle.db_value.specs.Pred.{pred_holds, first_unknown};
 ghost use Rattle.multi_scan.specs.Multi.{multi, marked, rows_where};
 ghost use Rattle.version_join.specs.Join.{join_of, minus_of};
-ghost use Rattle.branch_tx.specs.Found.{plain};
+ghost use Rattle.version_log.specs.Found.{plain};
 
 use db_store::View;
 use db_value::{

@@ -11,7 +11,7 @@ impl<St: Store> Tx<St> {
     ghost use Rattle.std.specs.Prelude.{is_some};
     ghost use Rattle.std.specs.Prelude.{◌&&◌};
     ghost use Rattle.std.specs.List.{list_all};
-    ghost use Rattle.branch_tx.specs.Found.{plain};
+    ghost use Rattle.version_log.specs.Found.{plain};
     ghost use Rattle.branch_tx.specs.Covers.{holds_alone, has_version, has_at, has_heads, has_over, is_granted, covers};
 
     /// Is its branch granted?
@@ -118,7 +118,7 @@ impl<St: Store> Tx<St> {
     pub fn covers(&self, stmt: &Stmt) -> bool
         ensures { result ≡ covers self.now stmt.now }
     {
-        if is_early(&self.schema, true, stmt) {
+        if is_early(&self.schema, true, self.has_done(), stmt) {
             return true;
         }
         self.is_granted(stmt)

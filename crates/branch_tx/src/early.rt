@@ -1,17 +1,58 @@
 //! Refusals that look at no lock.
-ghost use Rattle.std.specs.Prelude.{◌≡◌, ◌<◌, None, not, is_some, length};
+ghost use Rattle.std.specs.Prelude.{◌≡◌, ◌<◌, ◌≤◌, None, length};
 ghost use Rattle.db_value.specs.Relations.{columns_at};
 ghost use Rattle.db_value.specs.Pred.{unknown_or, first_unknown};
-ghost use Rattle.branch_tx.specs.Act.{relation_named, resolved};
-ghost use Rattle.branch_tx.specs.Needs.{is_miscounted, is_unresolved, is_misnamed, is_unasked, is_early};
+ghost use Rattle.branch_tx.specs.Act.{relation_named, resolved, column_refusal};
+ghost use Rattle.branch_tx.specs.Early.{outside_refusal, inside_refusal, first_refusal, relation_refusal, count_refusal, unresolved_refusal, set_refusal, ask_refusal, join_refusal, early_refusal, is_early};
 
-use db_value::{Fields, Name, Schema, Term};
+use db_value::{Fields, Name, Refusal, Schema, Term};
 use stmt_text::{NamedSet, Stmt};
 
-// How many columns a relation has.
-fn column_count(schema: &Schema, relation: u8) -> usize
+// Why a statement that is at home outside a transaction is refused.
+fn outside_refusal(begun: bool) -> Option<Refusal>
+    ensures { result ≡ outside_refusal begun }
+{
+    if begun {
+        return Some(Refusal::InTransaction);
+    }
+    None
+}
+
+// Why a statement that is at home inside a transaction is refused.
+fn inside_refusal(begun: bool) -> Option<Refusal>
+    ensures { result ≡ inside_refusal begun }
+{
+    if begun {
+        return None;
+    }
+    Some(Refusal::NoTransaction)
+}
+
+// Why a merge is refused that isn't the first to change something.
+fn first_refusal(changed: bool) -> Option<Refusal>
+    ensures { result ≡ first_refusal changed }
+{
+    if changed {
+        return Some(Refusal::NotFirst);
+    }
+    None
+}
+
+// Why there is no such relation.
+fn relation_refusal(schema: &Schema, name: &Name) -> Option<Refusal>
+    ensures { result ≡ relation_refusal name.now (relation_named schema.now name.now) }
+{
+    match schema.relation(name) {
+        None => Some(Refusal::NoRelation { relation: *name }),
+        Some(_) => None,
+    }
+}
+
+/// How many columns a relation has.
+pub(crate) fn column_count(schema: &Schema, relation: u8) -> usize
     requires { relation < length schema.now }
-    ensures { result ≡ length (columns_at schema.now relation) }
+    ensures count { result ≡ length (columns_at schema.now relation) }
+    ensures few { result ≤ 15 }
 {
     schema.relations()[relation as usize]
         .columns
@@ -19,118 +60,144 @@ fn column_count(schema: &Schema, relation: u8) -> usize
         .len()
 }
 
-// Is the relation unknown, or has it another number of columns?
-fn is_miscounted(schema: &Schema, name: &Name, fields: &Fields) -> bool
-    ensures { result ≡ is_miscounted schema.now fields.now (relation_named schema.now name.now) }
+// Why there is no such relation with so many columns.
+fn count_refusal(schema: &Schema, name: &Name, fields: &Fields) -> Option<Refusal>
+    ensures { result ≡ count_refusal schema.now name.now fields.now (relation_named schema.now name.now) }
 {
     match schema.relation(name) {
-        None => true,
-        Some(relation) => fields.count() != column_count(schema, relation),
+        None => Some(Refusal::NoRelation { relation: *name }),
+        Some(relation) => {
+            let columns = column_count(schema, relation);
+            if fields.count() == columns {
+                return None;
+            }
+            Some(Refusal::ValueCount {
+                relation: *name,
+                columns: columns as u32,
+            })
+        }
     }
 }
 
-// Is there no such relation?
-fn is_missing(schema: &Schema, name: &Name) -> bool
-    ensures { result ≡ not (is_some (relation_named schema.now name.now)) }
-{
-    match schema.relation(name) {
-        None => true,
-        Some(_) => false,
-    }
-}
-
-// Has the relation not all of the columns?
-fn is_unresolved(schema: &Schema, relation: u8, sets: &[NamedSet]) -> bool
+// Which of the columns the relation lacks, if one.
+fn unresolved_refusal(schema: &Schema, relation: u8, sets: &[NamedSet]) -> Option<Refusal>
     requires { relation < length schema.now }
-    ensures { result ≡ is_unresolved (resolved (columns_at schema.now relation) sets.now) }
+    ensures { result ≡ unresolved_refusal (resolved (columns_at schema.now relation) sets.now) }
 {
     for set in sets {
         match schema.column(relation, &set.column) {
-            None => return true,
+            None => {
+                return Some(Refusal::NoColumn { column: set.column });
+            }
             Some(_) => {}
         }
     }
-    false
+    None
 }
 
-// Is the relation unknown, or one of the columns?
-fn is_misnamed(schema: &Schema, name: &Name, sets: &[NamedSet]) -> bool
-    ensures { result ≡ is_misnamed schema.now sets.now (relation_named schema.now name.now) }
+// Why there is no such relation with these columns.
+fn set_refusal(schema: &Schema, name: &Name, sets: &[NamedSet]) -> Option<Refusal>
+    ensures { result ≡ set_refusal schema.now name.now sets.now (relation_named schema.now name.now) }
 {
     match schema.relation(name) {
-        None => true,
-        Some(relation) => is_unresolved(schema, relation, sets),
+        None => Some(Refusal::NoRelation { relation: *name }),
+        Some(relation) => unresolved_refusal(schema, relation, sets),
     }
 }
 
-// Does a term name a column that the relation hasn't?
-fn is_unknown(schema: &Schema, relation: u8, term: &Term) -> bool
+// The column of a term, if the relation lacks it.
+fn unknown_column(schema: &Schema, relation: u8, term: &Term) -> Option<Name>
     requires { relation < length schema.now }
-    ensures { result ≡ is_some (unknown_or (columns_at schema.now relation) term.now.column None) }
+    ensures { result ≡ unknown_or (columns_at schema.now relation) term.now.column None }
 {
     match term.column {
-        None => false,
+        None => None,
         Some(name) => match schema.column(relation, &name) {
-            None => true,
-            Some(_) => false,
+            None => Some(name),
+            Some(_) => None,
         },
     }
 }
 
-// Has the relation not all of the columns of a condition?
-fn has_unknown(schema: &Schema, relation: u8, terms: &[Term]) -> bool
+// Which of the columns of a condition the relation lacks, if one.
+fn column_refusal(schema: &Schema, relation: u8, terms: &[Term]) -> Option<Refusal>
     requires { relation < length schema.now }
-    ensures { result ≡ is_some (first_unknown (columns_at schema.now relation) terms.now) }
+    ensures { result ≡ column_refusal (first_unknown (columns_at schema.now relation) terms.now) }
 {
     for term in terms {
-        if is_unknown(schema, relation, term) {
-            return true;
+        match unknown_column(schema, relation, term) {
+            None => {}
+            Some(column) => return Some(Refusal::NoColumn { column }),
         }
     }
-    false
+    None
 }
 
-// Is the relation unknown, or a column of the condition?
-fn is_unasked(schema: &Schema, name: &Name, terms: &[Term]) -> bool
-    ensures { result ≡ is_unasked schema.now terms.now (relation_named schema.now name.now) }
+// Why there is no such relation with the columns of a condition.
+fn ask_refusal(schema: &Schema, name: &Name, terms: &[Term]) -> Option<Refusal>
+    ensures { result ≡ ask_refusal schema.now name.now terms.now (relation_named schema.now name.now) }
 {
     match schema.relation(name) {
-        None => true,
-        Some(relation) => has_unknown(schema, relation, terms),
+        None => Some(Refusal::NoRelation { relation: *name }),
+        Some(relation) => column_refusal(schema, relation, terms),
     }
 }
 
-/// Is a statement refused by the schema, or by whether a transaction is open? It takes no memory.
-pub fn is_early(schema: &Schema, begun: bool, stmt: &Stmt) -> bool
-    ensures { result ≡ is_early schema.now begun stmt.now }
+// Why one of two relations isn't there, or the first one hasn't the columns of a condition.
+fn join_refusal(schema: &Schema, left: &Name, right: &Name, terms: &[Term]) -> Option<Refusal>
+    ensures { result ≡ join_refusal schema.now left.now right.now terms.now (relation_named schema.now left.now) (relation_named schema.now right.now) }
+{
+    match schema.relation(left) {
+        None => Some(Refusal::NoRelation { relation: *left }),
+        Some(relation) => match schema.relation(right) {
+            None => Some(Refusal::NoRelation { relation: *right }),
+            Some(_) => column_refusal(schema, relation, terms),
+        },
+    }
+}
+
+/// Why a statement is refused by the schema, or by whether a transaction is open and has changed
+/// something, if it is. It takes no memory.
+pub fn early_refusal(schema: &Schema, begun: bool, changed: bool, stmt: &Stmt) -> Option<Refusal>
+    ensures { result ≡ early_refusal schema.now begun changed stmt.now }
 {
     match stmt {
-        Stmt::Begin { .. } => begun,
-        Stmt::Commit => !begun,
-        Stmt::Abort => !begun,
-        Stmt::On { .. } => begun,
-        Stmt::LogOf { .. } => false,
-        Stmt::Branch { .. } => begun,
+        Stmt::Begin { .. } => outside_refusal(begun),
+        Stmt::Commit => inside_refusal(begun),
+        Stmt::Abort => inside_refusal(begun),
+        Stmt::On { .. } => outside_refusal(begun),
+        Stmt::LogOf { .. } => None,
+        Stmt::Graph => None,
+        Stmt::Branch { .. } => outside_refusal(begun),
+        Stmt::Merge { .. } => first_refusal(changed),
         Stmt::Insert {
             relation,
             fields,
             ..
-        } => is_miscounted(schema, relation, fields),
-        Stmt::Update { relation, sets, .. } => is_misnamed(schema, relation, sets.as_slice()),
-        Stmt::Delete { relation, .. } => is_missing(schema, relation),
-        Stmt::Get { relation, .. } => is_missing(schema, relation),
+        } => count_refusal(schema, relation, fields),
+        Stmt::Update { relation, sets, .. } => set_refusal(schema, relation, sets.as_slice()),
+        Stmt::Delete { relation, .. } => relation_refusal(schema, relation),
+        Stmt::Get { relation, .. } => relation_refusal(schema, relation),
         Stmt::Scan {
             relation,
             terms,
             ..
-        } => is_unasked(schema, relation, terms.as_slice()),
+        } => ask_refusal(schema, relation, terms.as_slice()),
         Stmt::Join {
             left,
             right,
             terms,
             ..
-        } => is_unasked(schema, left, terms.as_slice()) || is_missing(schema, right),
-        Stmt::Minus { relation, .. } => is_missing(schema, relation),
-        _ => true,
+        } => join_refusal(schema, left, right, terms.as_slice()),
+        Stmt::Minus { relation, .. } => relation_refusal(schema, relation),
+        _ => Some(Refusal::Line),
     }
+}
+
+/// Is a statement refused by the schema, or by whether a transaction is open and has changed
+/// something? It takes no memory.
+pub fn is_early(schema: &Schema, begun: bool, changed: bool, stmt: &Stmt) -> bool
+    ensures { result ≡ is_early schema.now begun changed stmt.now }
+{
+    early_refusal(schema, begun, changed, stmt).is_some()
 }

@@ -5,7 +5,6 @@ ghost use Rattle.branch_tx.specs.Granted.{tx_in, acted};
 
 use crate::Tx;
 use crate::ask::{condition, join_rows, list_rows, minus_rows, plain_names, scan_rows};
-use crate::look::lent_view;
 use crate::refuse::{no_column, no_relation, refused};
 use db_store::{Seen, Store};
 use db_value::{ListOf, Name, Pred, Refusal, Reply, Terms, VersionName, VersionNames};
@@ -19,7 +18,8 @@ impl<St: Store> Tx<St> {
     ghost use Rattle.db_value.specs.Condition.{holds};
     ghost use Rattle.db_value.specs.Relations.{columns_at};
     ghost use Rattle.db_store.specs.SeenState.{seen_table};
-    ghost use Rattle.branch_tx.specs.Found.{plain, lacking, first_lacking};
+    ghost use Rattle.version_log.specs.Found.{plain};
+    ghost use Rattle.branch_tx.specs.Found.{lacking, first_lacking};
     ghost use Rattle.branch_tx.specs.Act.{scan_versions, scan_over, join_in, minus_in};
     ghost use Rattle.branch_tx.specs.Granted.{source_in, names_or_none, table_from};
 
@@ -34,7 +34,7 @@ impl<St: Store> Tx<St> {
         if self.is_current(version) {
             return Some(Seen::Own { work: &self.work });
         }
-        match lent_view(&self.lent, version) {
+        match self.lent.find(version) {
             None => None,
             Some(view) => Some(Seen::Kept { view }),
         }

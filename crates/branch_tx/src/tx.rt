@@ -5,13 +5,17 @@ ghost use Rattle.db_store.specs.Parts.{IsViewable};
 ghost use Rattle.db_store.specs.WorkState.{under_of, overlays_of, room_of};
 ghost use Rattle.branch_tx.specs.Keeping.{over_table};
 ghost use Rattle.branch_tx.specs.Alone.{commit_entry};
-ghost use Rattle.branch_tx.specs.Granted.{ungranted, tx_in, acted, left, lent_table};
+ghost use Rattle.branch_tx.specs.Granted.{ungranted, tx_in, has_done, acted, left, lent_table};
 
-use crate::look::{Lent, find_lent, find_record, is_lent, keep_first};
+use crate::early::column_count;
+use crate::lent::Lending;
+use crate::look::find_record;
 use crate::refuse::{no_column, no_relation, refusal_of, refused, value_count, versions_full};
 use crate::sets::resolve;
 use db_store::{Store, View, Work};
-use db_value::{Entry, Fields, Name, Names, Record, Refusal, Reply, Schema, Sets, VersionName};
+use db_value::{
+    Entry, Fields, Name, Names, Record, Refusal, Reply, Schema, Sets, VersionName, VersionPlace,
+};
 use std::alloc::{AllocError, Global};
 use std::marker::Model;
 use stmt_text::{NamedSets, Stmt};
@@ -45,10 +49,11 @@ impl Model for Mark {
 #[derive(Drop)]
 pub struct Tx<St: Store> {
     pub(crate) schema: Schema,
-    current: Name,
+    pub(crate) current: Name,
     pub(crate) work: Work<St::View>,
+    pub(crate) second: Option<VersionPlace>,
     pub(crate) held: Option<Held>,
-    pub(crate) lent: Vec<Lent<St::View>>,
+    pub(crate) lent: Lending<St::View>,
     pub(crate) heads: Option<Names>,
 }
 
@@ -69,11 +74,12 @@ impl<St: Store> Model for Tx<St> {
       head = St.View.table (under_of t.work);
       overlays = overlays_of t.work;
       room = room_of t.work;
-      lent = map (λ l. (l.name, St.View.table l.view)) t.lent.items;
+      second = t.second;
+      lent = t.lent;
       heads = t.heads;
     } };
 
-    ghost invariant = { λ t. (length (St.View.table (under_of t.work)) ≡ length t.schema) × AllWide (length t.schema) (map (λ l. St.View.table l.view) t.lent.items) };
+    ghost invariant = { λ t. (length (St.View.table (under_of t.work)) ≡ length t.schema) × AllWide (length t.schema) (map (λ l. l.1) t.lent) };
 }
 
 impl<St: Store> Tx<St> {
@@ -99,11 +105,12 @@ impl<St: Store> Tx<St> {
         ensures { IfOk result (λ t. t ≡ ungranted schema.now current (St.View.table (under_of work)) (overlays_of work) (room_of work)) }
     {
         let schema = schema.duplicate()?;
-        let lent = Vec::new(alloc);
+        let lent = Lending::new(alloc);
         Ok(Tx {
             schema,
             current,
             work,
+            second: None,
             held: None,
             lent,
             heads: None,
@@ -128,7 +135,7 @@ impl<St: Store> Tx<St> {
         ensures ok { OnOk result (self.new ≡ record self.old { lent = self.old.lent ++ (name, St.View.table view) ∷ [] }) }
         ensures err { OnErr result (self.new ≡ self.old) }
     {
-        self.lent.push(Lent { name, view })?;
+        self.lent.push(name, view)?;
         Ok(())
     }
 
@@ -154,17 +161,24 @@ impl<St: Store> Tx<St> {
         Ok(())
     }
 
-    /// The entry of its changes as a commit on a branch, if there are any.
+    /// Has it changed something: touched a key, or merged?
+    pub fn has_done(&self) -> bool
+        ensures { result ≡ has_done self.now }
+    {
+        self.work.touched() > 0 || self.second.is_some()
+    }
+
+    /// The entry of its changes as a commit on a branch, if there are any or it merged.
     pub fn entry(&self, branch: u32) -> Result<Option<Entry>, AllocError>
         ensures { IfOk result (λ e. e ≡ commit_entry (over_table self.now.head) branch (tx_in self.now)) }
     {
-        if self.work.touched() == 0 {
+        if !self.has_done() {
             return Ok(None);
         }
         let changes = self.work.changes()?;
         Ok(Some(Entry::Commit {
             branch,
-            second: None,
+            second: self.second,
             changes,
         }))
     }
@@ -190,17 +204,16 @@ impl<St: Store> Tx<St> {
     }
 
     /// Takes back what it was granted since a mark. It takes no memory.
-    #[tactic(auto, using(crate::proofs::WideLemmas::wide_take))]
     pub fn back_to(&mut self, mark: Mark)
         ensures { self.new ≡ record self.old { held = mark.0; lent = take mark.1.0 self.old.lent; heads = cond mark.1.1 self.old.heads None } }
     {
         self.forget_heads(mark.noted);
         self.held = mark.held;
-        keep_first(&mut self.lent, mark.lent);
+        self.lent.keep_first(mark.lent);
     }
 
     // Has its branch as many versions as it can have?
-    fn is_full(&self) -> bool
+    pub(crate) fn is_full(&self) -> bool
         ensures { result ≡ (ground_in self.now).full }
     {
         match self.held {
@@ -215,16 +228,6 @@ impl<St: Store> Tx<St> {
         ensures within { IfSome result (λ r. r < length self.now.schema) }
     {
         self.schema.relation(name)
-    }
-
-    // How many columns a relation has.
-    fn column_count(&self, relation: u8) -> usize
-        requires { relation < length self.now.schema }
-        ensures count { result ≡ length (columns_at self.now.schema relation) }
-        ensures few { result ≤ 15 }
-    {
-        let relations = self.schema.relations();
-        relations[relation as usize].columns.as_slice().len()
     }
 
     // Puts a record whose key isn't there, on a branch that isn't full.
@@ -272,7 +275,7 @@ impl<St: Store> Tx<St> {
         let Some(relation) = self.relation_of(name) else {
             return Ok(no_relation(*name));
         };
-        let columns = self.column_count(relation);
+        let columns = column_count(&self.schema, relation);
         if fields.count() != columns {
             return Ok(value_count(*name, columns as u32));
         }
@@ -398,7 +401,10 @@ impl<St: Store> Tx<St> {
         requires { relation < length self.now.schema }
         ensures { result ≡ record_in relation key (lent_table self.now.lent version.now) }
     {
-        find_lent(&self.lent, relation, key, version)
+        match self.lent.find(version) {
+            None => None,
+            Some(view) => Some(find_record(view, relation, key)),
+        }
     }
 
     /// Is it the plain name of its branch?
@@ -412,7 +418,7 @@ impl<St: Store> Tx<St> {
     pub fn has_lent(&self, version: &VersionName) -> bool
         ensures { result ≡ is_some (lent_table self.now.lent version.now) }
     {
-        is_lent(&self.lent, version)
+        self.lent.has(version)
     }
 
     // The record with a key in a version that is named.
@@ -494,6 +500,7 @@ impl<St: Store> Tx<St> {
             Stmt::Begin { .. } => Ok(refused(Refusal::InTransaction)),
             Stmt::On { .. } => Ok(refused(Refusal::InTransaction)),
             Stmt::Branch { .. } => Ok(refused(Refusal::InTransaction)),
+            Stmt::Merge { .. } => Ok(refused(Refusal::NotFirst)),
             _ => Ok(refused(Refusal::Line)),
         }
     }

@@ -1,34 +1,32 @@
 -- A line against what is kept of its session: its reply, and what it leaves.
-use Rattle.std.proofs.Common.{◌≡◌, ◌⊎◌, inl, inr, ℕ, suc, ◌<◌, ◌≤◌, ◌+◌, Bool, true, false, not, is_some, List, [], ◌∷◌, length, get_or, Option, Some, None, refl, sym, ap, ◌∙◌, subst, arith}
-use Rattle.std.specs.Prelude.{Result, Ok as Fine, Err, OnErr}
-use Rattle.db_value.specs.declared.reply.Reply.{Reply}
+use Rattle.std.proofs.Common.{◌≡◌, ℕ, ◌<◌, Bool, true, false, not, is_some, List, [], ◌∷◌, length, Option, Some, None, refl, sym, ◌∙◌, subst}
+use Rattle.std.specs.Prelude.{Result, Ok as Fine, Err, IsErr, OnErr}
 use Rattle.db_value.specs.declared.reply.Reply.TheVariants.{Refused}
 use Rattle.db_value.specs.declared.reply.Refusal.TheVariants.{Held, Skipped}
 use Rattle.db_value.specs.declared.version.VersionName.{VersionName}
 use Rattle.db_value.specs.declared.entry.Entry.{Entry}
 use Rattle.db_store.specs.Table.{Table}
-use Rattle.db_store.specs.Overlay.{Overlay}
+use Rattle.db_store.specs.Overlay.{Overlay, untouched}
 use Rattle.db_store.specs.Dataset.{Dataset, head_of}
 use Rattle.db_store.specs.Fits.{fits}
 use Rattle.db_store.specs.State.{State, dataset_of}
 use Rattle.lock_table.specs.declared.need.Need.{Need}
 use Rattle.lock_table.specs.Rows.{Row, holder}
 use Rattle.lock_table.specs.Grants.{Has, row, without, added}
-use Rattle.lock_table.specs.Laws.{Covers}
 use Rattle.stmt_text.specs.declared.stmt.Stmt.{Stmt}
 use Rattle.stmt_text.specs.declared.stmt.Stmt.TheVariants.{Commit, Abort}
 use Rattle.branch_tx.specs.Keeping.{over_table}
-use Rattle.branch_tx.specs.Act.{Tx, Outcome}
-use Rattle.branch_tx.specs.Granted.{Granted, tx_in}
+use Rattle.branch_tx.specs.Act.{Tx}
+use Rattle.branch_tx.specs.Granted.{Granted, tx_in, has_done}
 use Rattle.branch_tx.specs.Needs.{lock_of, needs}
-use Rattle.branch_tx.specs.Frame.{Within, whole}
+use Rattle.branch_tx.specs.Frame.{is_changed, Within, whole}
 use Rattle.branch_tx.specs.Laws.{IsRoomy, AllRoomy}
 use Rattle.db_core.specs.Ends.{is_end, ends, grown, moved_to, entry_at}
 use Rattle.db_core.specs.Order.{World, tagged, next, lock_name}
 use Rattle.db_core.specs.Desk.{KeepsIf, IsSameIf}
-use Rattle.db_core.specs.Sits.{OwnedBy, AllGranted, HasHead, HeldFor, AllLent, HeadsFor, Keeps, IsOpenFor, IsLed, Sits, Seated, IsBegun, begun_tx, tx_of, heard, said_now, step_over, entry_over, commit_over}
-use Rattle.db_core.proofs.Rows.{tagged_old, tagged_new}
-use Rattle.db_core.proofs.Runs.{FitsIf, end_fits}
+use Rattle.db_core.specs.Sits.{done_in, OwnedBy, HasHead, HeldFor, AllLent, HeadsFor, Keeps, IsOpenFor, Seated, IsBegun, begun_tx, tx_of, heard, said_now, step_over, entry_over, commit_over}
+use Rattle.db_core.proofs.Rows.{tagged_old}
+use Rattle.db_core.proofs.Runs.{FitsIf, clean_is, end_fits}
 use Rattle.db_core.proofs.Worlds.{Ok}
 use Rattle.db_core.proofs.Seating.{ok_led, skip_reply, held_reply, free_reply, seated_skip, seated_held, seated_end, seated_stay}
 
@@ -92,10 +90,10 @@ module _ (w : World) (st : State) (table : List Row) (n cur : ℕ) (sk : Bool) (
     listens_at e = h.sits.skipping_is ∙ e
 
     abbrev ns : List Need
-    ns = needs (dataset_of st) cur (is_some tx) x
+    ns = needs (dataset_of st) cur (is_some tx) (done_in tx) x
 
-    holder_at : (o : Option (ℕ × ℕ)) → holder n ns table ≡ o → holder n (needs (dataset_of w.state) (w.desks n).current (is_some tx) x) table ≡ o
-    holder_at o e = (λ i. holder n (needs (dataset_of (h.state i)) (h.sits.current_is i) (is_some tx) x) table) ∙ e
+    holder_at : (o : Option (ℕ × ℕ)) → holder n ns table ≡ o → holder n (needs (dataset_of w.state) (w.desks n).current (is_some tx) (done_in tx) x) table ≡ o
+    holder_at o e = (λ i. holder n (needs (dataset_of (h.state i)) (h.sits.current_is i) (is_some tx) (done_in tx) x) table) ∙ e
 
     pub reply_skip : sk ≡ true → said_now w n x ≡ Refused Skipped
     reply_skip e = skip_reply w table n tx h.led h.granted open_at x roomy (skips_at e)
@@ -119,8 +117,8 @@ module _ (w : World) (st : State) (table : List Row) (n cur : ℕ) (sk : Bool) (
 
     pub after_stay : sk ≡ false → holder n ns table ≡ None → ends (is_some tx) x ≡ false → (t : Granted) → Keeps (dataset_of st) (tagged n ns w.rows) n cur t → tx_in t ≡ (step_over (dataset_of st) cur (tx_of tx) x).tx
         → Seated (next w (heard n x)) st (added n ns table) n cur false (Some t)
-    after_stay e f g t = go (λ q. Keeps (dataset_of q.0) (tagged n (needs (dataset_of q.0) q.1 (is_some tx) x) w.rows) n q.1 t → tx_in t ≡ (step_over (dataset_of q.0) q.1 (tx_of tx) x).tx
-        → Seated (next w (heard n x)) q.0 (added n (needs (dataset_of q.0) q.1 (is_some tx) x) table) n q.1 false (Some t))
+    after_stay e f g t = go (λ q. Keeps (dataset_of q.0) (tagged n (needs (dataset_of q.0) q.1 (is_some tx) (done_in tx) x) w.rows) n q.1 t → tx_in t ≡ (step_over (dataset_of q.0) q.1 (tx_of tx) x).tx
+        → Seated (next w (heard n x)) q.0 (added n (needs (dataset_of q.0) q.1 (is_some tx) (done_in tx) x) table) n q.1 false (Some t))
         (λ k is. seated_stay w table n tx h.led h.granted open_at x roomy (listens_at e) (holder_at None f) g t k is)
 
 -- what is kept of an open transaction, and with the needs of a line
@@ -143,6 +141,17 @@ module _ (w : World) (st : State) (table : List Row) (n cur : ℕ) (sk : Bool) (
       opened_by : (lines : List Stmt) → IsOpenFor (dataset_of w.state) w.rows n cur lines (Some g) → IsOpenFor (dataset_of w.state) w.rows n cur lines (Some t)
       opened_by [] o = absurd o
       opened_by (x ∷ xs) o = (subst (λ (s : State). Keeps (dataset_of s) w.rows n cur t) (sym h.state) k, o.1 ∙ sym is)
+
+  clean_at : (lines : List Stmt) → IsOpenFor (dataset_of w.state) w.rows n cur lines (Some g) → AllRoomy lines → cur < length (dataset_of w.state).branches → has_done g ≡ false → g.overlays ≡ untouched
+  clean_at lines o roomy l =
+      let ok : Ok w = ok_led w h.led in
+      subst (λ (t : Tx (List Overlay)). is_changed t ≡ false → t.work ≡ untouched) (made_of (dataset_of w.state) w.rows n cur lines g o) (clean_is (dataset_of w.state) cur ok.sound ok.counted l lines roomy)
+
+  -- as long as it has changed nothing, it has touched nothing
+  pub clean_open : has_done g ≡ false → g.overlays ≡ untouched
+  clean_open =
+      let ok : Ok w = ok_led w h.led in
+      clean_at (w.desks n).lines h.sits.open_is (ok.good n).roomy (subst (λ (c : ℕ). c < length (dataset_of w.state).branches) h.sits.current_is (ok.good n).there)
 
   fits_at : (lines : List Stmt) → IsOpenFor (dataset_of w.state) w.rows n cur lines (Some g) → AllRoomy lines → cur < length (dataset_of w.state).branches → FitsIf (dataset_of w.state) (commit_over (dataset_of w.state) cur (tx_in g))
   fits_at lines o roomy l =
@@ -179,6 +188,11 @@ end_same d b g _ e = absurd cc
 pub on_err : {A E : Type 0} (r : Result A E) (P : Type 0) → P → OnErr r P
 on_err (Fine a) P p = tt
 on_err (Err e) P p = p
+
+-- and what holds where it is a failure
+pub on_err_if : {A E : Type 0} (r : Result A E) (P : Type 0) → (IsErr r → P) → OnErr r P
+on_err_if (Fine a) P f = tt
+on_err_if (Err e) P f = f refl
 
 -- what is kept of a transaction that may be open, with the needs of a line
 pub keeps_tagged_if : (w : World) (st : State) (table : List Row) (n cur : ℕ) (sk : Bool) (o : Option Granted) → Seated w st table n cur sk o → (ns : List Need) → KeepsIf (dataset_of st) (tagged n ns w.rows) n cur o

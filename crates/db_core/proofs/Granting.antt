@@ -1,5 +1,5 @@
 -- What a transaction does that keeps what it was granted.
-use Rattle.std.proofs.Common.{◌≡◌, ℕ, zero, suc, ◌+◌, ◌<◌, ◌==◌, ◌||◌, Bool, true, false, cond, not, List, [], ◌∷◌, ◌++◌, length, map, drop, take, get_or, ap, sym, ◌∙◌, refl, subst, Option, Some, None, inl, inr, ⊎_elim, arith}
+use Rattle.std.proofs.Common.{◌≡◌, ℕ, zero, suc, ◌+◌, ◌<◌, ◌==◌, ◌||◌, Bool, true, false, cond, List, [], ◌∷◌, ◌++◌, length, map, drop, take, get_or, ap, sym, ◌∙◌, refl, subst, Option, Some, None, inl, inr, ⊎_elim, arith}
 use Rattle.std.specs.Prelude.{is_some, IfSome}
 use Rattle.std.specs.FinMap as finite
 use Rattle.std.specs.List.{filter, list_all}
@@ -15,6 +15,7 @@ use Rattle.db_value.specs.Condition.{holds}
 use Rattle.db_value.specs.Pred.{first_unknown}
 use Rattle.db_value.specs.declared.record.Record.{Record}
 use Rattle.db_value.specs.declared.condition.Term.{Term}
+use Rattle.db_value.specs.declared.condition.Prefer.{Prefer}
 use Rattle.db_value.specs.declared.reply.Reply.TheVariants.{One, Listed, Paired}
 use Rattle.db_value.specs.declared.reply.Refusal.{Refusal}
 use Rattle.db_store.specs.Table.{Table, rows_of}
@@ -25,43 +26,63 @@ use Rattle.lock_table.specs.declared.need.Need.{Need}
 use Rattle.lock_table.specs.Rows.{Row}
 use Rattle.lock_table.specs.Grants.{Has, row}
 use Rattle.stmt_text.specs.declared.stmt.Stmt.{Stmt}
-use Rattle.stmt_text.specs.declared.stmt.Stmt.TheVariants.{Begin, Commit, Abort, On, LogOf, Branch, Insert, Update, Delete, Get, Scan, Join, Minus}
+use Rattle.stmt_text.specs.declared.stmt.Stmt.TheVariants.{Begin, Commit, Abort, On, LogOf, Graph, Branch, Merge, Insert, Update, Delete, Get, Scan, Join, Minus}
 use Rattle.stmt_text.specs.declared.stmt.ScanOver.{ScanOver}
 use Rattle.stmt_text.specs.declared.stmt.ScanOver.TheVariants.{Current, Named, Heads}
 use Rattle.branch_tx.specs.Keeping.{Keeping, over_table}
-use Rattle.branch_tx.specs.Found.{Source, Own, Other, Lacking, head_found, plain, lacking, first_lacking, found, source_of, branch_names}
-use Rattle.branch_tx.specs.Act.{Tx, Outcome, Ground, relation_named, refused, answered, unless, column_refusal, record_with, get_from, get_of, marked, union_marked, pairs_of, unlike, contents_from, rows_from, scan_versions, scan_over, scan_of, join_of, minus_of, act}
+use Rattle.version_log.specs.Found.{head_found, plain, found, branch_names}
+use Rattle.branch_tx.specs.Found.{Source, Own, Other, Lacking, lacking, first_lacking, source_of}
+use Rattle.branch_tx.specs.Act.{Tx, Outcome, relation_named, refused, answered, unless, column_refusal, record_with, get_from, get_of, marked, union_marked, pairs_of, unlike, contents_from, rows_from, scan_versions, scan_over, scan_of, join_of, minus_of, act}
 use Rattle.branch_tx.specs.Alone.{ground_of}
-use Rattle.branch_tx.specs.Granted.{Granted, is_current, lent_table, lent_source, source_in, names_or_none, held_full, ground_in, tx_in, acted, left}
+use Rattle.branch_tx.specs.Granted.{Granted, has_done, is_current, lent_table, lent_source, source_in, names_or_none, held_full, ground_in, tx_in, acted, left}
 use Rattle.branch_tx.specs.Covers.{holds_alone, has_version, has_heads, has_over, is_granted, covers}
-use Rattle.branch_tx.specs.Needs.{catalogue, lock_of, shared, found_needs, is_unasked, is_early, names_needs, branch_needs, scan_needs, stmt_needs, needs}
+use Rattle.branch_tx.specs.Early.{relation_refusal, join_refusal, is_early}
+use Rattle.branch_tx.specs.Needs.{catalogue, lock_of, shared, found_needs, names_needs, branch_needs, scan_needs, stmt_needs, needs}
 use Rattle.branch_tx.proofs.Acts.{act_does}
 use Rattle.branch_tx.proofs.EarlyLines.{early_why, act_early}
 use Rattle.branch_tx.proofs.SeenLemmas.{scan_left, join_left, minus_left}
 use Rattle.lock_table.proofs.Kept.{has_left, has_right}
 use Rattle.db_core.specs.Ends.{is_end}
 use Rattle.db_core.specs.Desk.{IsMoreIf, IsReady}
-use Rattle.db_core.specs.Sits.{AllGranted, HeldFor, AllLent, HeadsFor, Keeps, IsMore, IsAct, lacking_of, lacking_over, act_over, step_in}
+use Rattle.db_core.specs.Sits.{AllGranted, HeldFor, AllLent, HeadsFor, Keeps, IsMore, IsAct, IsWork, lacking_of, act_over, step_in}
 use Rattle.db_core.proofs.Rows.{within_granted}
 use Rattle.db_core.proofs.Lends.{own_source, own_in, lent_is, lent_more, lent_last, lent_front}
 
 -- ---- a statement that goes on in an open transaction
 
-pub goes_on : (x : Stmt) → is_end x ≡ false → ((room : Option ℕ) → x ≡ Begin room → ⊥) → ((name : List ℕ) → x ≡ On name → ⊥) → ((name : List ℕ) → x ≡ LogOf name → ⊥) → ((name : List ℕ) (origin : VersionName) → x ≡ Branch name origin → ⊥) → IsAct x
-goes_on (Begin room) e b o l n = b room refl
-goes_on Commit e b o l n = absurd (true≢false e)
-goes_on Abort e b o l n = absurd (true≢false e)
-goes_on (On name) e b o l n = o name refl
-goes_on (LogOf name) e b o l n = l name refl
-goes_on (Branch name origin) e b o l n = n name origin refl
-goes_on _ e b o l n = tt
+pub goes_on : (x : Stmt) → is_end x ≡ false → ((room : Option ℕ) → x ≡ Begin room → ⊥) → ((name : List ℕ) → x ≡ On name → ⊥) → ((name : List ℕ) → x ≡ LogOf name → ⊥) → ((name : List ℕ) (origin : VersionName) → x ≡ Branch name origin → ⊥) → (x ≡ Graph → ⊥) → IsWork x
+goes_on (Begin room) e b o l n h = b room refl
+goes_on Commit e b o l n h = absurd (true≢false e)
+goes_on Abort e b o l n h = absurd (true≢false e)
+goes_on (On name) e b o l n h = o name refl
+goes_on (LogOf name) e b o l n h = l name refl
+goes_on Graph e b o l n h = h refl
+goes_on (Branch name origin) e b o l n h = n name origin refl
+goes_on _ e b o l n h = tt
 
-pub step_acts : (d : Dataset) (b : ℕ) (g : Granted) (x : Stmt) → IsAct x → step_in d b g x ≡ act_over d b (tx_in g) x
+-- what is no merge reads or changes records
+pub no_merge : (x : Stmt) → IsWork x → ((name : List ℕ) (prefer : Prefer) → x ≡ Merge name prefer → ⊥) → IsAct x
+no_merge (Merge name prefer) a n = n name prefer refl
+no_merge x a n = a
+
+pub act_is : (d : Dataset) (b : ℕ) (tx : Tx (List Overlay)) (x : Stmt) → IsAct x → act_over d b tx x ≡ act (over_table (head_of d b)) (ground_of d b) (λ v. source_of b (found d v)) (branch_names d) tx x
+act_is d b tx (Begin room) a = absurd a
+act_is d b tx Commit a = absurd a
+act_is d b tx Abort a = absurd a
+act_is d b tx (On name) a = absurd a
+act_is d b tx (LogOf name) a = absurd a
+act_is d b tx Graph a = absurd a
+act_is d b tx (Branch name origin) a = absurd a
+act_is d b tx (Merge name prefer) a = absurd a
+act_is d b tx _ a = refl
+
+pub step_acts : (d : Dataset) (b : ℕ) (g : Granted) (x : Stmt) → IsWork x → step_in d b g x ≡ act_over d b (tx_in g) x
 step_acts d b g (Begin room) a = absurd a
 step_acts d b g Commit a = absurd a
 step_acts d b g Abort a = absurd a
 step_acts d b g (On name) a = absurd a
 step_acts d b g (LogOf name) a = absurd a
+step_acts d b g Graph a = absurd a
 step_acts d b g (Branch name origin) a = absurd a
 step_acts d b g _ a = refl
 
@@ -80,7 +101,7 @@ get_seen k tx r key (Other t) = refl
 get_seen k tx r key (Lacking why) = refl
 
 module _ (d : Dataset) (rows : List Row) (s b : ℕ) (g : Granted) (k : Keeps d rows s b g) where
-  head_by : (o : Option (Bool × Bool)) → HeldFor d rows s b g o → is_some o ≡ true → (g.head ≡ head_of d b) × (held_full o ≡ (ground_of d b).full)
+  pub head_by : (o : Option (Bool × Bool)) → HeldFor d rows s b g o → is_some o ≡ true → (g.head ≡ head_of d b) × (held_full o ≡ (ground_of d b).full)
   head_by None h e = absurd (false≢true e)
   head_by (Some (false, full)) h e = (h.1.head_is, h.1.full_is)
   head_by (Some (true, full)) h e = (h.1.head_is, h.1.full_is)
@@ -97,11 +118,12 @@ module _ (d : Dataset) (rows : List Row) (s b : ℕ) (g : Granted) (k : Keeps d 
   abbrev sources : VersionName → Source
   sources v = source_of b (found d v)
 
-  early_acts : (x : Stmt) → IsAct x → is_early g.schema true x ≡ true → acted g x ≡ act_over d b (tx_in g) x
+  early_acts : (x : Stmt) → IsAct x → is_early g.schema true (has_done g) x ≡ true → acted g x ≡ act_over d b (tx_in g) x
   early_acts x a e =
-      act_early (over_table g.head) (ground_in g) (source_in g) (names_or_none g.heads) (tx_in g) x e
-      ∙ ap (λ (schema : List Relation). refused (tx_in g) (early_why schema x)) k.schema
-      ∙ sym (act_early (over_table (head_of d b)) (ground_of d b) sources (branch_names d) (tx_in g) x (ap (λ (schema : List Relation). is_early schema true x) (sym k.schema) ∙ e))
+      act_early (over_table g.head) (ground_in g) (source_in g) (names_or_none g.heads) (tx_in g) (has_done g) x e
+      ∙ ap (λ (schema : List Relation). refused (tx_in g) (early_why schema true (has_done g) x)) k.schema
+      ∙ sym (act_early (over_table (head_of d b)) (ground_of d b) sources (branch_names d) (tx_in g) (has_done g) x (ap (λ (schema : List Relation). is_early schema true (has_done g) x) (sym k.schema) ∙ e))
+      ∙ sym (act_is d b (tx_in g) x a)
 
   -- a version that is named
   own_same : (v : VersionName) → is_some g.held ≡ true → source_in g v ≡ Own → sources v ≡ Own → IsSame d b g v
@@ -231,12 +253,12 @@ module _ (d : Dataset) (rows : List Row) (s b : ℕ) (g : Granted) (k : Keeps d 
         ∙ ap (λ (schema : List Relation). minus_of (over_table (head_of d b)) (tx_in g) name (sources v) (sources w) (relation_named schema name)) k.schema
     granted_acts _ a e = absurd (false≢true e)
 
-    by_early : (x : Stmt) → IsAct x → (q : Bool) → is_early g.schema true x ≡ q → (q || is_granted g x) ≡ true → acted g x ≡ act_over d b (tx_in g) x
+    by_early : (x : Stmt) → IsAct x → (q : Bool) → is_early g.schema true (has_done g) x ≡ q → (q || is_granted g x) ≡ true → acted g x ≡ act_over d b (tx_in g) x
     by_early x a true f e = early_acts x a f
     by_early x a false f e = granted_acts x a e
 
     pub covered_acts : (x : Stmt) → IsAct x → covers g x ≡ true → acted g x ≡ act_over d b (tx_in g) x
-    covered_acts x a e = by_early x a (is_early g.schema true x) refl e
+    covered_acts x a e = by_early x a (is_early g.schema true (has_done g) x) refl e
 
 -- ---- what it leaves
 
@@ -246,8 +268,8 @@ get_leaves k sources tx name key Own r = refl
 get_leaves k sources tx name key (Other t) r = refl
 get_leaves k sources tx name key (Lacking why) r = refl
 
-early_leaves : (g : Granted) (x : Stmt) → IsAct x → is_early g.schema true x ≡ true → (acted g x).tx.work ≡ g.overlays
-early_leaves g x a e = ap (λ (o : Outcome (List Overlay)). o.tx.work) (act_early (over_table g.head) (ground_in g) (source_in g) (names_or_none g.heads) (tx_in g) x e)
+early_leaves : (g : Granted) (x : Stmt) → IsAct x → is_early g.schema true (has_done g) x ≡ true → (acted g x).tx.work ≡ g.overlays
+early_leaves g x a e = ap (λ (o : Outcome (List Overlay)). o.tx.work) (act_early (over_table g.head) (ground_in g) (source_in g) (names_or_none g.heads) (tx_in g) (has_done g) x e)
 
 look_leaves : (g : Granted) (x : Stmt) → IsAct x → is_granted g x ≡ true → holds_alone g.held ≡ false → (acted g x).tx.work ≡ g.overlays
 look_leaves g (Insert name key fields) a e h = absurd (true≢false (sym e ∙ h))
@@ -267,13 +289,13 @@ look_leaves g (Join left right v w terms) a e h = ap (λ (o : Granted). o.overla
 look_leaves g (Minus name v w) a e h = ap (λ (o : Granted). o.overlays) (sym (minus_left g name v w))
 look_leaves g _ a e h = absurd (false≢true e)
 
-leaves_by : (g : Granted) (x : Stmt) → IsAct x → (q : Bool) → is_early g.schema true x ≡ q → (q || is_granted g x) ≡ true → holds_alone g.held ≡ false → (acted g x).tx.work ≡ g.overlays
+leaves_by : (g : Granted) (x : Stmt) → IsAct x → (q : Bool) → is_early g.schema true (has_done g) x ≡ q → (q || is_granted g x) ≡ true → holds_alone g.held ≡ false → (acted g x).tx.work ≡ g.overlays
 leaves_by g x a true f e h = early_leaves g x a f
 leaves_by g x a false f e h = look_leaves g x a e h
 
 left_held : (d : Dataset) (rows : List Row) (s b : ℕ) (g : Granted) (os : List Overlay) (o : Option (Bool × Bool)) → HeldFor d rows s b g o → (holds_alone o ≡ false → os ≡ g.overlays) → HeldFor d rows s b (record g { overlays = os }) o
-left_held d rows s b g os None h same = same refl ∙ h
-left_held d rows s b g os (Some (false, full)) h same = (same refl ∙ h.0, record { head_is = h.1.head_is; full_is = h.1.full_is; owned = h.1.owned })
+left_held d rows s b g os None h same = (same refl ∙ h.0, h.1)
+left_held d rows s b g os (Some (false, full)) h same = ((same refl ∙ h.0.0, h.0.1), record { head_is = h.1.head_is; full_is = h.1.full_is; owned = h.1.owned })
 left_held d rows s b g os (Some (true, full)) h same = (h.0, record { head_is = h.1.head_is; full_is = h.1.full_is; owned = h.1.owned })
 
 -- it keeps what was granted
@@ -281,7 +303,7 @@ pub left_keeps : (d : Dataset) (rows : List Row) (s b : ℕ) (g : Granted) (x : 
 left_keeps d rows s b g x a e k = record {
   schema = k.schema;
   name = k.name;
-  held = left_held d rows s b g (acted g x).tx.work g.held k.held (leaves_by g x a (is_early g.schema true x) refl e);
+  held = left_held d rows s b g (acted g x).tx.work g.held k.held (leaves_by g x a (is_early g.schema true (has_done g) x) refl e);
   lent = k.lent;
   heads = k.heads;
 }
@@ -292,7 +314,7 @@ left_is g x = sym (act_does (over_table g.head) (length g.schema) (tx_in g) (λ 
 -- ---- granted more
 
 pub more_none : (g : Granted) → IsMore g g
-more_none g = record { schema = refl; name = refl; held = λ e. e; head = λ e. refl; overlays = refl; room = refl; lent = take_all g.lent; heads = λ e. refl }
+more_none g = record { schema = refl; name = refl; held = λ e. e; head = λ e. refl; overlays = refl; room = refl; second = refl; lent = take_all g.lent; heads = λ e. refl }
   where
     take_all : (ls : List (VersionName × Table)) → take (length ls) ls ≡ ls
     take_all [] = refl
@@ -318,6 +340,7 @@ more_more g h k m n = record {
   head = λ e. n.head (m.held e) ∙ m.head e;
   overlays = n.overlays ∙ m.overlays;
   room = n.room ∙ m.room;
+  second = n.second ∙ m.second;
   lent = take_in g.lent h.lent k.lent m.lent n.lent;
   heads = λ e. n.heads (ap (λ (o : Option (List (List ℕ))). is_some o) (m.heads e) ∙ e) ∙ m.heads e;
 }
@@ -343,18 +366,21 @@ module _ (g h : Granted) (m : IsMore g h) where
 long_leaves : (g : Granted) (x : Stmt) → IsLong (acted g x).reply → (acted g x).tx ≡ tx_in g
 long_leaves g x = act_does (over_table g.head) (length g.schema) (tx_in g) (λ o. IsLong o.reply → o.tx ≡ tx_in g) (λ why l. refl) (λ reply e l. refl) (λ r key state h l. absurd l) (ground_in g) (source_in g) (names_or_none g.heads) x refl
 
+pub left_long : (g : Granted) (x : Stmt) → IsLong (acted g x).reply → left g x ≡ g
+left_long g x l = ap (λ (tx : Tx (List Overlay)). record g { overlays = tx.work }) (long_leaves g x l)
+
 pub more_left : (g h : Granted) (x : Stmt) → IsMore g h → IsLong (acted h x).reply → IsMore g (left h x)
-more_left g h x m l = record { schema = m.schema; name = m.name; held = m.held; head = m.head; overlays = ap (λ (tx : Tx (List Overlay)). tx.work) (long_leaves h x l) ∙ m.overlays; room = m.room; lent = m.lent; heads = m.heads }
+more_left g h x m l = record { schema = m.schema; name = m.name; held = m.held; head = m.head; overlays = ap (λ (tx : Tx (List Overlay)). tx.work) (long_leaves h x l) ∙ m.overlays; room = m.room; second = m.second; lent = m.lent; heads = m.heads }
 
 pub more_tx : (g h : Granted) → IsMore g h → tx_in h ≡ tx_in g
-more_tx g h m = λ i. record { begun = true; room = m.room i; work = m.overlays i; second = None; made = None; moved = None }
+more_tx g h m = λ i. record { begun = true; room = m.room i; work = m.overlays i; second = m.second i; made = None; moved = None }
 
 -- what was granted more is taken back
-back_held : (d : Dataset) (rows : List Row) (s b : ℕ) (g h : Granted) (o : Option (Bool × Bool)) (ls : List (VersionName × Table)) (hs : Option (List (List ℕ))) → h.overlays ≡ g.overlays → (is_some o ≡ true → h.head ≡ g.head) → HeldFor d rows s b g o
+back_held : (d : Dataset) (rows : List Row) (s b : ℕ) (g h : Granted) (o : Option (Bool × Bool)) (ls : List (VersionName × Table)) (hs : Option (List (List ℕ))) → h.overlays ≡ g.overlays → h.second ≡ g.second → (is_some o ≡ true → h.head ≡ g.head) → HeldFor d rows s b g o
     → HeldFor d rows s b (record h { held = o; lent = ls; heads = hs }) o
-back_held d rows s b g h None ls hs w head k = w ∙ k
-back_held d rows s b g h (Some (false, full)) ls hs w head k = (w ∙ k.0, record { head_is = head refl ∙ k.1.head_is; full_is = k.1.full_is; owned = k.1.owned })
-back_held d rows s b g h (Some (true, full)) ls hs w head k = (k.0, record { head_is = head refl ∙ k.1.head_is; full_is = k.1.full_is; owned = k.1.owned })
+back_held d rows s b g h None ls hs w two head k = (w ∙ k.0, two ∙ k.1)
+back_held d rows s b g h (Some (false, full)) ls hs w two head k = ((w ∙ k.0.0, two ∙ k.0.1), record { head_is = head refl ∙ k.1.head_is; full_is = k.1.full_is; owned = k.1.owned })
+back_held d rows s b g h (Some (true, full)) ls hs w two head k = (k.0, record { head_is = head refl ∙ k.1.head_is; full_is = k.1.full_is; owned = k.1.owned })
 
 back_heads : (d : Dataset) (rows : List Row) (s : ℕ) (o p : Option (List (List ℕ))) → (is_some o ≡ true → p ≡ o) → HeadsFor d rows s o → HeadsFor d rows s (cond (is_some o) p None)
 back_heads d rows s None p e h = tt
@@ -364,7 +390,7 @@ pub back_keeps : (d : Dataset) (rows : List Row) (s b : ℕ) (g h : Granted) →
 back_keeps d rows s b g h m k = record {
   schema = m.schema ∙ k.schema;
   name = m.name ∙ k.name;
-  held = back_held d rows s b g h g.held (take (length g.lent) h.lent) (cond (is_some g.heads) h.heads None) m.overlays m.head k.held;
+  held = back_held d rows s b g h g.held (take (length g.lent) h.lent) (cond (is_some g.heads) h.heads None) m.overlays m.second m.head k.held;
   lent = subst (AllLent d rows s b) (sym m.lent) k.lent;
   heads = back_heads d rows s g.heads h.heads m.heads k.heads;
 }
@@ -392,7 +418,7 @@ pub lent_has : (g : Granted) (v : VersionName) (t : Table) → is_current g v �
 lent_has g v t c = ap (λ q. cond q (is_some g.held) (is_some (lent_table (g.lent ++ (v, t) ∷ []) v))) c ∙ lent_last g.lent v t
 
 pub more_lent : (g : Granted) (v : VersionName) (t : Table) → IsMore g (with_lent g v t)
-more_lent g v t = record { schema = refl; name = refl; held = λ e. e; head = λ e. refl; overlays = refl; room = refl; lent = take-append_seam g.lent ((v, t) ∷ []); heads = λ e. refl }
+more_lent g v t = record { schema = refl; name = refl; held = λ e. e; head = λ e. refl; overlays = refl; room = refl; second = refl; lent = take-append_seam g.lent ((v, t) ∷ []); heads = λ e. refl }
 
 -- ---- several versions
 
@@ -412,7 +438,7 @@ branch_need (suc m) i h = at (λ l. branch_need m i l) (i == m) refl
     at below true e = has_right (branch_needs m) (shared (lock_of m) ∷ []) (shared (lock_of i)) (inl (ap (λ n. shared (lock_of n)) (sym (eqb-true i m e))))
     at below false e = let other = eqb-false i m e in has_left (branch_needs m) (shared (lock_of m) ∷ []) (shared (lock_of i)) (below (omega (arith, h, other)))
 
-head_needs : (d : Dataset) (i : ℕ) → branch_named d (branch_at d i).name ≡ Some i → found_needs (found d (plain (branch_at d i).name)) ≡ shared (lock_of i) ∷ []
+pub head_needs : (d : Dataset) (i : ℕ) → branch_named d (branch_at d i).name ≡ Some i → found_needs (found d (plain (branch_at d i).name)) ≡ shared (lock_of i) ∷ []
 head_needs d i e = ap (λ (o : Option ℕ). found_needs (head_found d (branch_at d i).name o)) e
 
 module _ (d : Dataset) (rows : List Row) (s b : ℕ) (sound : IsSound d) (a : AllGranted rows s (scan_needs d b Heads)) where
@@ -461,7 +487,7 @@ noted_same d rows s (Some names) h e = ap Some (sym h.0)
 pub more_heads : (d : Dataset) (rows : List Row) (s b : ℕ) (g : Granted) → Keeps d rows s b g → IsMore g (with_heads g (branch_names d))
 more_heads d rows s b g k =
     let m = more_none g in
-    record { schema = refl; name = refl; held = λ e. e; head = λ e. refl; overlays = refl; room = refl; lent = m.lent; heads = noted_same d rows s g.heads k.heads }
+    record { schema = refl; name = refl; held = λ e. e; head = λ e. refl; overlays = refl; room = refl; second = refl; lent = m.lent; heads = noted_same d rows s g.heads k.heads }
 
 -- ---- what a statement needs that isn't covered
 
@@ -469,18 +495,18 @@ uncovered_late : (p q : Bool) → (p || q) ≡ false → p ≡ false
 uncovered_late true q e = absurd (true≢false e)
 uncovered_late false q e = refl
 
-pub late : (d : Dataset) (g : Granted) (x : Stmt) → g.schema ≡ d.schema → covers g x ≡ false → is_early d.schema true x ≡ false
-late d g x schema e = ap (λ (s : List Relation). is_early s true x) (sym schema) ∙ uncovered_late (is_early g.schema true x) (is_granted g x) e
+pub late : (d : Dataset) (g : Granted) (x : Stmt) → g.schema ≡ d.schema → covers g x ≡ false → is_early d.schema true (has_done g) x ≡ false
+late d g x schema e = ap (λ (s : List Relation). is_early s true (has_done g) x) (sym schema) ∙ uncovered_late (is_early g.schema true (has_done g) x) (is_granted g x) e
 
-pub needs_late : (d : Dataset) (rows : List Row) (s b : ℕ) (x : Stmt) → is_early d.schema true x ≡ false → AllGranted rows s (needs d b true x) → AllGranted rows s (stmt_needs d b x)
-needs_late d rows s b x e a = subst (λ (q : Bool). AllGranted rows s (cond q [] (stmt_needs d b x))) e a
+pub needs_late : (d : Dataset) (rows : List Row) (s b : ℕ) (changed : Bool) (x : Stmt) → is_early d.schema true changed x ≡ false → AllGranted rows s (needs d b true changed x) → AllGranted rows s (stmt_needs d b x)
+needs_late d rows s b changed x e a = subst (λ (q : Bool). AllGranted rows s (cond q [] (stmt_needs d b x))) e a
 
-pub needed : (d : Dataset) (rows : List Row) (s b : ℕ) (g : Granted) (x y : Stmt) → Keeps d rows s b g → covers g x ≡ false → x ≡ y → AllGranted rows s (needs d b true x) → AllGranted rows s (stmt_needs d b y)
-needed d rows s b g x y k e is a = subst (λ (z : Stmt). AllGranted rows s (stmt_needs d b z)) is (needs_late d rows s b x (late d g x k.schema e) a)
+pub needed : (d : Dataset) (rows : List Row) (s b : ℕ) (g : Granted) (x y : Stmt) → Keeps d rows s b g → covers g x ≡ false → x ≡ y → AllGranted rows s (needs d b true (has_done g) x) → AllGranted rows s (stmt_needs d b y)
+needed d rows s b g x y k e is a = subst (λ (z : Stmt). AllGranted rows s (stmt_needs d b z)) is (needs_late d rows s b (has_done g) x (late d g x k.schema e) a)
 
 -- the first of the needs
-pub first_need : (d : Dataset) (rows : List Row) (s b : ℕ) (g : Granted) (x : Stmt) (n : Need) → Keeps d rows s b g → covers g x ≡ false → stmt_needs d b x ≡ n ∷ [] → AllGranted rows s (needs d b true x) → Has rows (row s n)
-first_need d rows s b g x n k e is a = needs_late d rows s b x (late d g x k.schema e) a n (subst (λ (ns : List Need). Has ns n) (sym is) (inl refl))
+pub first_need : (d : Dataset) (rows : List Row) (s b : ℕ) (g : Granted) (x : Stmt) (n : Need) → Keeps d rows s b g → covers g x ≡ false → stmt_needs d b x ≡ n ∷ [] → AllGranted rows s (needs d b true (has_done g) x) → Has rows (row s n)
+first_need d rows s b g x n k e is a = needs_late d rows s b (has_done g) x (late d g x k.schema e) a n (subst (λ (ns : List Need). Has ns n) (sym is) (inl refl))
 
 -- a look-up in a version that isn't there is refused
 lacking_source : (s : Source) (why : Refusal) → lacking s ≡ Some why → s ≡ Lacking why
@@ -488,52 +514,51 @@ lacking_source Own why e = absurd cc
 lacking_source (Other t) why e = absurd cc
 lacking_source (Lacking w) why e = let q : w ≡ why = cc in ap Lacking q
 
-there_is : (o : Option ℕ) → not (is_some o) ≡ false → (r : ℕ) × (o ≡ Some r)
-there_is None e = absurd (true≢false e)
-there_is (Some r) e = (r, refl)
+there_is : (name : List ℕ) (o : Option ℕ) → is_some (relation_refusal name o) ≡ false → (r : ℕ) × (o ≡ Some r)
+there_is name None e = absurd (true≢false e)
+there_is name (Some r) e = (r, refl)
 
 -- so is a question to versions of which one isn't there
-unasked_there : (schema : List Relation) (terms : List Term) (o : Option ℕ) → is_unasked schema terms o ≡ false → (r : ℕ) × ((o ≡ Some r) × (first_unknown (columns_at schema r) terms ≡ None))
-unasked_there schema terms None e = absurd (true≢false e)
-unasked_there schema terms (Some r) e = (r, (refl, known (first_unknown (columns_at schema r) terms) e))
-  where
-    known : (o : Option (List ℕ)) → is_some o ≡ false → o ≡ None
-    known None e = refl
-    known (Some column) e = absurd (true≢false e)
+none_is : (o : Option Refusal) → is_some o ≡ false → o ≡ None
+none_is None e = refl
+none_is (Some why) e = absurd (true≢false e)
 
-late_second : (p q : Bool) → (p || q) ≡ false → q ≡ false
-late_second true q e = absurd (true≢false e)
-late_second false q e = e
+both_there : (schema : List Relation) (left right : List ℕ) (terms : List Term) (o q : Option ℕ) → is_some (join_refusal schema left right terms o q) ≡ false
+    → (r : ℕ) × (t : ℕ) × (o ≡ Some r) × (q ≡ Some t) × (column_refusal (first_unknown (columns_at schema r) terms) ≡ None)
+both_there schema left right terms None q e = absurd (true≢false e)
+both_there schema left right terms (Some r) None e = absurd (true≢false e)
+both_there schema left right terms (Some r) (Some t) e = (r, t, refl, refl, none_is (column_refusal (first_unknown (columns_at schema r) terms)) e)
 
-pub join_lacking : (d : Dataset) (b : ℕ) (tx : Tx (List Overlay)) (left right : List ℕ) (v w : VersionName) (terms : List Term) (why : Refusal) → is_early d.schema true (Join left right v w terms) ≡ false → lacking_of d b (v ∷ w ∷ []) ≡ Some why
+pub join_lacking : (d : Dataset) (b : ℕ) (tx : Tx (List Overlay)) (left right : List ℕ) (v w : VersionName) (terms : List Term) (why : Refusal) → is_early d.schema true false (Join left right v w terms) ≡ false → lacking_of d b (v ∷ w ∷ []) ≡ Some why
     → act_over d b tx (Join left right v w terms) ≡ refused tx why
 join_lacking d b tx left right v w terms why e l =
     let k : Keeping (List Overlay) = over_table (head_of d b) in
     let one : Source = source_of b (found d v) in
     let two : Source = source_of b (found d w) in
-    let r = unasked_there d.schema terms (relation_named d.schema left) (uncovered_late (is_unasked d.schema terms (relation_named d.schema left)) (not (is_some (relation_named d.schema right))) e) in
-    let t = there_is (relation_named d.schema right) (late_second (is_unasked d.schema terms (relation_named d.schema left)) (not (is_some (relation_named d.schema right))) e) in
-    let rows : List Record = rows_from k (holds (columns_at d.schema r.0) terms) tx r.0 one in
-    ap (λ (o : Option ℕ). join_of k d.schema tx left right one two terms o (relation_named d.schema right)) r.1.0
-    ∙ ap (λ (o : Option ℕ). join_of k d.schema tx left right one two terms (Some r.0) o) t.1
-    ∙ ap (λ (o : Option (List ℕ)). unless tx (column_refusal o) (unless tx (lacking_of d b (v ∷ w ∷ [])) (answered tx (Paired (pairs_of rows (contents_from k tx t.0 two)))))) r.1.1
-    ∙ ap (λ (o : Option Refusal). unless tx o (answered tx (Paired (pairs_of rows (contents_from k tx t.0 two))))) l
+    let p = both_there d.schema left right terms (relation_named d.schema left) (relation_named d.schema right) e in
+    let r : ℕ = p.0 in
+    let t : ℕ = p.1 in
+    let rows : List Record = rows_from k (holds (columns_at d.schema r) terms) tx r one in
+    ap (λ (o : Option ℕ). join_of k d.schema tx left right one two terms o (relation_named d.schema right)) p.2
+    ∙ ap (λ (o : Option ℕ). join_of k d.schema tx left right one two terms (Some r) o) p.3
+    ∙ ap (λ (o : Option Refusal). unless tx o (unless tx (lacking_of d b (v ∷ w ∷ [])) (answered tx (Paired (pairs_of rows (contents_from k tx t two)))))) p.4
+    ∙ ap (λ (o : Option Refusal). unless tx o (answered tx (Paired (pairs_of rows (contents_from k tx t two))))) l
 
-pub minus_lacking : (d : Dataset) (b : ℕ) (tx : Tx (List Overlay)) (name : List ℕ) (v w : VersionName) (why : Refusal) → is_early d.schema true (Minus name v w) ≡ false → lacking_of d b (v ∷ w ∷ []) ≡ Some why → act_over d b tx (Minus name v w) ≡ refused tx why
+pub minus_lacking : (d : Dataset) (b : ℕ) (tx : Tx (List Overlay)) (name : List ℕ) (v w : VersionName) (why : Refusal) → is_early d.schema true false (Minus name v w) ≡ false → lacking_of d b (v ∷ w ∷ []) ≡ Some why → act_over d b tx (Minus name v w) ≡ refused tx why
 minus_lacking d b tx name v w why e l =
     let k : Keeping (List Overlay) = over_table (head_of d b) in
     let one : Source = source_of b (found d v) in
     let two : Source = source_of b (found d w) in
-    let r = there_is (relation_named d.schema name) e in
+    let r = there_is name (relation_named d.schema name) e in
     ap (minus_of k tx name one two) r.1
     ∙ ap (λ (o : Option Refusal). unless tx o (answered tx (Listed [] (map marked (unlike (rows_of (contents_from k tx r.0 one)) (contents_from k tx r.0 two)))))) l
 
 -- a refusal is that of the statement
 pub refused_as : (d : Dataset) (b : ℕ) (g : Granted) (x y : Stmt) (P : Refusal → Type 0) (o : Option Refusal) → g.schema ≡ d.schema → covers g x ≡ false → x ≡ y
-    → ((why : Refusal) → is_early d.schema true y ≡ false → P why → act_over d b (tx_in g) y ≡ refused (tx_in g) why) → IfSome o P → IfSome o (λ why. act_over d b (tx_in g) x ≡ refused (tx_in g) why)
+    → ((why : Refusal) → is_early d.schema true (has_done g) y ≡ false → P why → act_over d b (tx_in g) y ≡ refused (tx_in g) why) → IfSome o P → IfSome o (λ why. act_over d b (tx_in g) x ≡ refused (tx_in g) why)
 refused_as d b g x y P None schema e is f h = h
 refused_as d b g x y P (Some why) schema e is f h =
-    ap (act_over d b (tx_in g)) is ∙ f why (subst (λ (z : Stmt). is_early d.schema true z ≡ false) is (late d g x schema e)) h
+    ap (act_over d b (tx_in g)) is ∙ f why (subst (λ (z : Stmt). is_early d.schema true (has_done g) z ≡ false) is (late d g x schema e)) h
 
 -- what was granted suffices, or a version isn't there
 pub ready_of : (d : Dataset) (b : ℕ) (x : Stmt) (g h : Granted) (o : Option Refusal) → IsMore g h → (o ≡ None → covers h x ≡ true) → IfSome o (λ why. act_over d b (tx_in g) x ≡ refused (tx_in g) why) → IsReady d b x h

@@ -12,11 +12,13 @@ use Rattle.db_store.specs.Table.{Table}
 use Rattle.db_store.specs.Dataset.{Dataset, no_branch, branch_at, branch_named, head_of, head_place}
 use Rattle.lock_table.specs.Rows.{Row}
 use Rattle.stmt_text.proofs.SpellingSteps.{same_word}
-use Rattle.branch_tx.specs.Found.{Found, NoBranch, NoPosition, Head, Fixed, Own, Other, Lacking, found, head_found, found_by, found_as, lack, source_of}
-use Rattle.branch_tx.specs.Granted.{Granted, same_version, same_position, lent_table, lent_source, is_current, source_in}
+use Rattle.version_log.specs.Found.{Found, NoBranch, NoPosition, Head, Fixed, found, head_found, found_by, found_as, lack}
+use Rattle.branch_tx.specs.Found.{Own, Other, Lacking, source_of}
+use Rattle.branch_tx.specs.Granted.{Granted, same_version, lent_table, lent_source, is_current, source_in}
 use Rattle.lock_table.specs.Grants.{Has, row}
 use Rattle.branch_tx.specs.Needs.{lock_of, shared, found_needs}
 use Rattle.branch_tx.specs.Frame.{Within}
+use Rattle.branch_tx.proofs.Spellings.{version_is, same_self, same_name}
 use Rattle.db_core.specs.Sits.{OwnedBy, AllGranted, AllLent}
 
 -- a name that stands for nothing is lacking
@@ -45,30 +47,18 @@ head_by : (d : Dataset) (b : ℕ) (name : List ℕ) (p : Option ℕ) (o : Option
 head_by d b name (Some n) o e f = absurd (true≢false f)
 head_by d b name None o e f = ap (head_found d name) e
 
--- and needs the branch
-pub current_need : (d : Dataset) (rows : List Row) (s b : ℕ) (g : Granted) (v : VersionName) → g.name ≡ (branch_at d b).name → branch_named d (branch_at d b).name ≡ Some b → is_current g v ≡ true → AllGranted rows s (found_needs (found d v)) → Has rows (row s (shared (lock_of b)))
-current_need d rows s b g v n there e a =
+pub current_head : (d : Dataset) (b : ℕ) (g : Granted) (v : VersionName) → g.name ≡ (branch_at d b).name → branch_named d (branch_at d b).name ≡ Some b → is_current g v ≡ true → found d v ≡ Head (head_place d b) (head_of d b)
+current_head d b g v n there e =
     let parts = and_parts (same v.branch g.name) (not (is_some v.position)) e in
     let name : v.branch ≡ (branch_at d b).name = same_word v.branch g.name parts.0 ∙ n in
-    let head : found d v ≡ Head (head_place d b) (head_of d b) = head_by d b v.branch v.position (branch_named d v.branch) (ap (branch_named d) name ∙ there) (plain (is_some v.position) parts.1) in
-    a (shared (lock_of b)) (subst (λ (f : Found). Has (found_needs f) (shared (lock_of b))) (sym head) (inl refl))
+    head_by d b v.branch v.position (branch_named d v.branch) (ap (branch_named d) name ∙ there) (plain (is_some v.position) parts.1)
+
+-- and needs the branch
+pub current_need : (d : Dataset) (rows : List Row) (s b : ℕ) (g : Granted) (v : VersionName) → g.name ≡ (branch_at d b).name → branch_named d (branch_at d b).name ≡ Some b → is_current g v ≡ true → AllGranted rows s (found_needs (found d v)) → Has rows (row s (shared (lock_of b)))
+current_need d rows s b g v n there e a = a (shared (lock_of b)) (subst (λ (f : Found). Has (found_needs f) (shared (lock_of b))) (sym (current_head d b g v n there e)) (inl refl))
 
 pub own_in : (g : Granted) (v : VersionName) → is_current g v ≡ true → source_in g v ≡ Own
 own_in g v e = ap (λ q. cond q Own (lent_source (lent_table g.lent v))) e
-
--- spellings that are alike are one
-position_is : (p q : Option ℕ) → same_position p q ≡ true → p ≡ q
-position_is None None e = refl
-position_is None (Some m) e = absurd (false≢true e)
-position_is (Some n) None e = absurd (false≢true e)
-position_is (Some n) (Some m) e = ap Some (eqb-true n m e)
-
-version_is : (u v : VersionName) → same_version u v ≡ true → u ≡ v
-version_is u v e =
-    let parts = and_parts (same u.branch v.branch) (same_position u.position v.position) e in
-    let name = same_word u.branch v.branch parts.0 in
-    let place = position_is u.position v.position parts.1 in
-    λ i. record { branch = name i; position = place i }
 
 -- a version that was lent is what its name stands for
 lent_at : (d : Dataset) (rows : List Row) (s b : ℕ) (l : VersionName × Table) (ls : List (VersionName × Table)) (v : VersionName) (t : Table) (q : Bool) → same_version l.0 v ≡ q → source_of b (found d l.0) ≡ Other l.1
@@ -96,10 +86,6 @@ other_by d b name (Some n) at t not_own e = ap (source_of b) e
 named_is : (d : Dataset) (b : ℕ) (name : List ℕ) → branch_named d name ≡ Some b → (branch_at d b).name ≡ name
 named_is d b name e = same_word (branch_at d b).name name (position-Some _ d.branches b no_branch e).1
 
-same_self : (name : List ℕ) → same name name ≡ true
-same_self [] = refl
-same_self (c ∷ cs) = ap (λ q. q && same cs cs) (eq-eqb c c refl) ∙ same_self cs
-
 current_if : (d : Dataset) (b : ℕ) (g : Granted) (v : VersionName) → g.name ≡ (branch_at d b).name → is_some v.position ≡ false → branch_named d v.branch ≡ Some b → is_current g v ≡ true
 current_if d b g v k p n =
     let name : v.branch ≡ g.name = sym (named_is d b v.branch n) ∙ sym k in
@@ -114,13 +100,6 @@ lent_more d rows s b [] v t a e w = ((e, w), tt)
 lent_more d rows s b (l ∷ ls) v t a e w = (a.0, lent_more d rows s b ls v t a.1 e w)
 
 -- is lent
-same_place : (p : Option ℕ) → same_position p p ≡ true
-same_place None = refl
-same_place (Some n) = eq-eqb n n refl
-
-same_name : (v : VersionName) → same_version v v ≡ true
-same_name v = ap (λ q. q && same_position v.position v.position) (same_self v.branch) ∙ same_place v.position
-
 there_at : (q : Bool) (l t : Table) (o : Option Table) → is_some o ≡ true → is_some (cond q (Some l) o) ≡ true
 there_at true l t o e = refl
 there_at false l t o e = e

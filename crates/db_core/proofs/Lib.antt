@@ -17,3 +17,8 @@ pub mod Held
 pub mod Rooms
 pub mod Examples
 pub mod NamedReplies
+pub mod Owned
+pub mod Waiting
+pub mod Desks
+pub mod OtherDesks
+pub mod Merges

@@ -1,10 +1,9 @@
 -- The locks that a line needs are those of the catalogue and of branches that are there.
-use Rattle.std.proofs.Common.{◌≡◌, ◌⊎◌, ⊎_elim, inl, inr, ℕ, zero, suc, ◌<◌, ◌≤◌, ◌==◌, ◌&&◌, ◌||◌, nat_lt, Bool, true, false, cond, List, [], ◌∷◌, ◌++◌, length, Option, Some, None, refl, sym, ap, ◌∙◌, subst, arith, get_or}
+use Rattle.std.proofs.Common.{◌≡◌, ◌⊎◌, ⊎_elim, inl, inr, ℕ, zero, suc, ◌<◌, ◌≤◌, ◌==◌, ◌&&◌, ◌||◌, nat_lt, Bool, true, false, cond, List, [], ◌∷◌, ◌++◌, length, Option, Some, None, refl, ◌∙◌, subst, arith, get_or}
 use Rattle.std.specs.List.{All}
 use Rattle.std.specs.Prelude.{MatchOption}
 use Rattle.std.proofs.lemmas.Bool.{and_parts, or_cases, eqb-true}
 use Rattle.db_value.specs.declared.version.VersionName.{VersionName}
-use Rattle.db_value.specs.declared.version.VersionPlace.{VersionPlace}
 use Rattle.db_store.specs.Dataset.{Dataset, branch_at, branch_named}
 use Rattle.lock_table.specs.declared.need.Need.{Need}
 use Rattle.lock_table.specs.Rows.{Row, conflicts, holder}
@@ -12,11 +11,12 @@ use Rattle.lock_table.specs.Grants.{Has}
 use Rattle.lock_table.specs.Laws.{NoneBlocks, IsHolder}
 use Rattle.lock_table.proofs.Least.{holder_law}
 use Rattle.stmt_text.specs.declared.stmt.Stmt.{Stmt}
-use Rattle.stmt_text.specs.declared.stmt.Stmt.TheVariants.{Begin, Commit, Abort, On, LogOf, Branch, Insert, Update, Delete, Get, Scan, Join, Minus}
+use Rattle.stmt_text.specs.declared.stmt.Stmt.TheVariants.{On, LogOf, Graph, Branch, Merge, Insert, Update, Delete, Get, Scan, Join, Minus}
 use Rattle.stmt_text.specs.declared.stmt.ScanOver.{ScanOver}
 use Rattle.stmt_text.specs.declared.stmt.ScanOver.TheVariants.{Current, Named, Heads}
-use Rattle.branch_tx.specs.Found.{Found, NoPosition, found_by, place_found, found}
-use Rattle.branch_tx.specs.Needs.{lock_of, shared, exclusive, found_needs, source_needs, names_needs, branch_needs, scan_needs, on_needs, log_needs, is_early, stmt_needs, needs}
+use Rattle.version_log.specs.Found.{NoPosition, found_by, place_found, found}
+use Rattle.branch_tx.specs.Early.{is_early}
+use Rattle.branch_tx.specs.Needs.{lock_of, shared, exclusive, found_needs, source_needs, names_needs, branch_needs, scan_needs, on_needs, log_needs, merge_needs, stmt_needs, needs}
 use Rattle.branch_tx.proofs.Entries.{named_there}
 
 abbrev IsLow : Dataset → List Need → Type 0
@@ -84,9 +84,15 @@ low_log : (d : Dataset) (name : List ℕ) (o : Option ℕ) → branch_named d na
 low_log d name None e = at_catalogue d
 low_log d name (Some b) e = at_branch d b (named_there d name b e)
 
+low_merge : (d : Dataset) (b : ℕ) → b < length d.branches → (name : List ℕ) (o : Option ℕ) → branch_named d name ≡ o → IsLow d (merge_needs b o)
+low_merge d b l name None e = at_catalogue d
+low_merge d b l name (Some c) e = low_both d (exclusive (lock_of b) ∷ []) (shared (lock_of c) ∷ []) (alone_at d b l) (at_branch d c (named_there d name c e))
+
 low_stmt : (d : Dataset) (b : ℕ) → b < length d.branches → (x : Stmt) → IsLow d (stmt_needs d b x)
 low_stmt d b l (On name) = low_on d (branch_named d name)
 low_stmt d b l (LogOf name) = low_log d name (branch_named d name) refl
+low_stmt d b l Graph = low_scan d b l Heads
+low_stmt d b l (Merge name prefer) = low_merge d b l name (branch_named d name) refl
 low_stmt d b l (Branch name origin) = low_both d (exclusive 0 ∷ []) (found_needs (found d origin)) (low_one d (exclusive 0) (omega arith)) (low_found d origin)
 low_stmt d b l (Insert name key fields) = alone_at d b l
 low_stmt d b l (Update name key sets) = alone_at d b l
@@ -101,8 +107,8 @@ low_if : (d : Dataset) (q : Bool) (ns : List Need) → IsLow d ns → IsLow d (c
 low_if d true ns l = low_none d
 low_if d false ns l = l
 
-pub low_needs : (d : Dataset) (b : ℕ) (begun : Bool) (x : Stmt) → b < length d.branches → (n : Need) → Has (needs d b begun x) n → n.lock < suc (length d.branches)
-low_needs d b begun x l = low_if d (is_early d.schema begun x) (stmt_needs d b x) (low_stmt d b l x)
+pub low_needs : (d : Dataset) (b : ℕ) (begun changed : Bool) (x : Stmt) → b < length d.branches → (n : Need) → Has (needs d b begun changed x) n → n.lock < suc (length d.branches)
+low_needs d b begun changed x l = low_if d (is_early d.schema begun changed x) (stmt_needs d b x) (low_stmt d b l x)
 
 -- ---- the lock that is held is one of those needed
 

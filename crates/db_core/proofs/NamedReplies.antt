@@ -13,27 +13,33 @@ use Rattle.db_value.specs.declared.record.Marked.{Marked}
 use Rattle.db_value.specs.declared.schema.Relation.{Relation}
 use Rattle.db_value.specs.declared.condition.Set.{Set}
 use Rattle.db_value.specs.declared.condition.Term.{Term}
+use Rattle.db_value.specs.declared.condition.Prefer.{Prefer}
+use Rattle.db_value.specs.declared.entry.Change.{Change}
 use Rattle.db_value.specs.declared.reply.Reply.{Reply}
 use Rattle.db_value.specs.declared.reply.Reply.TheVariants.{Done}
 use Rattle.db_value.specs.declared.reply.Refusal.{Refusal}
 use Rattle.db_value.specs.declared.version.VersionPlace.{VersionPlace}
 use Rattle.db_value.specs.declared.version.VersionName.{VersionName}
 use Rattle.db_store.specs.Table.{rows_of}
-use Rattle.db_store.specs.Dataset.{Dataset, branch_named, head_of}
+use Rattle.db_store.specs.Dataset.{Dataset, branch_named, head_of, head_place}
 use Rattle.db_store.specs.State.{dataset_of}
 use Rattle.db_store.specs.Fits.{most_branches}
 use Rattle.multi_scan.specs.Multi.{has, union_of, positions_from, marked_in, union_marked}
 use Rattle.reply_text.specs.Rows.{HasNames}
 use Rattle.reply_text.specs.Reply.{NamesItsRows}
 use Rattle.stmt_text.specs.declared.stmt.Stmt.{Stmt}
-use Rattle.stmt_text.specs.declared.stmt.Stmt.TheVariants.{Begin, Commit, Abort, On, LogOf, Branch, Insert, Update, Delete, Get, Scan, Join, Minus}
+use Rattle.stmt_text.specs.declared.stmt.Stmt.TheVariants.{Begin, Commit, Abort, On, LogOf, Graph, Branch, Merge, Insert, Update, Delete, Get, Scan, Join, Minus}
 use Rattle.stmt_text.specs.declared.stmt.NamedSet.{NamedSet}
 use Rattle.stmt_text.specs.declared.stmt.ScanOver.{ScanOver}
 use Rattle.stmt_text.specs.declared.stmt.ScanOver.TheVariants.{Current, Named as NamedVersions, Heads}
 use Rattle.branch_tx.specs.Keeping.{Keeping, over_table}
-use Rattle.branch_tx.specs.Found.{Source, Own, Other, Lacking, found, lack, source_of, branch_names, plain, first_lacking}
+use Rattle.version_log.specs.Found.{found, lack, branch_names, plain}
+use Rattle.branch_tx.specs.Found.{Source, Own, Other, Lacking, source_of, first_lacking}
 use Rattle.branch_tx.specs.Act.{Tx, Outcome, Ground, relation_named, resolved, marked, unless, column_refusal, changed_to, insert_of, update_in, update_of, delete_of, get_from, source_at, get_of, unlike, contents_from, rows_from, scan_versions, scan_over, scan_of, join_with, join_of, minus_of, act}
-use Rattle.branch_tx.specs.Alone.{told, ground_of, has_changed, log_of, branch_as, on_of, place_in, step}
+use Rattle.version_log.specs.Log.{log_of}
+use Rattle.branch_tx.specs.Merging.{merged_to}
+use Rattle.branch_tx.proofs.Keeps.{merge_changes}
+use Rattle.branch_tx.specs.Alone.{merge_named, told, ground_of, has_changed, branch_as, on_of, place_in, step}
 use Rattle.db_core.specs.Order.{Said, Fate, Skips, IsBad, IsHeld, Fails, Ends, Stays, replied}
 use Rattle.db_core.specs.Board.{Board, Seat, board_fate, seat_reply, board_reply}
 
@@ -162,12 +168,22 @@ module _ {W : Type 0} (k : Keeping W) where
   branch_as_named tx name at None (Some old) count = tt
   branch_as_named tx name at None None count = cond_named (nat_lt count most_branches) _ _ tt tt
 
+  merged_reply : (tx : Tx W) (from : VersionPlace) (cs : List Change) (o : Option Refusal) → Named (merged_to k tx from cs o)
+  merged_reply tx from cs (Some why) = tt
+  merged_reply tx from cs None = tt
+
+  merge_reply : (d : Dataset) (b : ℕ) (tx : Tx W) (name : List ℕ) (prefer : Prefer) (o : Option ℕ) → Named (merge_named k d b tx name prefer o)
+  merge_reply d b tx name prefer None = tt
+  merge_reply d b tx name prefer (Some c) = cond_named (ground_of d b).full _ _ tt (merged_reply tx (head_place d c) (merge_changes d b prefer c) _)
+
   pub step_named : (d : Dataset) (b : ℕ) (tx : Tx W) (x : Stmt) → Named (step k d b tx x)
   step_named d b tx (Begin room) = cond_named tx.begun _ _ tt tt
   step_named d b tx Commit = cond_named tx.begun _ _ (reply_cond (has_changed k tx) _ _ tt tt) tt
   step_named d b tx Abort = cond_named tx.begun _ _ tt tt
   step_named d b tx (On name) = cond_named tx.begun _ _ tt (on_named tx name (branch_named d name))
   step_named d b tx (LogOf name) = log_named d name (branch_named d name)
+  step_named d b tx Graph = tt
+  step_named d b tx (Merge name prefer) = told_named d b tx.begun _ (cond_named (has_changed k tx) _ _ tt (merge_reply d b tx name prefer (branch_named d name)))
   step_named d b tx (Branch name origin) = cond_named tx.begun _ _ tt (branch_as_named tx name (place_in (found d origin)) (lack (found d origin)) (branch_named d name) (length d.branches))
   step_named d b tx x = told_named d b tx.begun _ (act_named (ground_of d b) (λ v. source_of b (found d v)) (branch_names d) tx x)
 

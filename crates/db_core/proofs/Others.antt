@@ -1,27 +1,28 @@
 -- What is kept of a session stands under the lines of others.
-use Rattle.std.proofs.Common.{◌≡◌, ℕ, ◌<◌, ◌==◌, Bool, true, false, List, [], ◌∷◌, length, Option, Some, None, refl, sym, ap, ◌∙◌, subst}
+use Rattle.std.proofs.Common.{◌≡◌, ℕ, ◌<◌, Bool, true, false, List, [], ◌∷◌, length, Option, Some, None, refl, sym, ap, ◌∙◌, subst}
 use Rattle.db_value.specs.declared.version.VersionName.{VersionName}
 use Rattle.db_value.specs.declared.entry.Entry.{Entry}
 use Rattle.db_store.specs.Table.{Table}
 use Rattle.db_store.specs.Dataset.{Dataset, apply}
-use Rattle.db_store.specs.State.{State, dataset_of, grow}
+use Rattle.db_store.specs.State.{State, dataset_of}
 use Rattle.db_store.proofs.StateLemmas.{dataset_grows}
-use Rattle.lock_table.specs.declared.need.Need.{Need}
+use Rattle.db_store.specs.Sound.{IsSound}
+use Rattle.db_store.specs.Order.{IsOrdered}
 use Rattle.lock_table.specs.Rows.{Row, holder}
-use Rattle.lock_table.specs.Grants.{Has, row, without}
+use Rattle.lock_table.specs.Grants.{row, without}
 use Rattle.stmt_text.specs.declared.stmt.Stmt.{Stmt}
 use Rattle.branch_tx.specs.Act.{Ground}
-use Rattle.branch_tx.specs.Alone.{ground_of}
-use Rattle.branch_tx.specs.Found.{Found, Other, found, source_of}
-use Rattle.branch_tx.specs.Granted.{Granted, tx_in}
-use Rattle.branch_tx.specs.Needs.{lock_of, found_needs}
+use Rattle.version_log.specs.Found.{Found, found}
+use Rattle.branch_tx.specs.Found.{source_of}
+use Rattle.branch_tx.specs.Granted.{Granted}
+use Rattle.branch_tx.specs.Needs.{found_needs}
 use Rattle.branch_tx.specs.Frame.{Within, Whole, whole}
 use Rattle.branch_tx.specs.Laws.{IsRoomy}
 use Rattle.branch_tx.proofs.Entries.{Frame, frame_entry}
 use Rattle.branch_tx.proofs.ReadsStay.{found_stays, head_stays, ground_stays}
 use Rattle.branch_tx.proofs.AsksStay.{names_stay}
 use Rattle.db_core.specs.Ends.{ends, is_open, grown}
-use Rattle.db_core.specs.Order.{Said, Desk, World, fate_of, needs_of, with_desk, tagged, next_by, next_with, next}
+use Rattle.db_core.specs.Order.{Said, Desk, World, fate_of, needs_of, tagged, next_by, next_with, next}
 use Rattle.db_core.specs.Laws.{HasRoom}
 use Rattle.db_core.specs.Sits.{OwnedBy, HasHead, HeldFor, AllLent, HeadsFor, Keeps, IsOpenFor, Sits}
 use Rattle.db_core.proofs.Rows.{tagged_old, others_left, all_granted}
@@ -59,10 +60,10 @@ module _ (rows : List Row) (s : ℕ) (d t : Dataset) (f : Frame (OwnedBy rows s)
   keeps_framed g k = record { schema = k.schema ∙ sym f.schema; name = k.name ∙ sym (f.name b l); held = held_framed g g.held k.held; lent = lent_framed g.lent k.lent; heads = heads_framed g.heads k.heads }
 
 -- a state after an entry, if there is one
-keeps_grown : (st : State) (rows : List Row) (s b : ℕ) (o : Option Entry) (g : Granted) → FitsIf (dataset_of st) o → SparesIf (OwnedBy rows s) o → b < length (dataset_of st).branches → Keeps (dataset_of st) rows s b g → Keeps (dataset_of (grown st o)) rows s b g
-keeps_grown st rows s b None g fit free l k = k
-keeps_grown st rows s b (Some e) g fit free l k =
-    subst (λ (t : Dataset). Keeps t rows s b g) (sym (dataset_grows st e fit)) (keeps_framed rows s (dataset_of st) (apply (dataset_of st) e) (frame_entry (OwnedBy rows s) (dataset_of st) e free) b l g k)
+keeps_grown : (st : State) (rows : List Row) (s b : ℕ) (o : Option Entry) (g : Granted) → IsSound (dataset_of st) → IsOrdered (dataset_of st) → FitsIf (dataset_of st) o → SparesIf (OwnedBy rows s) o → b < length (dataset_of st).branches → Keeps (dataset_of st) rows s b g → Keeps (dataset_of (grown st o)) rows s b g
+keeps_grown st rows s b None g sound ordered fit free l k = k
+keeps_grown st rows s b (Some e) g sound ordered fit free l k =
+    subst (λ (t : Dataset). Keeps t rows s b g) (sym (dataset_grows st e fit)) (keeps_framed rows s (dataset_of st) (apply (dataset_of st) e) (frame_entry (OwnedBy rows s) (dataset_of st) e sound ordered fit free) b l g k)
 
 -- ---- a line of another session
 
@@ -73,7 +74,7 @@ keeps_by w s x false (Some p) z e h ok roomy m other b l g k = keeps_more (datas
 keeps_by w s x false None true e h ok roomy m other b l g k = keeps_more (dataset_of w.state) w.rows (without s w.rows) m b (others_left s m w.rows other) g k
 keeps_by w s x false None false true h ok roomy m other b l g k =
     keeps_more (dataset_of (grown w.state (last_entry w s x))) w.rows (without s w.rows) m b (others_left s m w.rows other) g
-    (keeps_grown w.state w.rows m b (last_entry w s x) g (last_fits w s x ok roomy) (last_spares w s x ok m other h) l k)
+    (keeps_grown w.state w.rows m b (last_entry w s x) g ok.sound ok.ordered (last_fits w s x ok roomy) (last_spares w s x ok m other h) l k)
 keeps_by w s x false None false false h ok roomy m other b l g k = keeps_more (dataset_of w.state) w.rows (tagged s (needs_of (dataset_of w.state) (w.desks s) x) w.rows) m b (λ n a. tagged_old s (needs_of (dataset_of w.state) (w.desks s) x) w.rows (row m n) a) g k
 
 desk_by : (w : World) (s : ℕ) (x : Stmt) (q : Bool) (o : Option (ℕ × ℕ)) (z e : Bool) (m : ℕ) → (m ≡ s → ⊥) → (next_by w s x (w.desks s) (fate_of q o z e)).desks m ≡ w.desks m

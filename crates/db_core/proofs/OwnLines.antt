@@ -1,12 +1,13 @@
 -- A statement that is a transaction of its own.
-use Rattle.std.proofs.Common.{◌≡◌, ℕ, ◌+◌, ◌<◌, ◌||◌, Bool, true, false, cond, List, [], ◌∷◌, length, replicate, get_or, ap, sym, ◌∙◌, refl, subst, arith, nat_lt, nat_cmp, Option, Some, None}
+use Rattle.std.proofs.Common.{◌≡◌, ℕ, ◌+◌, ◌<◌, ◌||◌, Bool, true, false, cond, List, [], ◌∷◌, length, ap, sym, ◌∙◌, refl, subst, arith, nat_lt, nat_cmp, Option, Some, None}
 use Rattle.std.specs.Prelude.{is_some}
 use Rattle.std.specs.FinMap.{get, empty, get-empty}
-use Rattle.std.proofs.lemmas.Bool.{false≢true, true≢false}
+use Rattle.std.proofs.lemmas.Bool.{false≢true, true≢false, or_right}
 use Rattle.std.proofs.lemmas.List.{get_or-replicate}
 use Rattle.db_value.specs.Value.{Value}
-use Rattle.db_value.specs.Relations.{is_counted}
 use Rattle.db_value.specs.Schema.{most_relations}
+use Rattle.db_value.specs.declared.condition.Prefer.{Prefer}
+use Rattle.db_value.specs.declared.entry.Change.{Change}
 use Rattle.db_value.specs.declared.entry.Entry.{Entry}
 use Rattle.db_value.specs.declared.entry.Entry.TheVariants.{Commit as CommitEntry}
 use Rattle.db_value.specs.declared.version.VersionName.{VersionName}
@@ -15,26 +16,30 @@ use Rattle.db_value.specs.declared.reply.Reply.{Reply}
 use Rattle.db_value.specs.declared.reply.Reply.TheVariants.{Done, Made}
 use Rattle.db_value.specs.declared.reply.Refusal.{Refusal}
 use Rattle.db_value.specs.declared.reply.Refusal.TheVariants.{BranchesFull}
-use Rattle.db_store.specs.Overlay.{Overlay, overlay_at, untouched, is_touched, count_touched, touch}
-use Rattle.db_store.specs.Dataset.{Dataset, no_branch, branch_named, head_of}
+use Rattle.db_store.specs.Overlay.{Overlay, untouched, is_touched, count_touched, touch}
+use Rattle.db_store.specs.Dataset.{Dataset, branch_named, head_of, head_place}
 use Rattle.db_store.specs.Sound.{IsSound}
 use Rattle.db_store.specs.Counted.{IsCounted}
 use Rattle.db_store.specs.Fits.{fits, most_branches}
-use Rattle.db_store.specs.State.{State, dataset_of, grow}
+use Rattle.db_store.specs.State.{State, dataset_of}
 use Rattle.db_store.proofs.OverlayLemmas.{count_touch, count_untouched}
 use Rattle.db_store.proofs.StateLemmas.{few_relations}
 use Rattle.stmt_text.specs.declared.stmt.Stmt.{Stmt}
-use Rattle.stmt_text.specs.declared.stmt.Stmt.TheVariants.{Begin, Commit, Abort, On, LogOf, Branch}
+use Rattle.stmt_text.specs.declared.stmt.Stmt.TheVariants.{Begin, Commit, Abort, On, LogOf, Graph, Branch, Merge}
 use Rattle.branch_tx.specs.Keeping.{over_table}
-use Rattle.branch_tx.specs.Found.{found, source_of, lack, branch_names}
-use Rattle.branch_tx.specs.Act.{Tx, Outcome, refused, answered, act}
-use Rattle.branch_tx.specs.Alone.{fresh, told, told_of, ground_of, made_next, has_changed, commit_reply, commit_entry, entry_made, entry_of, place_in, branch_as, on_of, step}
-use Rattle.branch_tx.specs.Granted.{tx_in}
+use Rattle.version_log.specs.Found.{found, lack, branch_names}
+use Rattle.branch_tx.specs.Found.{source_of}
+use Rattle.branch_tx.specs.Act.{Tx, Outcome, refused, answered}
+use Rattle.branch_tx.specs.Merging.{put_all, merged_to}
+use Rattle.branch_tx.specs.Frame.{is_changed}
+use Rattle.branch_tx.specs.Alone.{merge_named, fresh, told, told_of, ground_of, made_next, has_changed, commit_reply, entry_made, entry_of, place_in, branch_as, on_of}
 use Rattle.branch_tx.specs.Laws.{IsRoomy}
 use Rattle.branch_tx.proofs.Acts.{is_done, act_does, act_begun, begun, done_begun}
 use Rattle.branch_tx.proofs.Ends.{entry_is}
-use Rattle.db_core.specs.Ends.{is_abort, is_begin, is_end, grown, moved_to}
-use Rattle.db_core.specs.Sits.{IsAct, step_over, step_out, act_over, commit_over, entry_over, branched, branch_out, branch_entry, moved_out}
+use Rattle.branch_tx.proofs.Keeps.{merge_changes}
+use Rattle.db_core.specs.Ends.{is_abort, is_begin, grown, moved_to}
+use Rattle.db_core.specs.Sits.{IsWork, step_out, act_over, commit_over, entry_over, branch_out, branch_entry}
+use Rattle.db_core.proofs.Granting.{act_is}
 
 -- a transaction that has done nothing, and what a statement does in it
 abbrev none_yet : Tx (List Overlay)
@@ -44,29 +49,62 @@ abbrev own : Dataset → ℕ → Stmt → Outcome (List Overlay)
 own d b x = act_over d b none_yet x
 
 -- such a statement is an action
-own_step : (d : Dataset) (b : ℕ) (x : Stmt) → IsAct x → step_out d b x ≡ told_of d b false (own d b x)
+own_step : (d : Dataset) (b : ℕ) (x : Stmt) → IsWork x → step_out d b x ≡ told_of d b false (own d b x)
 own_step d b (Begin room) a = absurd a
 own_step d b Commit a = absurd a
 own_step d b Abort a = absurd a
 own_step d b (On name) a = absurd a
 own_step d b (LogOf name) a = absurd a
+own_step d b Graph a = absurd a
 own_step d b (Branch name origin) a = absurd a
 own_step d b _ a = refl
 
 -- in a transaction that was opened for it, it does the same
-own_begun : (d : Dataset) (b : ℕ) (x : Stmt) → act_over d b (begun none_yet) x ≡ done_begun (own d b x)
-own_begun d b x = act_begun (over_table (head_of d b)) (ground_of d b) (λ v. source_of b (found d v)) (branch_names d) none_yet x
+merged_begun : (d : Dataset) (b : ℕ) (from : VersionPlace) (cs : List Change) (o : Option Refusal) → merged_to (over_table (head_of d b)) (begun none_yet) from cs o ≡ done_begun (merged_to (over_table (head_of d b)) none_yet from cs o)
+merged_begun d b from cs (Some why) = refl
+merged_begun d b from cs None = refl
+
+cond_begun : (q : Bool) (o p o' p' : Outcome (List Overlay)) → o' ≡ done_begun o → p' ≡ done_begun p → cond q o' p' ≡ done_begun (cond q o p)
+cond_begun true o p o' p' e f = e
+cond_begun false o p o' p' e f = f
+
+named_begun : (d : Dataset) (b : ℕ) (name : List ℕ) (prefer : Prefer) (o : Option ℕ) → merge_named (over_table (head_of d b)) d b (begun none_yet) name prefer o ≡ done_begun (merge_named (over_table (head_of d b)) d b none_yet name prefer o)
+named_begun d b name prefer None = refl
+named_begun d b name prefer (Some c) = cond_begun (ground_of d b).full _ _ _ _ refl (merged_begun d b (head_place d c) (merge_changes d b prefer c) _)
+
+own_begun : (d : Dataset) (b : ℕ) (x : Stmt) → IsWork x → act_over d b (begun none_yet) x ≡ done_begun (own d b x)
+own_begun d b (Merge name prefer) a = cond_begun (is_changed none_yet) _ _ _ _ refl (named_begun d b name prefer (branch_named d name))
+own_begun d b x a =
+    act_is d b (begun none_yet) x a
+    ∙ act_begun (over_table (head_of d b)) (ground_of d b) (λ v. source_of b (found d v)) (branch_names d) none_yet x
+    ∙ ap done_begun (sym (act_is d b none_yet x a))
 
 -- what it may do to the transaction
-own_does : (d : Dataset) (b : ℕ) (x : Stmt) (P : Outcome (List Overlay) → Type 0) → ((why : Refusal) → P (refused none_yet why)) → ((reply : Reply) → is_done reply ≡ false → P (answered none_yet reply))
-    → ((r key : ℕ) (state : Option (List Value)) → r < length d.schema → P (answered (record none_yet { work = touch untouched r key state }) Done)) → P (own d b x)
-own_does d b x P refuses tells puts = act_does (over_table (head_of d b)) (length d.schema) none_yet P refuses tells puts (ground_of d b) (λ v. source_of b (found d v)) (branch_names d) x refl
+module _ (P : Outcome (List Overlay) → Type 0) (refuses : (why : Refusal) → P (refused none_yet why)) (merges : (work : List Overlay) (from : VersionPlace) → P (answered (record none_yet { work = work; second = Some from }) Done)) where
+  cond_does : (q : Bool) (o p : Outcome (List Overlay)) → P o → P p → P (cond q o p)
+  cond_does true o p h l = h
+  cond_does false o p h l = l
 
-own_made : (d : Dataset) (b : ℕ) (x : Stmt) → (own d b x).tx.made ≡ None
-own_made d b x = own_does d b x (λ o. o.tx.made ≡ None) (λ why. refl) (λ reply e. refl) (λ r key state h. refl)
+  merged_does : (d : Dataset) (b : ℕ) (from : VersionPlace) (cs : List Change) (o : Option Refusal) → P (merged_to (over_table (head_of d b)) none_yet from cs o)
+  merged_does d b from cs (Some why) = refuses why
+  merged_does d b from cs None = merges (put_all (over_table (head_of d b)) untouched cs) from
 
-own_moved : (d : Dataset) (b : ℕ) (x : Stmt) → (own d b x).tx.moved ≡ None
-own_moved d b x = own_does d b x (λ o. o.tx.moved ≡ None) (λ why. refl) (λ reply e. refl) (λ r key state h. refl)
+  named_does : (d : Dataset) (b : ℕ) (name : List ℕ) (prefer : Prefer) (o : Option ℕ) → P (merge_named (over_table (head_of d b)) d b none_yet name prefer o)
+  named_does d b name prefer None = refuses _
+  named_does d b name prefer (Some c) = cond_does (ground_of d b).full _ _ (refuses _) (merged_does d b (head_place d c) (merge_changes d b prefer c) _)
+
+own_does : (d : Dataset) (b : ℕ) (x : Stmt) (P : Outcome (List Overlay) → Type 0) → IsWork x → ((why : Refusal) → P (refused none_yet why)) → ((reply : Reply) → is_done reply ≡ false → P (answered none_yet reply))
+    → ((r key : ℕ) (state : Option (List Value)) → r < length d.schema → P (answered (record none_yet { work = touch untouched r key state }) Done))
+    → ((work : List Overlay) (from : VersionPlace) → P (answered (record none_yet { work = work; second = Some from }) Done)) → P (own d b x)
+own_does d b (Merge name prefer) P a refuses tells puts merges = cond_does P refuses merges (is_changed none_yet) _ _ (refuses _) (named_does P refuses merges d b name prefer (branch_named d name))
+own_does d b x P a refuses tells puts merges =
+    subst P (sym (act_is d b none_yet x a)) (act_does (over_table (head_of d b)) (length d.schema) none_yet P refuses tells puts (ground_of d b) (λ v. source_of b (found d v)) (branch_names d) x refl)
+
+own_made : (d : Dataset) (b : ℕ) (x : Stmt) → IsWork x → (own d b x).tx.made ≡ None
+own_made d b x a = own_does d b x (λ o. o.tx.made ≡ None) a (λ why. refl) (λ reply e. refl) (λ r key state h. refl) (λ work from. refl)
+
+own_moved : (d : Dataset) (b : ℕ) (x : Stmt) → IsWork x → (own d b x).tx.moved ≡ None
+own_moved d b x a = own_does d b x (λ o. o.tx.moved ≡ None) a (λ why. refl) (λ reply e. refl) (λ r key state h. refl) (λ work from. refl)
 
 -- one key is touched
 touched_first : (r key : ℕ) (state : Option (List Value)) → r < most_relations → count_touched (touch untouched r key state) ≡ 1
@@ -76,28 +114,29 @@ touched_first r key state h = count_touch untouched r key state h ∙ ap (λ q. 
     new = ap (λ (o : Overlay). is_some (get o key)) (get_or-replicate most_relations r empty empty h) ∙ ap is_some (get-empty nat_cmp key)
 
 -- where it is done, something is to be committed
-own_changed : (d : Dataset) (b : ℕ) (x : Stmt) → IsCounted d → is_done (own d b x).reply ≡ true → has_changed (over_table (head_of d b)) (own d b x).tx ≡ true
-own_changed d b x c = own_does d b x (λ o. is_done o.reply ≡ true → has_changed (over_table (head_of d b)) o.tx ≡ true)
+own_changed : (d : Dataset) (b : ℕ) (x : Stmt) → IsWork x → IsCounted d → is_done (own d b x).reply ≡ true → has_changed (over_table (head_of d b)) (own d b x).tx ≡ true
+own_changed d b x a c = own_does d b x (λ o. is_done o.reply ≡ true → has_changed (over_table (head_of d b)) o.tx ≡ true) a
     (λ why e. absurd (false≢true e)) (λ reply e f. absurd (false≢true (sym e ∙ f)))
     (λ r key state h e. ap (λ n. nat_lt 0 n || false) (touched_first r key state (let few = few_relations d.schema c.relations in omega (arith, h, few))))
+    (λ work from e. or_right (nat_lt 0 (count_touched work)) true refl)
 
 -- and else nothing was done
-own_kept : (d : Dataset) (b : ℕ) (x : Stmt) → is_done (own d b x).reply ≡ false → (own d b x).tx ≡ none_yet
-own_kept d b x = own_does d b x (λ o. is_done o.reply ≡ false → o.tx ≡ none_yet) (λ why e. refl) (λ reply e f. refl) (λ r key state h e. absurd (true≢false e))
+own_kept : (d : Dataset) (b : ℕ) (x : Stmt) → IsWork x → is_done (own d b x).reply ≡ false → (own d b x).tx ≡ none_yet
+own_kept d b x a = own_does d b x (λ o. is_done o.reply ≡ false → o.tx ≡ none_yet) a (λ why e. refl) (λ reply e f. refl) (λ r key state h e. absurd (true≢false e)) (λ work from e. absurd (true≢false e))
 
 -- a transaction without a new branch has its changes as its entry
 plain_entry : (d : Dataset) (b : ℕ) (tx : Tx (List Overlay)) (o : Option (List ℕ × VersionPlace)) → o ≡ None → entry_made (over_table (head_of d b)) b tx o ≡ commit_over d b tx
 plain_entry d b tx o e = ap (entry_made (over_table (head_of d b)) b tx) e
 
-not_abort : (x : Stmt) → IsAct x → is_abort x ≡ false
+not_abort : (x : Stmt) → IsWork x → is_abort x ≡ false
 not_abort Abort a = absurd a
 not_abort _ a = refl
 
-own_entry : (d : Dataset) (b : ℕ) (x : Stmt) → IsAct x → entry_over d b x (step_out d b x).tx ≡ commit_over d b (own d b x).tx
+own_entry : (d : Dataset) (b : ℕ) (x : Stmt) → IsWork x → entry_over d b x (step_out d b x).tx ≡ commit_over d b (own d b x).tx
 own_entry d b x a =
     ap (λ q. cond q None (entry_of (over_table (head_of d b)) b (step_out d b x).tx)) (not_abort x a)
     ∙ ap (λ (o : Outcome (List Overlay)). entry_of (over_table (head_of d b)) b o.tx) (own_step d b x a)
-    ∙ plain_entry d b (own d b x).tx (own d b x).tx.made (own_made d b x)
+    ∙ plain_entry d b (own d b x).tx (own d b x).tx.made (own_made d b x a)
 
 -- nothing is committed of a transaction in which nothing was done
 nothing : (d : Dataset) (b : ℕ) (tx : Tx (List Overlay)) → tx.work ≡ untouched → tx.second ≡ None → commit_over d b tx ≡ None
@@ -107,15 +146,15 @@ nothing d b tx w s =
     ∙ ap (λ o. cond (is_some o) (Some (CommitEntry b tx.second ((over_table (head_of d b)).changes tx.work))) None) s
 
 -- its entry fits
-act_roomy : (x : Stmt) → IsAct x → IsRoomy x
+act_roomy : (x : Stmt) → IsWork x → IsRoomy x
 act_roomy (Begin room) a = absurd a
 act_roomy _ a = tt
 
-pub own_fits : (d : Dataset) (b : ℕ) (x : Stmt) (tx : Tx (List Overlay)) (e : Entry) → IsSound d → IsCounted d → b < length d.branches → IsAct x → tx ≡ (act_over d b (begun none_yet) x).tx → commit_over d b tx ≡ Some e → fits d e ≡ true
+pub own_fits : (d : Dataset) (b : ℕ) (x : Stmt) (tx : Tx (List Overlay)) (e : Entry) → IsSound d → IsCounted d → b < length d.branches → IsWork x → tx ≡ (act_over d b (begun none_yet) x).tx → commit_over d b tx ≡ Some e → fits d e ≡ true
 own_fits d b x tx e s c h a is f =
     entry_is d b (x ∷ []) e s c h (act_roomy x a, tt)
-    (ap (λ (o : Outcome (List Overlay)). entry_of (over_table (head_of d b)) b o.tx) (own_step d b x a) ∙ plain_entry d b (own d b x).tx (own d b x).tx.made (own_made d b x)
-    ∙ ap (λ (o : Outcome (List Overlay)). commit_over d b o.tx) (sym (own_begun d b x)) ∙ ap (commit_over d b) (sym is) ∙ f)
+    (ap (λ (o : Outcome (List Overlay)). entry_of (over_table (head_of d b)) b o.tx) (own_step d b x a) ∙ plain_entry d b (own d b x).tx (own d b x).tx.made (own_made d b x a)
+    ∙ ap (λ (o : Outcome (List Overlay)). commit_over d b o.tx) (sym (own_begun d b x a)) ∙ ap (commit_over d b) (sym is) ∙ f)
 
 told_other : (d : Dataset) (b : ℕ) (r : Reply) → is_done r ≡ false → told d b false r ≡ r
 told_other d b Done e = absurd (true≢false e)
@@ -132,34 +171,34 @@ other_done : (r : Reply) → (r ≡ Done → ⊥) → is_done r ≡ false
 other_done Done n = absurd (n refl)
 other_done _ n = refl
 
-reply_same : (d : Dataset) (b : ℕ) (x : Stmt) → (act_over d b (begun none_yet) x).reply ≡ (own d b x).reply
-reply_same d b x = ap (λ (o : Outcome (List Overlay)). o.reply) (own_begun d b x)
+reply_same : (d : Dataset) (b : ℕ) (x : Stmt) → IsWork x → (act_over d b (begun none_yet) x).reply ≡ (own d b x).reply
+reply_same d b x a = ap (λ (o : Outcome (List Overlay)). o.reply) (own_begun d b x a)
 
 -- the reply to a change, which tells the version that it made
-pub own_told : (d : Dataset) (b : ℕ) (x : Stmt) (tx : Tx (List Overlay)) (r : Reply) → IsCounted d → IsAct x → tx ≡ (act_over d b (begun none_yet) x).tx → r ≡ (act_over d b (begun none_yet) x).reply → r ≡ Done
+pub own_told : (d : Dataset) (b : ℕ) (x : Stmt) (tx : Tx (List Overlay)) (r : Reply) → IsCounted d → IsWork x → tx ≡ (act_over d b (begun none_yet) x).tx → r ≡ (act_over d b (begun none_yet) x).reply → r ≡ Done
     → commit_reply (over_table (head_of d b)) d b tx ≡ (step_out d b x).reply
 own_told d b x tx r c a is re e =
-    let done : (own d b x).reply ≡ Done = sym (reply_same d b x) ∙ sym re ∙ e in
-    ap (commit_reply (over_table (head_of d b)) d b) (is ∙ ap (λ (o : Outcome (List Overlay)). o.tx) (own_begun d b x))
-    ∙ ap (λ q. cond q (made_next d b) Done) (own_changed d b x c (ap is_done done))
+    let done : (own d b x).reply ≡ Done = sym (reply_same d b x a) ∙ sym re ∙ e in
+    ap (commit_reply (over_table (head_of d b)) d b) (is ∙ ap (λ (o : Outcome (List Overlay)). o.tx) (own_begun d b x a))
+    ∙ ap (λ q. cond q (made_next d b) Done) (own_changed d b x a c (ap is_done done))
     ∙ sym (ap (told d b false) done) ∙ sym (ap (λ (o : Outcome (List Overlay)). o.reply) (own_step d b x a))
 
 -- what it leaves
-pub own_grown : (s : State) (b : ℕ) (x : Stmt) (tx : Tx (List Overlay)) → IsAct x → tx ≡ (act_over (dataset_of s) b (begun none_yet) x).tx → grown s (commit_over (dataset_of s) b tx) ≡ grown s (entry_over (dataset_of s) b x (step_out (dataset_of s) b x).tx)
+pub own_grown : (s : State) (b : ℕ) (x : Stmt) (tx : Tx (List Overlay)) → IsWork x → tx ≡ (act_over (dataset_of s) b (begun none_yet) x).tx → grown s (commit_over (dataset_of s) b tx) ≡ grown s (entry_over (dataset_of s) b x (step_out (dataset_of s) b x).tx)
 own_grown s b x tx a is =
     let d = dataset_of s in
-    ap (λ t. grown s (commit_over d b t)) (is ∙ ap (λ (o : Outcome (List Overlay)). o.tx) (own_begun d b x)) ∙ ap (grown s) (sym (own_entry d b x a))
+    ap (λ t. grown s (commit_over d b t)) (is ∙ ap (λ (o : Outcome (List Overlay)). o.tx) (own_begun d b x a)) ∙ ap (grown s) (sym (own_entry d b x a))
 
 -- any other reply, and what it leaves
-pub own_answered : (d : Dataset) (b : ℕ) (x : Stmt) (r : Reply) → IsAct x → r ≡ (act_over d b (begun none_yet) x).reply → (r ≡ Done → ⊥) → r ≡ (step_out d b x).reply
+pub own_answered : (d : Dataset) (b : ℕ) (x : Stmt) (r : Reply) → IsWork x → r ≡ (act_over d b (begun none_yet) x).reply → (r ≡ Done → ⊥) → r ≡ (step_out d b x).reply
 own_answered d b x r a re n =
-    let same = re ∙ reply_same d b x in
+    let same = re ∙ reply_same d b x a in
     same ∙ sym (told_other d b (own d b x).reply (ap is_done (sym same) ∙ other_done r n)) ∙ sym (ap (λ (o : Outcome (List Overlay)). o.reply) (own_step d b x a))
 
-pub own_stays : (s : State) (b : ℕ) (x : Stmt) (r : Reply) → IsAct x → r ≡ (act_over (dataset_of s) b (begun none_yet) x).reply → (r ≡ Done → ⊥) → s ≡ grown s (entry_over (dataset_of s) b x (step_out (dataset_of s) b x).tx)
+pub own_stays : (s : State) (b : ℕ) (x : Stmt) (r : Reply) → IsWork x → r ≡ (act_over (dataset_of s) b (begun none_yet) x).reply → (r ≡ Done → ⊥) → s ≡ grown s (entry_over (dataset_of s) b x (step_out (dataset_of s) b x).tx)
 own_stays s b x r a re n =
     let d = dataset_of s in
-    let kept = own_kept d b x (ap is_done (sym (re ∙ reply_same d b x)) ∙ other_done r n) in
+    let kept = own_kept d b x a (ap is_done (sym (re ∙ reply_same d b x a)) ∙ other_done r n) in
     sym (ap (grown s) (own_entry d b x a ∙ ap (commit_over d b) kept ∙ nothing d b none_yet refl refl))
 
 -- a line that changes nothing leaves the state
@@ -175,6 +214,9 @@ quiet_commit s b x e = quiet s b Commit none_yet refl refl refl ∙ ap (λ y. gr
 
 pub quiet_log : (s : State) (b : ℕ) (x : Stmt) (name : List ℕ) → x ≡ LogOf name → s ≡ grown s (entry_over (dataset_of s) b x (step_out (dataset_of s) b x).tx)
 quiet_log s b x name e = quiet s b (LogOf name) none_yet refl refl refl ∙ ap (λ y. grown s (entry_over (dataset_of s) b y (step_out (dataset_of s) b y).tx)) (sym e)
+
+pub quiet_graph : (s : State) (b : ℕ) (x : Stmt) → x ≡ Graph → s ≡ grown s (entry_over (dataset_of s) b x (step_out (dataset_of s) b x).tx)
+quiet_graph s b x e = quiet s b Graph none_yet refl refl refl ∙ ap (λ y. grown s (entry_over (dataset_of s) b y (step_out (dataset_of s) b y).tx)) (sym e)
 
 pub quiet_on : (s : State) (b : ℕ) (x : Stmt) (name : List ℕ) → x ≡ On name → s ≡ grown s (entry_over (dataset_of s) b x (step_out (dataset_of s) b x).tx)
 quiet_on s b x name e = by_name (branch_named (dataset_of s) name) refl ∙ ap (λ y. grown s (entry_over (dataset_of s) b y (step_out (dataset_of s) b y).tx)) (sym e)
@@ -215,18 +257,19 @@ pub branch_stays : (d : Dataset) (b : ℕ) (x : Stmt) (name : List ℕ) (origin 
 branch_stays d b x name origin e = ap (moved_to b) (sym (new_stays d b name (place_in (found d origin)) (lack (found d origin)) (branch_named d name) (length d.branches))) ∙ ap (λ y. moved_to b (step_out d b y).tx.moved) (sym e)
 
 -- a statement that acts stays on its branch
-pub own_stay : (d : Dataset) (b : ℕ) (x : Stmt) → IsAct x → b ≡ moved_to b (step_out d b x).tx.moved
-own_stay d b x a = ap (moved_to b) (sym (own_moved d b x)) ∙ ap (λ (o : Outcome (List Overlay)). moved_to b o.tx.moved) (sym (own_step d b x a))
+pub own_stay : (d : Dataset) (b : ℕ) (x : Stmt) → IsWork x → b ≡ moved_to b (step_out d b x).tx.moved
+own_stay d b x a = ap (moved_to b) (sym (own_moved d b x a)) ∙ ap (λ (o : Outcome (List Overlay)). moved_to b o.tx.moved) (sym (own_step d b x a))
 
 -- a statement that is none of these acts
-pub acts : (x : Stmt) → ((room : Option ℕ) → x ≡ Begin room → ⊥) → (x ≡ Commit → ⊥) → (x ≡ Abort → ⊥) → ((name : List ℕ) → x ≡ On name → ⊥) → ((name : List ℕ) → x ≡ LogOf name → ⊥) → ((name : List ℕ) (origin : VersionName) → x ≡ Branch name origin → ⊥) → IsAct x
-acts (Begin room) a b c d e f = absurd (a room refl)
-acts Commit a b c d e f = absurd (b refl)
-acts Abort a b c d e f = absurd (c refl)
-acts (On name) a b c d e f = absurd (d name refl)
-acts (LogOf name) a b c d e f = absurd (e name refl)
-acts (Branch name origin) a b c d e f = absurd (f name origin refl)
-acts _ a b c d e f = tt
+pub acts : (x : Stmt) → ((room : Option ℕ) → x ≡ Begin room → ⊥) → (x ≡ Commit → ⊥) → (x ≡ Abort → ⊥) → ((name : List ℕ) → x ≡ On name → ⊥) → ((name : List ℕ) → x ≡ LogOf name → ⊥) → ((name : List ℕ) (origin : VersionName) → x ≡ Branch name origin → ⊥) → (x ≡ Graph → ⊥) → IsWork x
+acts (Begin room) a b c d e f g = absurd (a room refl)
+acts Commit a b c d e f g = absurd (b refl)
+acts Abort a b c d e f g = absurd (c refl)
+acts (On name) a b c d e f g = absurd (d name refl)
+acts (LogOf name) a b c d e f g = absurd (e name refl)
+acts Graph a b c d e f g = absurd (g refl)
+acts (Branch name origin) a b c d e f g = absurd (f name origin refl)
+acts _ a b c d e f g = tt
 
 -- what begins no transaction is no `begin`
 pub no_begin : (x : Stmt) → is_begin x ≡ false → (room : Option ℕ) → x ≡ Begin room → ⊥

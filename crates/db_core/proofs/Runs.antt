@@ -3,27 +3,31 @@ use Rattle.std.proofs.Common.{◌≡◌, ℕ, ◌<◌, Bool, true, false, cond, 
 use Rattle.db_value.specs.declared.version.VersionPlace.{VersionPlace}
 use Rattle.db_value.specs.declared.entry.Entry.{Entry}
 use Rattle.db_value.specs.declared.entry.Entry.TheVariants.{Commit as CommitEntry}
-use Rattle.db_store.specs.Overlay.{Overlay, changes_from}
+use Rattle.db_store.specs.Overlay.{Overlay, untouched, changes_from}
 use Rattle.db_store.specs.Dataset.{Dataset, head_of}
 use Rattle.db_store.specs.Fits.{fits}
 use Rattle.db_store.specs.Sound.{IsSound}
 use Rattle.db_store.specs.Counted.{IsCounted}
+use Rattle.db_store.specs.Order.{IsOrdered}
 use Rattle.db_store.specs.State.{State, dataset_of}
 use Rattle.db_store.specs.Growth.{branches_stay}
 use Rattle.db_store.proofs.StateLemmas.{dataset_grows}
 use Rattle.db_store.proofs.SoundLemmas.{sound_stays}
 use Rattle.db_store.proofs.CountedLemmas.{counted_stays}
+use Rattle.db_store.proofs.OrderMade.{ordered_stays}
 use Rattle.stmt_text.specs.declared.stmt.Stmt.{Stmt}
 use Rattle.branch_tx.specs.Keeping.{Private, privately, over_table}
 use Rattle.branch_tx.specs.Act.{Tx}
-use Rattle.branch_tx.specs.Alone.{alone, reply_alone, entry_made, entry_of}
+use Rattle.branch_tx.specs.Alone.{has_changed, alone, reply_alone, entry_made, entry_of}
 use Rattle.branch_tx.specs.Needs.{catalogue, lock_of, exclusive, needs}
 use Rattle.branch_tx.specs.Laws.{as_private, AllRoomy}
-use Rattle.branch_tx.specs.Frame.{step_over, whole, AllWithin, Spares}
-use Rattle.branch_tx.proofs.Alike.{private_is}
+use Rattle.branch_tx.specs.Frame.{is_changed, step_over, whole, AllWithin, Spares}
+use Rattle.branch_tx.proofs.Alike.{private_is, head_table, few_relations}
+use Rattle.branch_tx.proofs.Fitting.{overlaid_fitting}
 use Rattle.branch_tx.proofs.Ends.{entry_is}
+use Rattle.branch_tx.proofs.Images.{changed_alike}
 use Rattle.branch_tx.proofs.Entries.{named_there}
-use Rattle.branch_tx.proofs.LineKeeps.{AnyHas, is_changed, changed_needed, made_needed, line_keeps}
+use Rattle.branch_tx.proofs.LineKeeps.{AnyHas, changed_needed, made_needed, line_keeps}
 use Rattle.branch_tx.proofs.FrameLemmas.{whole_overlaid, whole_kept}
 use Rattle.db_core.specs.Ends.{is_abort, grown, entry_at}
 
@@ -59,7 +63,7 @@ pub moved_there : (d : Dataset) (b : ℕ) (xs : List Stmt) → IsBelow (length d
 moved_there d b [] = tt
 moved_there d b (x ∷ xs) =
     let old = moved_there d b xs in
-    line_keeps (λ (tx : Tx (List Overlay)). IsBelow (length d.branches) tx.moved) d b (whole d b xs).tx old (λ room. old) (λ name i e. named_there d name i e) x (λ has work. old) (λ has name v is. old)
+    line_keeps (λ (tx : Tx (List Overlay)). IsBelow (length d.branches) tx.moved) d b (whole d b xs).tx old (λ room. old) (λ name i e. named_there d name i e) x (λ has work second. old) (λ has name v is. old)
 
 -- ---- the entry of a transaction spares the locks of others
 
@@ -85,8 +89,10 @@ module _ (d : Dataset) (b : ℕ) (sound : IsSound d) (counted : IsCounted d) (th
   moved_is xs = ap (λ (tx : Tx Private). tx.moved) (alone_is xs)
 
   -- a line has the same needs
-  pub needs_are : (xs : List Stmt) (x : Stmt) → needs d b (alone d b xs).begun x ≡ needs d b (whole d b xs).tx.begun x
-  needs_are xs x = ap (λ (tx : Tx Private). needs d b tx.begun x) (alone_is xs)
+  pub needs_are : (xs : List Stmt) (x : Stmt) → needs d b (alone d b xs).begun (has_changed privately (alone d b xs)) x ≡ needs d b (whole d b xs).tx.begun (is_changed (whole d b xs).tx) x
+  needs_are xs x =
+      ap (λ (tx : Tx Private). needs d b tx.begun (has_changed privately tx) x) (alone_is xs)
+      ∙ ap (λ (q : Bool). needs d b (whole d b xs).tx.begun q x) (changed_alike (head_of d b) (whole d b xs).tx)
 
   -- and the same reply
   pub reply_is : (xs : List Stmt) (x : Stmt) → reply_alone d b xs x ≡ (step_over d b (whole d b xs).tx x).reply
@@ -95,6 +101,12 @@ module _ (d : Dataset) (b : ℕ) (sound : IsSound d) (counted : IsCounted d) (th
   -- and the transaction the same entry
   pub end_is : (xs : List Stmt) (x : Stmt) → entry_at privately x b (alone d b xs) ≡ entry_at (over_table (head_of d b)) x b (whole d b xs).tx
   end_is xs x = ap (cond (is_abort x) None) ((private_is d b xs counted sound there).2 ∙ ap (entry_of (over_table (head_of d b)) b) (sym (whole_overlaid d b xs)))
+
+  -- as long as nothing is changed, nothing is touched
+  pub clean_is : (xs : List Stmt) → AllRoomy xs → is_changed (whole d b xs).tx ≡ false → (whole d b xs).tx.work ≡ untouched
+  clean_is xs roomy =
+      subst (λ (tx : Tx (List Overlay)). is_changed tx ≡ false → tx.work ≡ untouched) (sym (whole_overlaid d b xs))
+      (overlaid_fitting d b xs sound (λ c l. head_table d c counted sound l) there (few_relations d.schema counted.relations) roomy).clean
 
   -- which fits
   pub end_fits : (xs : List Stmt) (x : Stmt) → AllRoomy xs → FitsIf d (entry_at (over_table (head_of d b)) x b (whole d b xs).tx)
@@ -117,9 +129,13 @@ module _ (s : State) (sound : IsSound (dataset_of s)) where
   grown_counted None fit c = c
   grown_counted (Some e) fit c = subst IsCounted (sym (dataset_grows s e fit)) (counted_stays (dataset_of s) e c sound fit)
 
-  pub grown_whole : (N : ℕ → Type 0) (o : Option Entry) → FitsIf (dataset_of s) o → SparesIf N o → (b : ℕ) (xs : List Stmt) → b < length (dataset_of s).branches → AllWithin N (whole (dataset_of s) b xs).needs
+  pub grown_ordered : (o : Option Entry) → FitsIf (dataset_of s) o → IsOrdered (dataset_of s) → IsOrdered (dataset_of (grown s o))
+  grown_ordered None fit ordered = ordered
+  grown_ordered (Some e) fit ordered = subst IsOrdered (sym (dataset_grows s e fit)) (ordered_stays (dataset_of s) e sound ordered fit)
+
+  pub grown_whole : IsOrdered (dataset_of s) → (N : ℕ → Type 0) (o : Option Entry) → FitsIf (dataset_of s) o → SparesIf N o → (b : ℕ) (xs : List Stmt) → b < length (dataset_of s).branches → AllWithin N (whole (dataset_of s) b xs).needs
       → whole (dataset_of (grown s o)) b xs ≡ whole (dataset_of s) b xs
-  grown_whole N None fit free b xs l w = refl
-  grown_whole N (Some e) fit free b xs l w =
+  grown_whole ordered N None fit free b xs l w = refl
+  grown_whole ordered N (Some e) fit free b xs l w =
       ap (λ (d : Dataset). whole d b xs) (dataset_grows s e fit)
-      ∙ whole_kept N (dataset_of s) (e ∷ []) sound (fit, tt) (free, tt) b xs l w
+      ∙ whole_kept N (dataset_of s) (e ∷ []) sound ordered (fit, tt) (free, tt) b xs l w

@@ -1,30 +1,27 @@
 -- What a line leaves of what is kept of its session.
-use Rattle.std.proofs.Common.{◌≡◌, ⊎_elim, inl, ℕ, ◌<◌, Bool, true, false, not, is_some, List, [], ◌∷◌, ◌++◌, length, Option, Some, None, refl, sym, ap, ◌∙◌, subst}
-use Rattle.std.proofs.lemmas.Bool.{false≢true}
-use Rattle.db_value.specs.declared.reply.Reply.{Reply}
+use Rattle.std.proofs.Common.{◌≡◌, ℕ, nat_lt, ◌||◌, Bool, true, false, not, is_some, List, [], ◌∷◌, ◌++◌, Option, Some, None, refl, sym, ap, ◌∙◌, subst}
 use Rattle.db_value.specs.declared.reply.Reply.TheVariants.{Refused}
 use Rattle.db_value.specs.declared.reply.Refusal.TheVariants.{Held, Skipped}
-use Rattle.db_value.specs.declared.entry.Entry.{Entry}
 use Rattle.db_store.specs.Overlay.{Overlay}
+use Rattle.db_store.proofs.OverlayLemmas.{count_untouched}
 use Rattle.db_store.specs.Dataset.{Dataset}
 use Rattle.db_store.specs.State.{State, dataset_of}
 use Rattle.lock_table.specs.declared.need.Need.{Need}
 use Rattle.lock_table.specs.Rows.{Row, holder}
-use Rattle.lock_table.specs.Grants.{Has, row, without, added}
+use Rattle.lock_table.specs.Grants.{without, added}
 use Rattle.lock_table.specs.Laws.{Covers}
 use Rattle.lock_table.proofs.Least.{cover_law}
 use Rattle.stmt_text.specs.declared.stmt.Stmt.{Stmt}
-use Rattle.branch_tx.specs.Keeping.{over_table}
 use Rattle.branch_tx.specs.Act.{Tx, Outcome}
 use Rattle.branch_tx.specs.Alone.{alone}
 use Rattle.branch_tx.specs.Granted.{Granted, tx_in}
 use Rattle.branch_tx.specs.Needs.{needs}
-use Rattle.branch_tx.specs.Frame.{Whole, whole}
+use Rattle.branch_tx.specs.Frame.{is_changed, whole}
 use Rattle.branch_tx.specs.Laws.{IsRoomy}
 use Rattle.db_core.specs.Ends.{is_open, is_end, ends, grown, moved_to}
-use Rattle.db_core.specs.Order.{Said, Desk, World, idle, opening, Fate, Skips, IsHeld, Ends, Stays, fate, fate_of, fate_with, needs_of, with_desk, tagged, next_by, next, after, lock_name, replied}
+use Rattle.db_core.specs.Order.{Said, Desk, World, idle, opening, Fate, Skips, IsHeld, Ends, Stays, fate, fate_of, needs_of, with_desk, tagged, next_by, next, after, lock_name, replied}
 use Rattle.db_core.specs.Laws.{HasRoom, AllHaveRoom}
-use Rattle.db_core.specs.Sits.{Keeps, IsOpenFor, IsLed, Sits, Seated, tx_of, heard, said_now, step_over, entry_over}
+use Rattle.db_core.specs.Sits.{Keeps, IsOpenFor, IsLed, Sits, Seated, tx_of, done_in, heard, said_now, step_over, entry_over}
 use Rattle.db_core.proofs.Rows.{covers_added, covers_without}
 use Rattle.db_core.proofs.Runs.{moved_is, needs_are, end_is}
 use Rattle.db_core.proofs.Worlds.{Ok, ok_next, ok_opening}
@@ -37,7 +34,7 @@ ok_after w [] ok r = ok
 ok_after w (x ∷ xs) ok r = ok_after (next w x) xs (ok_next w x r.0 ok) r.1
 
 pub ok_led : (w : World) → IsLed w → Ok w
-ok_led w l = subst Ok l.led (ok_after (opening l.first) l.lines (ok_opening l.first l.sound l.counted) l.roomy)
+ok_led w l = subst Ok l.led (ok_after (opening l.first) l.lines (ok_opening l.first l.sound l.counted l.ordered) l.roomy)
 
 pub after_more : (w : World) (xs : List Said) (x : Said) → after w (xs ++ x ∷ []) ≡ next (after w xs) x
 after_more w [] x = refl
@@ -53,6 +50,7 @@ led_next w x l r = record {
   lines = l.lines ++ x ∷ [];
   sound = l.sound;
   counted = l.counted;
+  ordered = l.ordered;
   roomy = room_more l.lines x l.roomy r;
   led = after_more (opening l.first) l.lines x ∙ ap (λ (v : World). next v x) l.led;
 }
@@ -85,6 +83,10 @@ begun_as : (tx : Option Granted) → (tx_of tx).begun ≡ is_some tx
 begun_as None = refl
 begun_as (Some g) = refl
 
+changed_as : (tx : Option Granted) → is_changed (tx_of tx) ≡ done_in tx
+changed_as None = ap (λ n. nat_lt 0 n || false) count_untouched
+changed_as (Some g) = refl
+
 -- ---- the desk of a session in the world after its line
 
 sits_own : (state : State) (rows : List Row) (desks : ℕ → Desk) (n : ℕ) (k : Desk) (cur : ℕ) (sk : Bool) (tx : Option Granted) → k.current ≡ cur → k.skipping ≡ sk → IsOpenFor (dataset_of state) rows n cur k.lines tx
@@ -108,7 +110,7 @@ module _ (w : World) (table : List Row) (n : ℕ) (tx : Option Granted) (led : I
   out = step_over d k.current (tx_of tx) x
 
   abbrev ns : List Need
-  ns = needs d k.current (is_some tx) x
+  ns = needs d k.current (is_some tx) (done_in tx) x
 
   ok : Ok w
   ok = ok_led w led
@@ -119,8 +121,8 @@ module _ (w : World) (table : List Row) (n : ℕ) (tx : Option Granted) (led : I
   needs_now : needs_of d k x ≡ ns
   needs_now =
       needs_are d k.current ok.sound ok.counted (ok.good n).there k.lines x
-      ∙ ap (λ (t : Tx (List Overlay)). needs d k.current t.begun x) made
-      ∙ ap (λ (q : Bool). needs d k.current q x) (begun_as tx)
+      ∙ ap (λ (t : Tx (List Overlay)). needs d k.current t.begun (is_changed t) x) made
+      ∙ (λ i. needs d k.current (begun_as tx i) (changed_as tx i) x)
 
   out_now : step_over d k.current (whole d k.current k.lines).tx x ≡ out
   out_now = ap (λ (t : Tx (List Overlay)). step_over d k.current t x) made

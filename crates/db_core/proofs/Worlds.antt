@@ -5,6 +5,7 @@ use Rattle.db_value.specs.declared.entry.Entry.{Entry}
 use Rattle.db_store.specs.Dataset.{Dataset}
 use Rattle.db_store.specs.Sound.{IsSound}
 use Rattle.db_store.specs.Counted.{IsCounted}
+use Rattle.db_store.specs.Order.{IsOrdered}
 use Rattle.db_store.specs.State.{State, dataset_of}
 use Rattle.lock_table.specs.declared.need.Need.{Need}
 use Rattle.lock_table.specs.Rows.{Row, holder}
@@ -14,13 +15,13 @@ use Rattle.branch_tx.specs.Keeping.{privately}
 use Rattle.branch_tx.specs.Alone.{alone}
 use Rattle.branch_tx.specs.Needs.{needs, exclusive}
 use Rattle.branch_tx.specs.Laws.{IsRoomy, AllRoomy}
-use Rattle.branch_tx.specs.Frame.{Whole, whole, AllWithin}
+use Rattle.branch_tx.specs.Frame.{is_changed, Whole, whole, AllWithin}
 use Rattle.branch_tx.proofs.LineKeeps.{AnyHas}
 use Rattle.db_core.specs.Ends.{master, is_open, is_end, ends, grown, moved_to, entry_at}
 use Rattle.db_core.specs.Order.{Said, Desk, World, idle, opening, Skips, IsHeld, Fails, Ends, Stays, fate_of, needs_of, with_desk, tagged, next_by, next_with, next}
 use Rattle.db_core.specs.Laws.{HasRoom}
 use Rattle.db_core.proofs.Rows.{OwnedBy, Apart, tagged_old, tagged_new, apart_tagged, apart_without, others_left, all_granted}
-use Rattle.db_core.proofs.Runs.{FitsIf, SparesIf, IsBelow, moved_there, end_spares, moved_is, needs_are, end_is, end_fits, grown_wide, grown_sound, grown_counted, grown_whole}
+use Rattle.db_core.proofs.Runs.{FitsIf, SparesIf, IsBelow, moved_there, end_spares, moved_is, needs_are, end_is, end_fits, grown_wide, grown_sound, grown_counted, grown_ordered, grown_whole}
 
 -- the lines of a session's open transaction, run alone on the state as it is now, need what is granted
 pub record Good (s : State) (rows : List Row) (session : ℕ) (k : Desk) : Type 0 where
@@ -33,6 +34,7 @@ pub record Ok (w : World) : Type 0 where
   pub apart : Apart w.rows
   pub sound : IsSound (dataset_of w.state)
   pub counted : IsCounted (dataset_of w.state)
+  pub ordered : IsOrdered (dataset_of w.state)
 
 -- v comes after w, and spares what the session needs
 pub record Later (w v : World) (s : ℕ) : Type 0 where
@@ -80,7 +82,7 @@ module _ (w : World) (s : ℕ) (x : Stmt) (ok : Ok w) where
   -- once the line's needs are granted, all needs are
   pub granted_now : (n : Need) → AnyHas (last_needs w s x) n → Has (tagged s (needs_of d k x) w.rows) (row s n)
   granted_now n h = ⊎_elim
-      (λ (a : Has (needs d k.current (whole d k.current k.lines).tx.begun x) n). tagged_new s (needs_of d k x) w.rows n (subst (λ (ns : List Need). Has ns n) (sym (needs_are d k.current ok.sound ok.counted (ok.good s).there k.lines x)) a))
+      (λ (a : Has (needs d k.current (whole d k.current k.lines).tx.begun (is_changed (whole d k.current k.lines).tx) x) n). tagged_new s (needs_of d k x) w.rows n (subst (λ (ns : List Need). Has ns n) (sym (needs_are d k.current ok.sound ok.counted (ok.good s).there k.lines x)) a))
       (λ (a : AnyHas (whole d k.current k.lines).needs n). tagged_old s (needs_of d k x) w.rows (row s n) ((ok.good s).granted n a))
       h
 
@@ -108,7 +110,7 @@ others w s x false None true e h ok roomy t other = later_still w _ (without s w
 others w s x false None false true h ok roomy t other =
     let fit : FitsIf (dataset_of w.state) (last_entry w s x) = last_fits w s x ok roomy in
     record {
-      runs = λ b xs l a. grown_whole w.state ok.sound (OwnedBy w.rows t) (last_entry w s x) fit (last_spares w s x ok t other h) b xs l a;
+      runs = λ b xs l a. grown_whole w.state ok.sound ok.ordered (OwnedBy w.rows t) (last_entry w s x) fit (last_spares w s x ok t other h) b xs l a;
       rows = others_left s t w.rows other;
       wide = λ b l. grown_wide w.state ok.sound (last_entry w s x) b fit l;
     }
@@ -126,18 +128,21 @@ ok_by w s x true o z e h ok roomy = record {
   apart = ok.apart;
   sound = ok.sound;
   counted = ok.counted;
+  ordered = ok.ordered;
 }
 ok_by w s x false (Some p) z e h ok roomy = record {
   good = own_or_other w (next_by w s x (w.desks s) (IsHeld p)) s (idle (w.desks s).current (is_open (w.desks s).lines)) (others w s x false (Some p) z e h ok roomy) ok.good (good_idle w.state (without s w.rows) s (w.desks s).current (is_open (w.desks s).lines) (ok.good s).there);
   apart = apart_without s w.rows ok.apart;
   sound = ok.sound;
   counted = ok.counted;
+  ordered = ok.ordered;
 }
 ok_by w s x false None true e h ok roomy = record {
   good = own_or_other w (next_by w s x (w.desks s) Fails) s (idle (w.desks s).current false) (others w s x false None true e h ok roomy) ok.good (good_idle w.state (without s w.rows) s (w.desks s).current false (ok.good s).there);
   apart = apart_without s w.rows ok.apart;
   sound = ok.sound;
   counted = ok.counted;
+  ordered = ok.ordered;
 }
 ok_by w s x false None false true h ok roomy =
     let d : Dataset = dataset_of w.state in
@@ -151,6 +156,7 @@ ok_by w s x false None false true h ok roomy =
       apart = apart_without s w.rows ok.apart;
       sound = grown_sound w.state ok.sound (last_entry w s x) fit;
       counted = grown_counted w.state ok.sound (last_entry w s x) fit ok.counted;
+      ordered = grown_ordered w.state ok.sound (last_entry w s x) fit ok.ordered;
     }
 ok_by w s x false None false false h ok roomy = record {
   good = own_or_other w (next_by w s x (w.desks s) Stays) s (record { current = (w.desks s).current; skipping = false; lines = x ∷ (w.desks s).lines }) (others w s x false None false false h ok roomy) ok.good
@@ -158,6 +164,7 @@ ok_by w s x false None false false h ok roomy = record {
   apart = apart_tagged s (needs_of (dataset_of w.state) (w.desks s) x) w.rows h ok.apart;
   sound = ok.sound;
   counted = ok.counted;
+  ordered = ok.ordered;
 }
 
 ok_with : (w : World) (s : ℕ) (z : Bool) (o : Option Stmt) → HasRoom o → Ok w → Ok (next_with w s z o)
@@ -167,10 +174,11 @@ ok_with w s z (Some x) roomy ok = ok_by w s x (w.desks s).skipping (holder s (ne
 pub ok_next : (w : World) (y : Said) → HasRoom y.stmt → Ok w → Ok (next w y)
 ok_next w y roomy ok = ok_with w y.session y.failed y.stmt roomy ok
 
-pub ok_opening : (s : State) → IsSound (dataset_of s) → IsCounted (dataset_of s) → Ok (opening s)
-ok_opening s sound counted = record {
+pub ok_opening : (s : State) → IsSound (dataset_of s) → IsCounted (dataset_of s) → IsOrdered (dataset_of s) → Ok (opening s)
+ok_opening s sound counted ordered = record {
   good = λ t. good_idle s [] t master false sound.some;
   apart = λ r q hr hq other e x. hr;
   sound = sound;
   counted = counted;
+  ordered = ordered;
 }

@@ -13,7 +13,7 @@ use Rattle.branch_tx.specs.Keeping.{over_table}
 use Rattle.branch_tx.specs.Act.{Tx, Outcome}
 use Rattle.branch_tx.specs.Alone.{fresh}
 use Rattle.branch_tx.specs.Needs.{needs}
-use Rattle.branch_tx.specs.Frame.{step_over}
+use Rattle.branch_tx.specs.Frame.{is_changed, step_over}
 use Rattle.db_core.specs.Ends.{master, is_end, ends, grown, moved_to, entry_at}
 use Rattle.db_core.specs.Order.{Said, Fate, Skips, IsBad, IsHeld, Fails, Ends, Stays, fate_of, fate_bad, replied}
 
@@ -44,7 +44,7 @@ abbrev pub seat_outcome : State → Seat → Stmt → Outcome (List Overlay)
 seat_outcome s k x = step_over (dataset_of s) k.current k.tx x
 
 abbrev pub seat_needs : State → Seat → Stmt → List Need
-seat_needs s k x = needs (dataset_of s) k.current k.tx.begun x
+seat_needs s k x = needs (dataset_of s) k.current k.tx.begun (is_changed k.tx) x
 
 abbrev pub board_fate_with : Board → ℕ → Bool → Option Stmt → Fate
 board_fate_with b s failed None = fate_bad (b.seats s).skipping

@@ -1,20 +1,25 @@
 -- What is kept at the desk of a session, and when board and desk agree.
-use Rattle.std.specs.Prelude.{◌≡◌, ◌⊎◌, ℕ, Bool, true, false, List, [], ◌++◌, codes, Option, Some, None}
+use Rattle.std.specs.Prelude.{◌≡◌, ◌≢◌, ◌⊎◌, ℕ, Bool, true, false, ◌||◌, List, [], ◌∷◌, ◌++◌, codes, Option, Some, None}
 use Rattle.db_value.specs.declared.reply.Refusal.{Refusal}
+use Rattle.db_value.specs.declared.reply.Reply.{Reply}
 use Rattle.lock_table.specs.declared.need.Need.{Need}
 use Rattle.lock_table.specs.Rows.{Row}
 use Rattle.lock_table.specs.Grants.{added}
 use Rattle.stmt_text.specs.declared.stmt.Stmt.{Stmt}
 use Rattle.branch_tx.specs.Act.{refused}
 use Rattle.branch_tx.specs.Covers.{covers}
+use Rattle.branch_tx.specs.Early.{is_early}
 use Rattle.db_value.specs.declared.step.Step.{Step}
 use Rattle.db_value.specs.declared.schema.Relation.{Relation}
 use Rattle.db_store.specs.Dataset.{Dataset, branch_at}
-use Rattle.db_store.specs.State.{dataset_of}
+use Rattle.db_store.specs.Sound.{IsSound}
+use Rattle.db_store.specs.Counted.{IsCounted}
+use Rattle.db_store.specs.Order.{IsOrdered}
+use Rattle.db_store.specs.State.{State, dataset_of}
 use Rattle.branch_tx.specs.Granted.{Granted, tx_in}
 use Rattle.db_core.specs.Ends.{master}
-use Rattle.db_core.specs.Kept.{Kept, Stands, world_of}
-use Rattle.db_core.specs.Order.{lock_name}
+use Rattle.db_core.specs.Kept.{Kept, Stands, world_of, saids, new_kept}
+use Rattle.db_core.specs.Order.{Said, lock_name}
 use Rattle.db_core.specs.Sits.{Keeps, IsMore, IsAct, Sits, act_over}
 use Rattle.db_core.specs.declared.session.Grant.{Grant}
 use Rattle.db_core.specs.declared.session.Grant.TheVariants.{Granted as IsGranted, Held}
@@ -32,6 +37,24 @@ pub record AtDesk : Type 0 where
 -- a desk of a session that has no line yet
 abbrev pub new_desk : ℕ → List Relation → AtDesk
 new_desk session schema = record { session = session; current = master; name = codes "master"; skipping = false; open_tx = None; schema = schema; waiting = [] }
+
+-- a line of a session, read or bad
+abbrev pub said_by : ℕ → Option Stmt → Said
+said_by session x = record { session = session; stmt = x; failed = false }
+
+-- what the session of a desk answers by itself: what its open transaction covers, or, without one, what is refused early
+abbrev pub answers : List Relation → Option Granted → Stmt → Bool
+answers schema None x = is_early schema false false x
+answers schema (Some g) x = covers g x
+
+-- a line waits at the desk where it is bad, or skipped, or answered by the session
+abbrev pub waits : AtDesk → Option Stmt → Bool
+waits k None = true
+waits k (Some x) = k.skipping || answers k.schema k.open_tx x
+
+-- the step of a line that waits
+abbrev pub waiting_step : List ℕ → Reply → Step
+waiting_step text reply = record { line = text; failed = false; reply = reply }
 
 -- the board with the lines of a desk entered, and the desk then
 abbrev pub entered : Kept → AtDesk → Kept
@@ -84,3 +107,18 @@ pub record Agrees (b : Kept) (k : AtDesk) : Type 0 where
   pub sits : Sits (world_of (entered b k)) k.session k.current k.skipping k.open_tx
   pub name_is : k.name ≡ (branch_at (dataset_of b.now) k.current).name
   pub schema_is : k.schema ≡ (dataset_of b.now).schema
+
+-- ---- laws
+
+-- each of these lines is of another session
+abbrev pub AllOthers : ℕ → List Said → Type 0
+AllOthers session [] = Unit {0}
+AllOthers session (x ∷ xs) = (x.session ≢ session) × AllOthers session xs
+
+-- a new desk agrees with a new board whose first branch is called master
+abbrev pub NewDeskLaw : Type 0
+NewDeskLaw = (s : State) (count session : ℕ) → IsSound (dataset_of s) → IsCounted (dataset_of s) → IsOrdered (dataset_of s) → (branch_at (dataset_of s) master).name ≡ codes "master" → Agrees (new_kept s count) (new_desk session (dataset_of s).schema)
+
+-- a desk at which no line waits agrees with the board after lines of other sessions too
+abbrev pub OtherLinesLaw : Type 0
+OtherLinesLaw = (b c : Kept) (k : AtDesk) (lines : List Said) → Agrees b k → k.waiting ≡ [] → Stands c → c.opening ≡ b.opening → saids c.steps ≡ saids b.steps ++ lines → AllOthers k.session lines → Agrees c k

@@ -13,7 +13,7 @@ use Rattle.stmt_text.specs.declared.stmt.Line.{Line}
 use Rattle.stmt_text.specs.Line.{line_of}
 use Rattle.branch_tx.specs.Keeping.{Private, privately}
 use Rattle.branch_tx.specs.Act.{Tx}
-use Rattle.branch_tx.specs.Alone.{alone, reply_alone}
+use Rattle.branch_tx.specs.Alone.{has_changed, alone, reply_alone}
 use Rattle.branch_tx.specs.Needs.{needs}
 use Rattle.db_core.specs.Ends.{master, is_open, is_end, ends, grown, moved_to, entry_at}
 
@@ -77,7 +77,7 @@ fate_bad false = IsBad
 
 -- what a statement needs behind the lines of its transaction
 abbrev pub needs_of : Dataset → Desk → Stmt → List Need
-needs_of d k x = needs d k.current (alone d k.current k.lines).begun x
+needs_of d k x = needs d k.current (alone d k.current k.lines).begun (has_changed privately (alone d k.current k.lines)) x
 
 abbrev pub fate_with : World → ℕ → Bool → Option Stmt → Fate
 fate_with w s failed None = fate_bad (w.desks s).skipping

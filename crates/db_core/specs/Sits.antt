@@ -1,5 +1,5 @@
 -- What is kept of a session, against the lines so far.
-use Rattle.std.specs.Prelude.{◌≡◌, ◌<◌, ℕ, suc, is_some, take, Bool, true, false, List, [], ◌∷◌, ◌++◌, length, map, Option, Some, None}
+use Rattle.std.specs.Prelude.{◌≡◌, ℕ, suc, is_some, take, Bool, true, false, List, [], ◌∷◌, length, map, Option, Some, None}
 use Rattle.db_value.specs.declared.version.VersionName.{VersionName}
 use Rattle.db_value.specs.declared.version.VersionPlace.{VersionPlace}
 use Rattle.db_value.specs.declared.entry.Entry.{Entry}
@@ -12,21 +12,23 @@ use Rattle.db_store.specs.Overlay.{Overlay, untouched}
 use Rattle.db_store.specs.Dataset.{Dataset, branch_at, branch_named, head_of}
 use Rattle.db_store.specs.Sound.{IsSound}
 use Rattle.db_store.specs.Counted.{IsCounted}
+use Rattle.db_store.specs.Order.{IsOrdered}
 use Rattle.db_store.specs.State.{State, dataset_of}
 use Rattle.lock_table.specs.declared.need.Need.{Need}
 use Rattle.lock_table.specs.Rows.{Row}
 use Rattle.lock_table.specs.Grants.{Has, row}
 use Rattle.lock_table.specs.Laws.{Covers}
 use Rattle.stmt_text.specs.declared.stmt.Stmt.{Stmt}
-use Rattle.stmt_text.specs.declared.stmt.Stmt.TheVariants.{Begin, Commit, Abort, On, LogOf, Branch}
+use Rattle.stmt_text.specs.declared.stmt.Stmt.TheVariants.{Begin, Commit, Abort, On, LogOf, Graph, Branch, Merge}
 use Rattle.stmt_text.specs.declared.stmt.ScanOver.{ScanOver}
 use Rattle.stmt_text.specs.declared.stmt.ScanOver.TheVariants.{Current, Named, Heads}
 use Rattle.branch_tx.specs.Keeping.{over_table}
-use Rattle.branch_tx.specs.Found.{Source, Other, plain, lacking, first_lacking, found, source_of, branch_names}
+use Rattle.version_log.specs.Found.{plain, found, branch_names}
+use Rattle.branch_tx.specs.Found.{Other, lacking, first_lacking, source_of}
 use Rattle.branch_tx.specs.Act.{Tx, Outcome, act}
-use Rattle.branch_tx.specs.Alone.{ground_of, fresh, commit_entry, on_of, branch_as, branch_of}
-use Rattle.branch_tx.specs.Granted.{Granted, tx_in}
-use Rattle.branch_tx.specs.Needs.{catalogue, lock_of, shared, exclusive, found_needs}
+use Rattle.branch_tx.specs.Alone.{ground_of, fresh, commit_entry, merge_of, on_of, branch_as, branch_of}
+use Rattle.branch_tx.specs.Granted.{Granted, tx_in, has_done}
+use Rattle.branch_tx.specs.Needs.{catalogue, lock_of, exclusive, found_needs}
 pub use Rattle.branch_tx.specs.Frame.{step_over}
 use Rattle.branch_tx.specs.Frame.{whole, Within}
 use Rattle.db_core.specs.Ends.{entry_at}
@@ -47,10 +49,14 @@ pub record HasHead (d : Dataset) (rows : List Row) (s b : ℕ) (g : Granted) (fu
   pub full_is : full ≡ (ground_of d b).full
   pub owned : OwnedBy rows s (lock_of b)
 
--- how a branch is held: as long as it isn't held exclusively, nothing is touched
+-- nothing is touched, and nothing merged
+abbrev pub IsClean : Granted → Type 0
+IsClean g = (g.overlays ≡ untouched) × (g.second ≡ None)
+
+-- how a branch is held: as long as it isn't held exclusively, nothing is touched or merged
 abbrev pub HeldFor : Dataset → List Row → ℕ → ℕ → Granted → Option (Bool × Bool) → Type 0
-HeldFor d rows s b g None = g.overlays ≡ untouched
-HeldFor d rows s b g (Some (false, full)) = (g.overlays ≡ untouched) × HasHead d rows s b g full
+HeldFor d rows s b g None = IsClean g
+HeldFor d rows s b g (Some (false, full)) = IsClean g × HasHead d rows s b g full
 HeldFor d rows s b g (Some (true, full)) = Has rows (row s (exclusive (lock_of b))) × HasHead d rows s b g full
 
 -- each version that was lent is what its name stands for, and the session has the needs of the name
@@ -79,6 +85,7 @@ pub record IsMore (g h : Granted) : Type 0 where
   pub head : is_some g.held ≡ true → h.head ≡ g.head
   pub overlays : h.overlays ≡ g.overlays
   pub room : h.room ≡ g.room
+  pub second : h.second ≡ g.second
   pub lent : take (length g.lent) h.lent ≡ g.lent
   pub heads : is_some g.heads ≡ true → h.heads ≡ g.heads
 
@@ -93,6 +100,11 @@ IsOpenFor d rows s b (x ∷ xs) (Some g) = Keeps d rows s b g × ((whole d b (x 
 abbrev pub tx_of : Option Granted → Tx (List Overlay)
 tx_of None = fresh untouched
 tx_of (Some g) = tx_in g
+
+-- whether an open transaction has changed something
+abbrev pub done_in : Option Granted → Bool
+done_in None = false
+done_in (Some g) = has_done g
 
 -- a line of a session, and the reply that the whole transaction of its session so far gives
 abbrev pub heard : ℕ → Stmt → Said
@@ -116,6 +128,7 @@ pub record IsLed (w : World) : Type 0 where
   pub lines : List Said
   pub sound : IsSound (dataset_of first)
   pub counted : IsCounted (dataset_of first)
+  pub ordered : IsOrdered (dataset_of first)
   pub roomy : AllHaveRoom lines
   pub led : after (opening first) lines ≡ w
 
@@ -148,8 +161,9 @@ AllFresh n (a ∷ more) = (a ≡ (n, (0, (false, None)))) × AllFresh (suc n) mo
 
 -- ---- what statements do over the head
 
--- a statement that reads or changes records
+-- a statement that reads or changes records, or merges
 abbrev pub act_over : Dataset → ℕ → Tx (List Overlay) → Stmt → Outcome (List Overlay)
+act_over d b tx (Merge name prefer) = merge_of (over_table (head_of d b)) d b tx name prefer
 act_over d b tx x = act (over_table (head_of d b)) (ground_of d b) (λ v. source_of b (found d v)) (branch_names d) tx x
 
 -- the entry of changes over the head as a commit, and of the transaction whose last line is x
@@ -202,8 +216,15 @@ IsAct Commit = ⊥
 IsAct Abort = ⊥
 IsAct (On name) = ⊥
 IsAct (LogOf name) = ⊥
+IsAct Graph = ⊥
 IsAct (Branch name origin) = ⊥
+IsAct (Merge name prefer) = ⊥
 IsAct _ = Unit {0}
+
+-- or it merges
+abbrev pub IsWork : Stmt → Type 0
+IsWork (Merge name prefer) = Unit {0}
+IsWork x = IsAct x
 
 -- a new branch of a made place, and of a version that is named
 abbrev pub branched : Dataset → List ℕ → VersionPlace → Outcome (List Overlay)

@@ -8,12 +8,12 @@ ghost use Rattle.reply_text.specs.Reply.{NamesItsRows};
 ghost use Rattle.db_core.specs.Order.{Said, said_of, next, reply_in};
 ghost use Rattle.db_core.specs.Laws.{AllHaveRoom};
 ghost use Rattle.db_core.specs.Kept.{Kept, Stands, world_of, saids, new_kept};
-ghost use Rattle.db_core.specs.Sits.{Sits, heard, unheard, bad_why};
+ghost use Rattle.db_core.specs.Sits.{Sits, heard, unheard};
 
 use crate::desk::Desk;
 use crate::outside::{branch_of, end};
 use crate::session::{Grant, Session, answer, ask, close};
-use crate::twice::refusal;
+use crate::twice::{refusal, why_bad};
 use db_store::Store;
 use db_value::{LineText, Name, Refusal, Reply, Schema, Step, VersionName};
 use entry_codec::Log;
@@ -61,17 +61,6 @@ fn parts_of<St: Store>(alloc: Global, store: &St) -> Result<(St, Locks), AllocEr
     let opening = store.duplicate()?;
     let locks = Locks::new(alloc)?;
     Ok((opening, locks))
-}
-
-// Why a bad line is refused: it is skipped, or bad.
-fn why_bad(skipping: bool) -> Refusal
-    ensures { result ≡ bad_why skipping }
-{
-    if skipping {
-        Refusal::Skipped
-    } else {
-        Refusal::Line
-    }
 }
 
 impl<St: Store, J: Log<St>> Board<St, J> {
@@ -189,12 +178,12 @@ impl<St: Store, J: Log<St>> Board<St, J> {
 }
 
 impl<St: Store, J: Log<St>> Board<St, J> {
-    ghost use Rattle.std.specs.Prelude.{◌⊎◌, is_some, Some, true};
+    ghost use Rattle.std.specs.Prelude.{◌≢◌, ◌⊎◌, is_some, Some, true};
     ghost use Rattle.lock_table.specs.Rows.{Row, holder};
     ghost use Rattle.branch_tx.specs.Needs.{needs};
     ghost use Rattle.db_core.specs.Desk.{Agrees, entered, cleared, grant_of, rows_by, IsMoreIf, IsReadyIf, KeepsIf};
     ghost use Rattle.db_core.specs.Ends.{grown};
-    ghost use Rattle.db_core.specs.Sits.{AllGranted, step_over, tx_of, entry_over, branch_out, branch_entry};
+    ghost use Rattle.db_core.specs.Sits.{AllGranted, done_in, step_over, tx_of, entry_over, branch_out, branch_entry};
     ghost use Rattle.lock_table.specs.Grants.{without};
 
     /// Moves the desk's lines into the list. Want of memory leaves both as before.
@@ -287,16 +276,17 @@ impl<St: Store, J: Log<St>> Board<St, J> {
     }
 
     /// Asks for the needs of a statement, which the desk's session gets all or none of. Where they are
-    /// granted, the open transaction gets what the statement reads or changes. Want of memory leaves
-    /// board and desk as before.
+    /// granted, the open transaction gets what the statement reads or changes; where one is held, the
+    /// desk stays. Want of memory leaves the board as before, and the desk in agreement with it.
     pub fn grant(&mut self, desk: &mut Desk<St>, stmt: &Stmt) -> Result<Grant, AllocError>
         requires agree { Agrees self.old desk.old }
-        ensures answer { IfOk result (λ r. r ≡ grant_of (dataset_of self.old.now) (holder desk.old.session (needs (dataset_of self.old.now) desk.old.current (is_some desk.old.open_tx) stmt.now) self.old.rows)) }
-        ensures rows { OnOk result (self.new ≡ record self.old { rows = rows_by (holder desk.old.session (needs (dataset_of self.old.now) desk.old.current (is_some desk.old.open_tx) stmt.now) self.old.rows) desk.old.session (needs (dataset_of self.old.now) desk.old.current (is_some desk.old.open_tx) stmt.now) self.old.rows }) }
+        ensures answer { IfOk result (λ r. r ≡ grant_of (dataset_of self.old.now) (holder desk.old.session (needs (dataset_of self.old.now) desk.old.current (is_some desk.old.open_tx) (done_in desk.old.open_tx) stmt.now) self.old.rows)) }
+        ensures rows { OnOk result (self.new ≡ record self.old { rows = rows_by (holder desk.old.session (needs (dataset_of self.old.now) desk.old.current (is_some desk.old.open_tx) (done_in desk.old.open_tx) stmt.now) self.old.rows) desk.old.session (needs (dataset_of self.old.now) desk.old.current (is_some desk.old.open_tx) (done_in desk.old.open_tx) stmt.now) self.old.rows }) }
         ensures desk { desk.new ≡ record desk.old { open_tx = desk.new.open_tx } }
+        ensures held { IfOk result (λ r. r ≢ Grant.Granted → desk.new ≡ desk.old) }
         ensures more { OnOk result (IsMoreIf desk.old.open_tx desk.new.open_tx) }
         ensures ready { IfOk result (λ r. r ≡ Grant.Granted → IsReadyIf (dataset_of self.old.now) desk.old.current stmt.now desk.new.open_tx) }
-        ensures keeps { OnOk result ((rows : List Row) → KeepsIf (dataset_of self.old.now) rows desk.old.session desk.old.current desk.old.open_tx → AllGranted rows desk.old.session (needs (dataset_of self.old.now) desk.old.current (is_some desk.old.open_tx) stmt.now) → KeepsIf (dataset_of self.old.now) rows desk.old.session desk.old.current desk.new.open_tx) }
+        ensures keeps { OnOk result ((rows : List Row) → KeepsIf (dataset_of self.old.now) rows desk.old.session desk.old.current desk.old.open_tx → AllGranted rows desk.old.session (needs (dataset_of self.old.now) desk.old.current (is_some desk.old.open_tx) (done_in desk.old.open_tx) stmt.now) → KeepsIf (dataset_of self.old.now) rows desk.old.session desk.old.current desk.new.open_tx) }
         ensures err { OnErr result (self.new ≡ self.old) }
         ensures kept { OnErr result (Agrees self.new desk.new) }
     {

@@ -2,7 +2,7 @@
 ghost use Rattle.std.specs.Prelude.{◌≡◌, ◌<◌, ℕ, List, [], ◌∷◌, Some, None, true, false, length, is_some, IfOk, IfSome, OnOk, OnErr};
 ghost use Rattle.std.specs.List.{list_all};
 ghost use Rattle.db_value.specs.Long.{IsLong};
-ghost use Rattle.db_store.specs.Dataset.{head_of};
+ghost use Rattle.db_store.specs.Dataset.{head_of, head_place, IsMade};
 ghost use Rattle.db_store.specs.Parts.{IsViewable};
 ghost use Rattle.db_store.specs.State.{dataset_of};
 ghost use Rattle.lock_table.specs.Rows.{Row};
@@ -10,23 +10,38 @@ ghost use Rattle.lock_table.specs.Grants.{Has, row};
 ghost use Rattle.db_store.specs.Overlay.{untouched};
 ghost use Rattle.db_core.specs.Ends.{is_end};
 ghost use Rattle.db_core.specs.Desk.{IsReady};
-ghost use Rattle.branch_tx.specs.Found.{Lacking, found, source_of, branch_names};
-ghost use Rattle.branch_tx.specs.Alone.{ground_of};
-ghost use Rattle.branch_tx.specs.Granted.{tx_in, is_current};
+ghost use Rattle.version_log.specs.Found.{found, branch_names};
+ghost use Rattle.branch_tx.specs.Found.{Lacking, source_of};
+ghost use Rattle.branch_tx.specs.Keeping.{over_table};
+ghost use Rattle.branch_tx.specs.Alone.{ground_of, merge_named};
+ghost use Rattle.branch_tx.specs.Granted.{tx_in, has_done, is_current};
 ghost use Rattle.branch_tx.specs.Act.{refused};
 ghost use Rattle.branch_tx.specs.Covers.{covers, holds_alone, has_version, has_at, has_heads, has_over};
-ghost use Rattle.branch_tx.specs.Needs.{lock_of, found_needs, source_needs, names_needs, scan_needs, needs};
-ghost use Rattle.db_core.specs.Sits.{AllGranted, Keeps, IsMore, IsAct, begun_tx, held_by, lacking_at, lacking_of, lacking_over, act_over, step_in};
+ghost use Rattle.branch_tx.specs.Needs.{lock_of, exclusive, found_needs, source_needs, names_needs, scan_needs, needs};
+ghost use Rattle.db_core.specs.Sits.{AllGranted, Keeps, IsMore, IsAct, IsWork, begun_tx, held_by, lacking_at, lacking_of, lacking_over, act_over, step_in};
 
-use crate::twice::{Twice, copied, refused};
-use branch_tx::{Tx, find_version, log_branch, plain_names};
+use crate::twice::{Twice, copied, refusal, refused};
+use branch_tx::{Tx, plain_names};
 use db_store::{Store, Work};
-use db_value::{ListOf, Names, Refusal, Reply, VersionName, VersionPlace};
+use db_value::{ListOf, Name, Names, Prefer, Refusal, Reply, VersionName, VersionPlace};
 use std::alloc::{AllocError, Global};
 use stmt_text::{ScanOver, Stmt};
+use version_log::{find_version, graph, log_branch};
 
 /// The most versions of a branch.
 const MOST_VERSIONS: u32 = 65_536;
+
+// The last version of a branch.
+fn head_place<St: Store>(store: &St, branch: u32) -> VersionPlace
+    requires { branch < length (dataset_of (St.state store.now)).branches }
+    ensures place { result ≡ head_place (dataset_of (St.state store.now)) branch }
+    ensures made { IsMade (dataset_of (St.state store.now)) result }
+{
+    VersionPlace {
+        branch,
+        position: store.last(branch),
+    }
+}
 
 // The table of the head of a branch.
 fn head_view<St: Store>(store: &St, branch: u32) -> Result<St::View, AllocError>
@@ -35,8 +50,7 @@ fn head_view<St: Store>(store: &St, branch: u32) -> Result<St::View, AllocError>
     ensures wide { IfOk result (λ v. length (St.View.table v) ≡ length (dataset_of (St.state store.now)).schema) }
     ensures viewable { IfOk result (λ v. IsViewable (St.View.table v) (St.View.parts_of v)) }
 {
-    let position = store.last(branch);
-    store.view(VersionPlace { branch, position })
+    store.view(head_place(store, branch))
 }
 
 // Has a branch as many versions as it can have?
@@ -295,9 +309,9 @@ pub fn grant<St: Store>(
 ) -> Result<Option<Refusal>, AllocError>
     requires branch { branch < length (dataset_of (St.state store.now)).branches }
     requires acts { IsAct stmt.now }
-    requires keeps { (rows : List Row) × (s : ℕ) × Keeps (dataset_of (St.state store.now)) rows s branch tx.old × AllGranted rows s (needs (dataset_of (St.state store.now)) branch true stmt.now) }
+    requires keeps { (rows : List Row) × (s : ℕ) × Keeps (dataset_of (St.state store.now)) rows s branch tx.old × AllGranted rows s (needs (dataset_of (St.state store.now)) branch true (has_done tx.old) stmt.now) }
     requires uncovered { covers tx.old stmt.now ≡ false }
-    ensures keeps { OnOk result ((rows : List Row) (s : ℕ) → Keeps (dataset_of (St.state store.now)) rows s branch tx.old → AllGranted rows s (needs (dataset_of (St.state store.now)) branch true stmt.now) → Keeps (dataset_of (St.state store.now)) rows s branch tx.new) }
+    ensures keeps { OnOk result ((rows : List Row) (s : ℕ) → Keeps (dataset_of (St.state store.now)) rows s branch tx.old → AllGranted rows s (needs (dataset_of (St.state store.now)) branch true (has_done tx.old) stmt.now) → Keeps (dataset_of (St.state store.now)) rows s branch tx.new) }
     ensures covered { IfOk result (λ o. o ≡ None → covers tx.new stmt.now ≡ true) }
     ensures lacks { IfOk result (λ o. IfSome o (λ why. act_over (dataset_of (St.state store.now)) branch (tx_in tx.old) stmt.now ≡ refused (tx_in tx.old) why)) }
     ensures more { IsMore tx.old tx.new }
@@ -335,6 +349,64 @@ pub fn grant<St: Store>(
     }
 }
 
+// Merges the head of another branch, in a transaction that has changed nothing.
+fn merge_head<St: Store>(
+    store: &St,
+    tx: &mut Tx<St>,
+    branch: u32,
+    other: u32,
+    prefer: Prefer,
+) -> Result<Reply, AllocError>
+    requires branch { branch < length (dataset_of (St.state store.now)).branches }
+    requires clean { has_done tx.old ≡ false → tx.old.overlays ≡ untouched }
+    requires other { other < length (dataset_of (St.state store.now)).branches }
+    requires keeps { (rows : List Row) × (s : ℕ) × Keeps (dataset_of (St.state store.now)) rows s branch tx.old × Has rows (row s (exclusive (lock_of branch))) }
+    requires first { has_done tx.old ≡ false }
+    ensures reply { IfOk result (λ r. r ≡ (merge_named (over_table (head_of (dataset_of (St.state store.now)) branch)) (dataset_of (St.state store.now)) branch (tx_in tx.old) [] prefer (Some other)).reply) }
+    ensures tx { OnOk result (tx_in tx.new ≡ (merge_named (over_table (head_of (dataset_of (St.state store.now)) branch)) (dataset_of (St.state store.now)) branch (tx_in tx.old) [] prefer (Some other)).tx) }
+    ensures keeps { OnOk result ((rows : List Row) (s : ℕ) → Keeps (dataset_of (St.state store.now)) rows s branch tx.old → Has rows (row s (exclusive (lock_of branch))) → Keeps (dataset_of (St.state store.now)) rows s branch tx.new) }
+    ensures short { IfOk result (λ r. IsLong r → ⊥) }
+    ensures err { OnErr result (IsMore tx.old tx.new) }
+{
+    grant_head(store, tx, branch, true)?;
+    let from = head_place(store, other);
+    let at = store.common(head_place(store, branch), from)?;
+    let base = store.view(at)?;
+    let right = store.view(from)?;
+    let reply = tx.merge(from, &base, &right, prefer)?;
+    Ok(reply)
+}
+
+// Merges the branch with a name. Where it finds no memory, the transaction was granted more and
+// changed nothing.
+fn merge<St: Store>(
+    store: &St,
+    tx: &mut Tx<St>,
+    branch: u32,
+    name: &Name,
+    prefer: Prefer,
+) -> Result<Reply, AllocError>
+    requires branch { branch < length (dataset_of (St.state store.now)).branches }
+    requires clean { has_done tx.old ≡ false → tx.old.overlays ≡ untouched }
+    requires keeps { (rows : List Row) × (s : ℕ) × Keeps (dataset_of (St.state store.now)) rows s branch tx.old × AllGranted rows s (needs (dataset_of (St.state store.now)) branch true (has_done tx.old) (Stmt.Merge name.now prefer)) }
+    ensures reply { IfOk result (λ r. r ≡ (act_over (dataset_of (St.state store.now)) branch (tx_in tx.old) (Stmt.Merge name.now prefer)).reply) }
+    ensures tx { OnOk result (tx_in tx.new ≡ (act_over (dataset_of (St.state store.now)) branch (tx_in tx.old) (Stmt.Merge name.now prefer)).tx) }
+    ensures keeps { OnOk result ((rows : List Row) (s : ℕ) → Keeps (dataset_of (St.state store.now)) rows s branch tx.old → AllGranted rows s (needs (dataset_of (St.state store.now)) branch true (has_done tx.old) (Stmt.Merge name.now prefer)) → Keeps (dataset_of (St.state store.now)) rows s branch tx.new) }
+    ensures short { IfOk result (λ r. IsLong r → ⊥) }
+    ensures err { OnErr result (IsMore tx.old tx.new) }
+{
+    if tx.has_done() {
+        return Ok(refusal(&Refusal::NotFirst));
+    }
+    match store.branch(name) {
+        None => Ok(refusal(&Refusal::NoBranch { branch: *name })),
+        Some(other) => {
+            let reply = merge_head(store, tx, branch, other, prefer)?;
+            Ok(reply)
+        }
+    }
+}
+
 // Answers a statement that reads or changes records. Where it finds no memory, the transaction was
 // granted more and changed nothing.
 fn act<St: Store>(
@@ -345,10 +417,10 @@ fn act<St: Store>(
 ) -> Result<Reply, AllocError>
     requires branch { branch < length (dataset_of (St.state store.now)).branches }
     requires acts { IsAct stmt.now }
-    requires keeps { (rows : List Row) × (s : ℕ) × Keeps (dataset_of (St.state store.now)) rows s branch tx.old × AllGranted rows s (needs (dataset_of (St.state store.now)) branch true stmt.now) }
+    requires keeps { (rows : List Row) × (s : ℕ) × Keeps (dataset_of (St.state store.now)) rows s branch tx.old × AllGranted rows s (needs (dataset_of (St.state store.now)) branch true (has_done tx.old) stmt.now) }
     ensures reply { IfOk result (λ r. r ≡ (act_over (dataset_of (St.state store.now)) branch (tx_in tx.old) stmt.now).reply) }
     ensures tx { OnOk result (tx_in tx.new ≡ (act_over (dataset_of (St.state store.now)) branch (tx_in tx.old) stmt.now).tx) }
-    ensures keeps { OnOk result ((rows : List Row) (s : ℕ) → Keeps (dataset_of (St.state store.now)) rows s branch tx.old → AllGranted rows s (needs (dataset_of (St.state store.now)) branch true stmt.now) → Keeps (dataset_of (St.state store.now)) rows s branch tx.new) }
+    ensures keeps { OnOk result ((rows : List Row) (s : ℕ) → Keeps (dataset_of (St.state store.now)) rows s branch tx.old → AllGranted rows s (needs (dataset_of (St.state store.now)) branch true (has_done tx.old) stmt.now) → Keeps (dataset_of (St.state store.now)) rows s branch tx.new) }
     ensures long { IfOk result (λ r. IsLong r → IsMore tx.old tx.new) }
     ensures err { OnErr result (IsMore tx.old tx.new) }
 {
@@ -365,45 +437,80 @@ fn act<St: Store>(
     }
 }
 
-/// Answers a statement that reads or changes records, with a copy of the reply.
-pub fn act_twice<St: Store>(
+// Answers a statement that reads or changes records, or merges.
+fn work<St: Store>(
+    store: &St,
+    tx: &mut Tx<St>,
+    branch: u32,
+    stmt: &Stmt,
+) -> Result<Reply, AllocError>
+    requires branch { branch < length (dataset_of (St.state store.now)).branches }
+    requires clean { has_done tx.old ≡ false → tx.old.overlays ≡ untouched }
+    requires works { IsWork stmt.now }
+    requires keeps { (rows : List Row) × (s : ℕ) × Keeps (dataset_of (St.state store.now)) rows s branch tx.old × AllGranted rows s (needs (dataset_of (St.state store.now)) branch true (has_done tx.old) stmt.now) }
+    ensures reply { IfOk result (λ r. r ≡ (act_over (dataset_of (St.state store.now)) branch (tx_in tx.old) stmt.now).reply) }
+    ensures tx { OnOk result (tx_in tx.new ≡ (act_over (dataset_of (St.state store.now)) branch (tx_in tx.old) stmt.now).tx) }
+    ensures keeps { OnOk result ((rows : List Row) (s : ℕ) → Keeps (dataset_of (St.state store.now)) rows s branch tx.old → AllGranted rows s (needs (dataset_of (St.state store.now)) branch true (has_done tx.old) stmt.now) → Keeps (dataset_of (St.state store.now)) rows s branch tx.new) }
+    ensures long { IfOk result (λ r. IsLong r → IsMore tx.old tx.new) }
+    ensures err { OnErr result (IsMore tx.old tx.new) }
+{
+    match stmt {
+        Stmt::Merge {
+            branch: name,
+            prefer,
+        } => {
+            let reply = merge(store, tx, branch, name, *prefer)?;
+            Ok(reply)
+        }
+        _ => {
+            let reply = act(store, tx, branch, stmt)?;
+            Ok(reply)
+        }
+    }
+}
+
+/// Answers a statement that reads or changes records, or merges, with a copy of the reply.
+pub fn work_twice<St: Store>(
     store: &St,
     tx: &mut Tx<St>,
     branch: u32,
     stmt: &Stmt,
 ) -> Result<Twice, AllocError>
     requires branch { branch < length (dataset_of (St.state store.now)).branches }
-    requires acts { IsAct stmt.now }
-    requires keeps { (rows : List Row) × (s : ℕ) × Keeps (dataset_of (St.state store.now)) rows s branch tx.old × AllGranted rows s (needs (dataset_of (St.state store.now)) branch true stmt.now) }
+    requires clean { has_done tx.old ≡ false → tx.old.overlays ≡ untouched }
+    requires works { IsWork stmt.now }
+    requires keeps { (rows : List Row) × (s : ℕ) × Keeps (dataset_of (St.state store.now)) rows s branch tx.old × AllGranted rows s (needs (dataset_of (St.state store.now)) branch true (has_done tx.old) stmt.now) }
     ensures reply { IfOk result (λ t. t.reply ≡ (act_over (dataset_of (St.state store.now)) branch (tx_in tx.old) stmt.now).reply) }
     ensures copy { IfOk result (λ t. t.copy ≡ t.reply) }
     ensures tx { OnOk result (tx_in tx.new ≡ (act_over (dataset_of (St.state store.now)) branch (tx_in tx.old) stmt.now).tx) }
-    ensures keeps { OnOk result ((rows : List Row) (s : ℕ) → Keeps (dataset_of (St.state store.now)) rows s branch tx.old → AllGranted rows s (needs (dataset_of (St.state store.now)) branch true stmt.now) → Keeps (dataset_of (St.state store.now)) rows s branch tx.new) }
+    ensures keeps { OnOk result ((rows : List Row) (s : ℕ) → Keeps (dataset_of (St.state store.now)) rows s branch tx.old → AllGranted rows s (needs (dataset_of (St.state store.now)) branch true (has_done tx.old) stmt.now) → Keeps (dataset_of (St.state store.now)) rows s branch tx.new) }
     ensures err { OnErr result (IsMore tx.old tx.new) }
 {
-    let reply = act(store, tx, branch, stmt)?;
+    let reply = work(store, tx, branch, stmt)?;
     copied(reply)
 }
 
-// Answers a statement that reads or changes records. Want of memory takes back what was granted.
-fn act_or_back<St: Store>(
+// Answers a statement that reads or changes records, or merges. Want of memory takes back what was
+// granted.
+fn work_or_back<St: Store>(
     store: &St,
     tx: &mut Tx<St>,
     branch: u32,
     stmt: &Stmt,
 ) -> Result<Twice, AllocError>
     requires branch { branch < length (dataset_of (St.state store.now)).branches }
-    requires acts { IsAct stmt.now }
-    requires keeps { (rows : List Row) × (s : ℕ) × Keeps (dataset_of (St.state store.now)) rows s branch tx.old × AllGranted rows s (needs (dataset_of (St.state store.now)) branch true stmt.now) }
+    requires clean { has_done tx.old ≡ false → tx.old.overlays ≡ untouched }
+    requires works { IsWork stmt.now }
+    requires keeps { (rows : List Row) × (s : ℕ) × Keeps (dataset_of (St.state store.now)) rows s branch tx.old × AllGranted rows s (needs (dataset_of (St.state store.now)) branch true (has_done tx.old) stmt.now) }
     ensures reply { IfOk result (λ t. t.reply ≡ (act_over (dataset_of (St.state store.now)) branch (tx_in tx.old) stmt.now).reply) }
     ensures copy { IfOk result (λ t. t.copy ≡ t.reply) }
     ensures tx { OnOk result (tx_in tx.new ≡ (act_over (dataset_of (St.state store.now)) branch (tx_in tx.old) stmt.now).tx) }
-    ensures keeps { OnOk result ((rows : List Row) (s : ℕ) → Keeps (dataset_of (St.state store.now)) rows s branch tx.old → AllGranted rows s (needs (dataset_of (St.state store.now)) branch true stmt.now) → Keeps (dataset_of (St.state store.now)) rows s branch tx.new) }
+    ensures keeps { OnOk result ((rows : List Row) (s : ℕ) → Keeps (dataset_of (St.state store.now)) rows s branch tx.old → AllGranted rows s (needs (dataset_of (St.state store.now)) branch true (has_done tx.old) stmt.now) → Keeps (dataset_of (St.state store.now)) rows s branch tx.new) }
     ensures kept { OnErr result ((rows : List Row) (s : ℕ) → Keeps (dataset_of (St.state store.now)) rows s branch tx.old → Keeps (dataset_of (St.state store.now)) rows s branch tx.new) }
     ensures same { OnErr result (tx_in tx.new ≡ tx_in tx.old) }
 {
     let mark = tx.mark();
-    match act_twice(store, tx, branch, stmt) {
+    match work_twice(store, tx, branch, stmt) {
         Ok(answer) => Ok(answer),
         Err(stop) => {
             tx.back_to(mark);
@@ -421,12 +528,13 @@ pub fn go_on<St: Store>(
     stmt: &Stmt,
 ) -> Result<Twice, AllocError>
     requires branch { branch < length (dataset_of (St.state store.now)).branches }
+    requires clean { has_done tx.old ≡ false → tx.old.overlays ≡ untouched }
     requires goes_on { is_end stmt.now ≡ false }
-    requires keeps { (rows : List Row) × (s : ℕ) × Keeps (dataset_of (St.state store.now)) rows s branch tx.old × AllGranted rows s (needs (dataset_of (St.state store.now)) branch true stmt.now) }
+    requires keeps { (rows : List Row) × (s : ℕ) × Keeps (dataset_of (St.state store.now)) rows s branch tx.old × AllGranted rows s (needs (dataset_of (St.state store.now)) branch true (has_done tx.old) stmt.now) }
     ensures reply { IfOk result (λ t. t.reply ≡ (step_in (dataset_of (St.state store.now)) branch tx.old stmt.now).reply) }
     ensures copy { IfOk result (λ t. t.copy ≡ t.reply) }
     ensures tx { OnOk result (tx_in tx.new ≡ (step_in (dataset_of (St.state store.now)) branch tx.old stmt.now).tx) }
-    ensures keeps { OnOk result ((rows : List Row) (s : ℕ) → Keeps (dataset_of (St.state store.now)) rows s branch tx.old → AllGranted rows s (needs (dataset_of (St.state store.now)) branch true stmt.now) → Keeps (dataset_of (St.state store.now)) rows s branch tx.new) }
+    ensures keeps { OnOk result ((rows : List Row) (s : ℕ) → Keeps (dataset_of (St.state store.now)) rows s branch tx.old → AllGranted rows s (needs (dataset_of (St.state store.now)) branch true (has_done tx.old) stmt.now) → Keeps (dataset_of (St.state store.now)) rows s branch tx.new) }
     ensures kept { OnErr result ((rows : List Row) (s : ℕ) → Keeps (dataset_of (St.state store.now)) rows s branch tx.old → Keeps (dataset_of (St.state store.now)) rows s branch tx.new) }
     ensures same { OnErr result (tx_in tx.new ≡ tx_in tx.old) }
 {
@@ -438,8 +546,12 @@ pub fn go_on<St: Store>(
             let reply = log_branch(alloc, store, branch)?;
             copied(reply)
         }
+        Stmt::Graph => {
+            let reply = graph(alloc, store)?;
+            copied(reply)
+        }
         _ => {
-            let answer = act_or_back(store, tx, branch, stmt)?;
+            let answer = work_or_back(store, tx, branch, stmt)?;
             Ok(answer)
         }
     }
@@ -455,9 +567,9 @@ pub fn grant_or_back<St: Store>(
 ) -> Result<(), AllocError>
     requires branch { branch < length (dataset_of (St.state store.now)).branches }
     requires acts { IsAct stmt.now }
-    requires keeps { (rows : List Row) × (s : ℕ) × Keeps (dataset_of (St.state store.now)) rows s branch tx.old × AllGranted rows s (needs (dataset_of (St.state store.now)) branch true stmt.now) }
+    requires keeps { (rows : List Row) × (s : ℕ) × Keeps (dataset_of (St.state store.now)) rows s branch tx.old × AllGranted rows s (needs (dataset_of (St.state store.now)) branch true (has_done tx.old) stmt.now) }
     ensures ready { OnOk result (IsReady (dataset_of (St.state store.now)) branch stmt.now tx.new) }
-    ensures keeps { OnOk result ((rows : List Row) (s : ℕ) → Keeps (dataset_of (St.state store.now)) rows s branch tx.old → AllGranted rows s (needs (dataset_of (St.state store.now)) branch true stmt.now) → Keeps (dataset_of (St.state store.now)) rows s branch tx.new) }
+    ensures keeps { OnOk result ((rows : List Row) (s : ℕ) → Keeps (dataset_of (St.state store.now)) rows s branch tx.old → AllGranted rows s (needs (dataset_of (St.state store.now)) branch true (has_done tx.old) stmt.now) → Keeps (dataset_of (St.state store.now)) rows s branch tx.new) }
     ensures more { OnOk result (IsMore tx.old tx.new) }
     ensures kept { OnErr result ((rows : List Row) (s : ℕ) → Keeps (dataset_of (St.state store.now)) rows s branch tx.old → Keeps (dataset_of (St.state store.now)) rows s branch tx.new) }
     ensures same { OnErr result (tx_in tx.new ≡ tx_in tx.old) }

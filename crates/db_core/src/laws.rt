@@ -1,5 +1,6 @@
 //! Laws of lists of lines: each function does nothing, and its contract is the law.
 ghost use Rattle.db_core.specs.Laws.{RoomLaw, MachineLaw, StateLaw, GrowthLaw, RowsLaw};
+ghost use Rattle.db_core.specs.Desk.{NewDeskLaw, OtherLinesLaw};
 
 /// A line that is read has a room that can be.
 pub fn room_law()
@@ -24,4 +25,14 @@ pub fn growth_law()
 /// What a line may be held by are the needs of earlier lines whose transactions are open.
 pub fn rows_law()
     ensures { RowsLaw }
+{}
+
+/// A new desk agrees with a new board.
+pub fn new_desk_law()
+    ensures { NewDeskLaw }
+{}
+
+/// A desk at which no line waits agrees with the board after lines of other sessions too.
+pub fn other_lines_law()
+    ensures { OtherLinesLaw }
 {}

@@ -16,6 +16,7 @@
 //! | `src/board.rt` | a dataset and the lines that were run on it |
 //! | `specs/Desk.antt`, `src/desk.rt` | the desk of a session, whose lines may wait to be entered, and when board and desk agree |
 //! | `src/session.rt` | one session: held, skipped, begun, ended |
+//! | `src/local.rt` | lines that are answered at the desk of their session |
 //! | `src/inside.rt`, `src/outside.rt` | statements in an open transaction, and those on their own |
 //! | `src/needs.rt` | what a line needs of the locks |
 //! | `src/twice.rt` | replies that are given and kept |
@@ -27,6 +28,7 @@ mod desk;
 mod inside;
 pub mod laws;
 mod lines;
+mod local;
 mod needs;
 mod outside;
 mod session;

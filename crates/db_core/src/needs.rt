@@ -2,8 +2,8 @@
 ghost use Rattle.std.specs.Prelude.{◌≡◌, ◌<◌, ◌++◌, ◌∷◌, [], Some, nat_lt, length, IfOk, OnOk};
 ghost use Rattle.db_store.specs.Dataset.{branch_at, branch_named};
 ghost use Rattle.db_store.specs.State.{dataset_of};
-ghost use Rattle.branch_tx.specs.Found.{found, position_found};
-ghost use Rattle.branch_tx.specs.Needs.{catalogue, shared, exclusive, found_needs, names_needs, branch_needs, scan_needs, on_needs, log_needs, source_needs, stmt_needs, needs};
+ghost use Rattle.version_log.specs.Found.{found, position_found};
+ghost use Rattle.branch_tx.specs.Needs.{catalogue, shared, exclusive, found_needs, names_needs, branch_needs, scan_needs, on_needs, log_needs, merge_needs, source_needs, stmt_needs, needs};
 
 use branch_tx::is_early;
 use db_store::Store;
@@ -187,7 +187,7 @@ fn push_branches(needs: &mut Vec<Need>, count: u32) -> Result<(), AllocError>
     Ok(())
 }
 
-// The needs of the heads of all branches.
+// The needs of the catalogue and of all branches.
 fn heads_needs<St: Store>(alloc: Global, store: &St) -> Result<Vec<Need>, AllocError>
     ensures { IfOk result (λ v. v.items ≡ shared catalogue ∷ branch_needs (length (dataset_of (St.state store.now)).branches)) }
 {
@@ -235,6 +235,28 @@ fn log_needs<St: Store>(alloc: Global, store: &St, name: &Name) -> Result<Vec<Ne
     }
 }
 
+// The needs of a merge of a branch into another one.
+fn merge_needs<St: Store>(
+    alloc: Global,
+    store: &St,
+    branch: u32,
+    name: &Name,
+) -> Result<Vec<Need>, AllocError>
+    requires { branch < length (dataset_of (St.state store.now)).branches }
+    ensures { IfOk result (λ v. v.items ≡ merge_needs branch (branch_named (dataset_of (St.state store.now)) name.now)) }
+{
+    match store.branch(name) {
+        None => one(alloc, shared(CATALOGUE)),
+        Some(other) => {
+            let mut needs = one(alloc, exclusive(branch + 1))?;
+            match push(&mut needs, shared(other + 1)) {
+                Ok(()) => Ok(needs),
+                Err(stop) => Err(stop),
+            }
+        }
+    }
+}
+
 // The needs of a statement that isn't refused early.
 fn stmt_needs<St: Store>(
     alloc: Global,
@@ -248,7 +270,9 @@ fn stmt_needs<St: Store>(
     match stmt {
         Stmt::On { branch: name } => on_needs(alloc, store, name),
         Stmt::LogOf { branch: name } => log_needs(alloc, store, name),
+        Stmt::Graph => heads_needs(alloc, store),
         Stmt::Branch { origin, .. } => branch_needs(alloc, store, origin),
+        Stmt::Merge { branch: name, .. } => merge_needs(alloc, store, branch, name),
         Stmt::Insert { .. } => one(alloc, exclusive(branch + 1)),
         Stmt::Update { .. } => one(alloc, exclusive(branch + 1)),
         Stmt::Delete { .. } => one(alloc, exclusive(branch + 1)),
@@ -260,18 +284,20 @@ fn stmt_needs<St: Store>(
     }
 }
 
-/// The needs of a statement of a session on a branch, whose transaction was begun or not.
+/// The needs of a statement of a session on a branch, whose transaction was begun or not, and has
+/// changed something or not.
 pub fn needs_of<St: Store>(
     alloc: Global,
     store: &St,
     branch: u32,
     begun: bool,
+    changed: bool,
     stmt: &Stmt,
 ) -> Result<Needs, AllocError>
     requires { branch < length (dataset_of (St.state store.now)).branches }
-    ensures { IfOk result (λ ns. ns ≡ needs (dataset_of (St.state store.now)) branch begun stmt.now) }
+    ensures { IfOk result (λ ns. ns ≡ needs (dataset_of (St.state store.now)) branch begun changed stmt.now) }
 {
-    if is_early(store.schema(), begun, stmt) {
+    if is_early(store.schema(), begun, changed, stmt) {
         return Ok(Needs::of(Vec::new(alloc)));
     }
     let needs = stmt_needs(alloc, store, branch, stmt)?;

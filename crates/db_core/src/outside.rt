@@ -9,15 +9,16 @@ ghost use Rattle.branch_tx.specs.Alone.{commit_reply};
 ghost use Rattle.branch_tx.specs.Granted.{tx_in};
 ghost use Rattle.branch_tx.proofs.Acts.{is_done};
 ghost use Rattle.db_core.specs.Ends.{is_begin, is_end, grown, moved_to};
-ghost use Rattle.db_core.specs.Sits.{IsAct, step_in, step_out, entry_over, commit_over, branched, branch_out, branch_entry, moved_out};
+ghost use Rattle.db_core.specs.Sits.{IsWork, step_in, step_out, entry_over, commit_over, branched, branch_out, branch_entry, moved_out};
 
-use crate::inside::{act_twice, open_tx};
+use crate::inside::{open_tx, work_twice};
 use crate::twice::{Twice, copied, done, made, refused};
-use branch_tx::{Tx, find_version, log_branch};
+use branch_tx::Tx;
 use db_store::Store;
 use db_value::{Entry, Name, Refusal, Reply, VersionName, VersionPlace};
 use std::alloc::{AllocError, Global};
 use stmt_text::Stmt;
+use version_log::{find_version, graph, log_branch};
 
 /// The room of a transaction for which none is told.
 pub const USUAL_ROOM: u32 = 1024;
@@ -99,7 +100,7 @@ fn is_done(reply: &Reply) -> bool
     }
 }
 
-// Answers a statement that reads or changes records, and is a transaction of its own.
+// Answers a statement that reads or changes records, or merges, and is a transaction of its own.
 fn alone<St: Store>(
     alloc: Global,
     store: &mut St,
@@ -107,14 +108,14 @@ fn alone<St: Store>(
     stmt: &Stmt,
 ) -> Result<Twice, AllocError>
     requires branch { branch < length (dataset_of (St.state store.old)).branches }
-    requires acts { IsAct stmt.now }
+    requires works { IsWork stmt.now }
     ensures reply { IfOk result (λ t. t.reply ≡ (step_out (dataset_of (St.state store.old)) branch stmt.now).reply) }
     ensures copy { IfOk result (λ t. t.copy ≡ t.reply) }
     ensures state { OnOk result (St.state store.new ≡ grown (St.state store.old) (entry_over (dataset_of (St.state store.old)) branch stmt.now (step_out (dataset_of (St.state store.old)) branch stmt.now).tx)) }
     ensures err { OnErr result (St.state store.new ≡ St.state store.old) }
 {
     let mut tx = open_tx(alloc, store, branch, USUAL_ROOM)?;
-    let answer = act_twice(store, &mut tx, branch, stmt)?;
+    let answer = work_twice(store, &mut tx, branch, stmt)?;
     if is_done(&answer.reply) {
         let committed = commit(store, &tx, branch)?;
         return Ok(committed);
@@ -202,6 +203,11 @@ pub fn own<St: Store>(
         Stmt::On { branch } => Ok(move_to(store, current, branch)),
         Stmt::LogOf { branch } => {
             let reply = log_branch(alloc, store, branch)?;
+            let answer = copied(reply)?;
+            Ok(answer)
+        }
+        Stmt::Graph => {
+            let reply = graph(alloc, store)?;
             let answer = copied(reply)?;
             Ok(answer)
         }

@@ -1,5 +1,5 @@
 //! One session among many, whose statements are answered at once under locks that nobody waits for.
-ghost use Rattle.std.specs.Prelude.{◌≡◌, ◌<◌, ◌+◌, ℕ, List, not, is_some, Some, None, true, false, length, All, IfOk, OnOk, OnErr};
+ghost use Rattle.std.specs.Prelude.{◌≡◌, ◌≢◌, ◌<◌, ◌+◌, ℕ, List, not, is_some, Some, None, true, false, length, All, IfOk, OnOk, OnErr};
 ghost use Rattle.db_value.specs.declared.entry.Entry.{Entry};
 ghost use Rattle.db_store.specs.Fits.{fits};
 ghost use Rattle.db_value.specs.declared.reply.Reply.TheVariants.{Refused, Done};
@@ -11,11 +11,12 @@ ghost use Rattle.lock_table.specs.Grants.{IsAdmitted, without};
 ghost use Rattle.branch_tx.specs.Needs.{needs};
 ghost use Rattle.branch_tx.specs.Laws.{IsRoomy};
 ghost use Rattle.branch_tx.specs.Alone.{room_of};
-ghost use Rattle.branch_tx.specs.Granted.{tx_in};
+ghost use Rattle.db_store.specs.Overlay.{untouched};
+ghost use Rattle.branch_tx.specs.Granted.{tx_in, has_done};
 ghost use Rattle.db_core.specs.Ends.{is_end, grown};
 ghost use Rattle.db_core.specs.Order.{World, next, lock_name};
 ghost use Rattle.db_core.specs.Desk.{grant_of, rows_by, IsMoreIf, IsReadyIf, KeepsIf, IsSameIf};
-ghost use Rattle.db_core.specs.Sits.{AllGranted, Keeps, IsAct, Seated, IsBegun, heard, said_now, step_in, entry_over, commit_over};
+ghost use Rattle.db_core.specs.Sits.{AllGranted, Keeps, IsAct, Seated, IsBegun, done_in, heard, said_now, step_in, entry_over, commit_over};
 
 use crate::inside::{go_on, grant_or_back, open_tx};
 use crate::needs::needs_of;
@@ -58,8 +59,8 @@ fn is_end(stmt: &Stmt) -> bool
     }
 }
 
-// Passes a line over, up to the end of the transaction whose line was held.
-fn skip<St: Store>(session: &mut Session<St>, stmt: &Stmt) -> Twice
+/// Passes a line over, up to the end of the transaction whose line was held.
+pub fn skip<St: Store>(session: &mut Session<St>, stmt: &Stmt) -> Twice
     requires skipping { session.old.skipping ≡ true }
     ensures reply { result.reply ≡ Refused Skipped }
     ensures copy { result.copy ≡ result.reply }
@@ -70,6 +71,22 @@ fn skip<St: Store>(session: &mut Session<St>, stmt: &Stmt) -> Twice
 {
     session.skipping = !is_end(stmt);
     refused(Refusal::Skipped)
+}
+
+// What the session needs for a statement.
+fn session_needs<St: Store>(
+    alloc: Global,
+    store: &St,
+    session: &Session<St>,
+    stmt: &Stmt,
+) -> Result<Needs, AllocError>
+    requires { session.now.current < length (dataset_of (St.state store.now)).branches }
+    ensures { IfOk result (λ ns. ns ≡ needs (dataset_of (St.state store.now)) session.now.current (is_some session.now.tx) (done_in session.now.tx) stmt.now) }
+{
+    match &session.tx {
+        None => needs_of(alloc, store, session.current, false, false, stmt),
+        Some(tx) => needs_of(alloc, store, session.current, true, tx.has_done(), stmt),
+    }
 }
 
 // The name of a lock: the catalogue's, or that of the branch.
@@ -154,7 +171,7 @@ fn answer_closed<St: Store>(
 ) -> Result<Twice, AllocError>
     requires closed { session.old.tx ≡ None }
     requires listening { session.old.skipping ≡ false }
-    requires free { holder session.old.number (needs (dataset_of (St.state store.old)) session.old.current false stmt.now) locks.old.rows ≡ None }
+    requires free { holder session.old.number (needs (dataset_of (St.state store.old)) session.old.current false false stmt.now) locks.old.rows ≡ None }
     requires seated { (w : World) × Seated w (St.state store.old) locks.old.rows session.old.number session.old.current session.old.skipping session.old.tx }
     requires roomy { IsRoomy stmt.now }
     ensures reply { IfOk result (λ t. (w : World) → Seated w (St.state store.old) locks.old.rows session.old.number session.old.current session.old.skipping session.old.tx → t.reply ≡ said_now w session.old.number stmt.now) }
@@ -185,13 +202,14 @@ fn turn<St: Store>(
     stmt: &Stmt,
 ) -> Result<Twice, AllocError>
     requires branch { branch < length (dataset_of (St.state store.old)).branches }
-    requires keeps { (rows : List Row) × (s : ℕ) × Keeps (dataset_of (St.state store.old)) rows s branch tx.old × AllGranted rows s (needs (dataset_of (St.state store.old)) branch true stmt.now) }
+    requires clean { has_done tx.old ≡ false → tx.old.overlays ≡ untouched }
+    requires keeps { (rows : List Row) × (s : ℕ) × Keeps (dataset_of (St.state store.old)) rows s branch tx.old × AllGranted rows s (needs (dataset_of (St.state store.old)) branch true (has_done tx.old) stmt.now) }
     requires fits { (e : Entry) → commit_over (dataset_of (St.state store.old)) branch (tx_in tx.old) ≡ Some e → fits (dataset_of (St.state store.old)) e ≡ true }
     ensures reply { IfOk result (λ t. t.reply ≡ (step_in (dataset_of (St.state store.old)) branch tx.old stmt.now).reply) }
     ensures copy { IfOk result (λ t. t.copy ≡ t.reply) }
     ensures stays { OnOk result (is_end stmt.now ≡ false → St.state store.new ≡ St.state store.old) }
     ensures tx { OnOk result (is_end stmt.now ≡ false → tx_in tx.new ≡ (step_in (dataset_of (St.state store.old)) branch tx.old stmt.now).tx) }
-    ensures keeps { OnOk result (is_end stmt.now ≡ false → (rows : List Row) (s : ℕ) → Keeps (dataset_of (St.state store.old)) rows s branch tx.old → AllGranted rows s (needs (dataset_of (St.state store.old)) branch true stmt.now) → Keeps (dataset_of (St.state store.old)) rows s branch tx.new) }
+    ensures keeps { OnOk result (is_end stmt.now ≡ false → (rows : List Row) (s : ℕ) → Keeps (dataset_of (St.state store.old)) rows s branch tx.old → AllGranted rows s (needs (dataset_of (St.state store.old)) branch true (has_done tx.old) stmt.now) → Keeps (dataset_of (St.state store.old)) rows s branch tx.new) }
     ensures ended { OnOk result (is_end stmt.now ≡ true → St.state store.new ≡ grown (St.state store.old) (entry_over (dataset_of (St.state store.old)) branch stmt.now (tx_in tx.old))) }
     ensures err { OnErr result (St.state store.new ≡ St.state store.old) }
     ensures kept { OnErr result ((rows : List Row) (s : ℕ) → Keeps (dataset_of (St.state store.old)) rows s branch tx.old → Keeps (dataset_of (St.state store.old)) rows s branch tx.new) }
@@ -215,7 +233,7 @@ fn answer_free<St: Store>(
     stmt: &Stmt,
 ) -> Result<Twice, AllocError>
     requires listening { session.old.skipping ≡ false }
-    requires needs { asked.now ≡ needs (dataset_of (St.state store.old)) session.old.current (is_some session.old.tx) stmt.now }
+    requires needs { asked.now ≡ needs (dataset_of (St.state store.old)) session.old.current (is_some session.old.tx) (done_in session.old.tx) stmt.now }
     requires low { All (λ n. n.lock < 1025) asked.now }
     requires admitted { IsAdmitted locks.old session.old.number }
     requires free { holder session.old.number asked.now locks.old.rows ≡ None }
@@ -267,8 +285,7 @@ pub fn answer<St: Store>(
     if session.skipping {
         return Ok(skip(session, stmt));
     }
-    let begun = session.tx.is_some();
-    let needs = needs_of(alloc, store, session.current, begun, stmt)?;
+    let needs = session_needs(alloc, store, session, stmt)?;
     locks.admit(session.number)?;
     match locks.holder(session.number, needs.as_slice()) {
         Some(held) => Ok(turn_away(store, locks, session, held)),
@@ -290,7 +307,9 @@ fn is_act(stmt: &Stmt) -> bool
         Stmt::Abort => false,
         Stmt::On { .. } => false,
         Stmt::LogOf { .. } => false,
+        Stmt::Graph => false,
         Stmt::Branch { .. } => false,
+        Stmt::Merge { .. } => false,
         _ => true,
     }
 }
@@ -302,13 +321,13 @@ fn grant_open<St: Store>(
     stmt: &Stmt,
 ) -> Result<(), AllocError>
     requires branch { session.old.current < length (dataset_of (St.state store.now)).branches }
-    requires keeps { (rows : List Row) × KeepsIf (dataset_of (St.state store.now)) rows session.old.number session.old.current session.old.tx × AllGranted rows session.old.number (needs (dataset_of (St.state store.now)) session.old.current (is_some session.old.tx) stmt.now) }
+    requires keeps { (rows : List Row) × KeepsIf (dataset_of (St.state store.now)) rows session.old.number session.old.current session.old.tx × AllGranted rows session.old.number (needs (dataset_of (St.state store.now)) session.old.current (is_some session.old.tx) (done_in session.old.tx) stmt.now) }
     ensures number { session.new.number ≡ session.old.number }
     ensures current { session.new.current ≡ session.old.current }
     ensures skipping { session.new.skipping ≡ session.old.skipping }
     ensures more { OnOk result (IsMoreIf session.old.tx session.new.tx) }
     ensures ready { OnOk result (IsReadyIf (dataset_of (St.state store.now)) session.old.current stmt.now session.new.tx) }
-    ensures keeps { OnOk result ((rows : List Row) → KeepsIf (dataset_of (St.state store.now)) rows session.old.number session.old.current session.old.tx → AllGranted rows session.old.number (needs (dataset_of (St.state store.now)) session.old.current (is_some session.old.tx) stmt.now) → KeepsIf (dataset_of (St.state store.now)) rows session.old.number session.old.current session.new.tx) }
+    ensures keeps { OnOk result ((rows : List Row) → KeepsIf (dataset_of (St.state store.now)) rows session.old.number session.old.current session.old.tx → AllGranted rows session.old.number (needs (dataset_of (St.state store.now)) session.old.current (is_some session.old.tx) (done_in session.old.tx) stmt.now) → KeepsIf (dataset_of (St.state store.now)) rows session.old.number session.old.current session.new.tx) }
     ensures err { OnErr result (IsSameIf (dataset_of (St.state store.now)) session.old.number session.old.current session.old.tx session.new.tx) }
 {
     if !is_act(stmt) {
@@ -334,19 +353,19 @@ pub fn ask<St: Store>(
     stmt: &Stmt,
 ) -> Result<Grant, AllocError>
     requires seated { (w : World) × Seated w (St.state store.now) locks.old.rows session.old.number session.old.current session.old.skipping session.old.tx }
-    ensures answer { IfOk result (λ r. r ≡ grant_of (dataset_of (St.state store.now)) (holder session.old.number (needs (dataset_of (St.state store.now)) session.old.current (is_some session.old.tx) stmt.now) locks.old.rows)) }
-    ensures rows { OnOk result (locks.new.rows ≡ rows_by (holder session.old.number (needs (dataset_of (St.state store.now)) session.old.current (is_some session.old.tx) stmt.now) locks.old.rows) session.old.number (needs (dataset_of (St.state store.now)) session.old.current (is_some session.old.tx) stmt.now) locks.old.rows) }
+    ensures answer { IfOk result (λ r. r ≡ grant_of (dataset_of (St.state store.now)) (holder session.old.number (needs (dataset_of (St.state store.now)) session.old.current (is_some session.old.tx) (done_in session.old.tx) stmt.now) locks.old.rows)) }
+    ensures rows { OnOk result (locks.new.rows ≡ rows_by (holder session.old.number (needs (dataset_of (St.state store.now)) session.old.current (is_some session.old.tx) (done_in session.old.tx) stmt.now) locks.old.rows) session.old.number (needs (dataset_of (St.state store.now)) session.old.current (is_some session.old.tx) (done_in session.old.tx) stmt.now) locks.old.rows) }
     ensures number { session.new.number ≡ session.old.number }
     ensures current { session.new.current ≡ session.old.current }
     ensures skipping { session.new.skipping ≡ session.old.skipping }
+    ensures held { IfOk result (λ r. r ≢ Granted → session.new.tx ≡ session.old.tx) }
     ensures more { OnOk result (IsMoreIf session.old.tx session.new.tx) }
     ensures ready { IfOk result (λ r. r ≡ Granted → IsReadyIf (dataset_of (St.state store.now)) session.old.current stmt.now session.new.tx) }
-    ensures keeps { OnOk result ((rows : List Row) → KeepsIf (dataset_of (St.state store.now)) rows session.old.number session.old.current session.old.tx → AllGranted rows session.old.number (needs (dataset_of (St.state store.now)) session.old.current (is_some session.old.tx) stmt.now) → KeepsIf (dataset_of (St.state store.now)) rows session.old.number session.old.current session.new.tx) }
+    ensures keeps { OnOk result ((rows : List Row) → KeepsIf (dataset_of (St.state store.now)) rows session.old.number session.old.current session.old.tx → AllGranted rows session.old.number (needs (dataset_of (St.state store.now)) session.old.current (is_some session.old.tx) (done_in session.old.tx) stmt.now) → KeepsIf (dataset_of (St.state store.now)) rows session.old.number session.old.current session.new.tx) }
     ensures err { OnErr result (locks.new.rows ≡ locks.old.rows) }
     ensures kept { OnErr result (IsSameIf (dataset_of (St.state store.now)) session.old.number session.old.current session.old.tx session.new.tx) }
 {
-    let begun = session.tx.is_some();
-    let asked = needs_of(alloc, store, session.current, begun, stmt)?;
+    let asked = session_needs(alloc, store, session, stmt)?;
     locks.admit(session.number)?;
     match locks.holder(session.number, asked.as_slice()) {
         Some(held) => Ok(Grant::Held {

@@ -1,6 +1,6 @@
 use Rattle.std.proofs.Common.{◌≡◌, ◌++◌, drop, map}
 use Rattle.db_store.specs.State.{dataset_of}
-use Rattle.branch_tx.specs.Found.{branch_names}
+use Rattle.version_log.specs.Found.{branch_names}
 use Rattle.db_core.proofs.inside.branch_names.Given as goal
 
 -- the names so far, and those of the other branches, are all names

@@ -2,7 +2,7 @@ use Rattle.std.proofs.Common.{◌≡◌, ◌∙◌, ap, sym, subst, List, map, t
 use Rattle.std.specs.List.{list_all}
 use Rattle.db_value.specs.declared.version.VersionName.{VersionName}
 use Rattle.db_store.specs.State.{dataset_of}
-use Rattle.branch_tx.specs.Found.{plain, branch_names}
+use Rattle.version_log.specs.Found.{plain, branch_names}
 use Rattle.branch_tx.specs.Granted.{Granted}
 use Rattle.branch_tx.specs.Covers.{has_heads, has_version}
 use Rattle.branch_tx.specs.Needs.{names_needs}

@@ -4,7 +4,8 @@ use Rattle.std.proofs.lemmas.Bool.{and_from}
 use Rattle.std.proofs.lemmas.List.Folds.{list_all_more}
 use Rattle.db_value.specs.declared.version.VersionName.{VersionName}
 use Rattle.db_store.specs.State.{dataset_of}
-use Rattle.branch_tx.specs.Found.{found, source_of}
+use Rattle.version_log.specs.Found.{found}
+use Rattle.branch_tx.specs.Found.{source_of}
 use Rattle.lock_table.specs.Rows.{Row}
 use Rattle.branch_tx.specs.Needs.{found_needs, names_needs}
 use Rattle.db_core.specs.Sits.{AllGranted}

@@ -1,16 +1,14 @@
-use Rattle.std.proofs.Common.{◌≡◌, ◌∙◌, ap, sym, subst, refl, Option, Some, None, not, false, true, List, ℕ}
-use Rattle.db_value.specs.declared.reply.Reply.{Reply}
+use Rattle.std.proofs.Common.{◌∙◌, ap, sym, subst, refl, Option, Some, None, not, false, List}
 use Rattle.db_store.specs.State.{dataset_of}
 use Rattle.lock_table.specs.Rows.{Row, Table}
 use Rattle.lock_table.specs.Grants.{added}
 use Rattle.stmt_text.specs.declared.stmt.Stmt.{Stmt}
-use Rattle.branch_tx.specs.Alone.{fresh, room_of}
+use Rattle.branch_tx.specs.Alone.{room_of}
 use Rattle.branch_tx.specs.Granted.{Granted}
 use Rattle.branch_tx.specs.Needs.{needs}
-use Rattle.db_store.specs.Overlay.{untouched}
-use Rattle.db_core.specs.Ends.{ends, is_begin}
-use Rattle.db_core.specs.Order.{World, tagged, next}
-use Rattle.db_core.specs.Sits.{Seated, heard, step_over, step_out}
+use Rattle.db_core.specs.Ends.{ends}
+use Rattle.db_core.specs.Order.{tagged, next}
+use Rattle.db_core.specs.Sits.{Seated, heard, step_out}
 use Rattle.db_core.proofs.OwnLines.{other_begin}
 use Rattle.db_core.proofs.Answering.{there, reply_free, after_end, after_stay, begun_is, seated_as}
 use Rattle.db_core.proofs.session.answer_closed.Goals as goal
@@ -42,8 +40,8 @@ returns-in_ok-answer-in-Begin-clause-seated g c = λ w h.
     let table : List Row = c.args.locks.now.rows in
     let closed = subst (λ (o : Option Granted). Seated w st table s.number s.current s.skipping o) c.requires.closed h in
     let b = begun_is d s.current (room_of c.in-Begin.room) c.begin.new.session.tx c.in_ok-answer-in-Begin.ensures.open in
-    let ns = needs d s.current false x in
-    let none = ap (λ (y : Stmt). added s.number (needs d s.current false y) table) c.in-Begin.is in
+    let ns = needs d s.current false false x in
+    let none = ap (λ (y : Stmt). added s.number (needs d s.current false false y) table) c.in-Begin.is in
     let same = ap (λ (y : Stmt). (step_out d s.current y).tx) (sym c.in-Begin.is) in
     seated_as (next w (heard s.number x)) st st (added s.number ns table) table s.number c.begin.new.session.number s.current c.begin.new.session.current false c.begin.new.session.skipping (Some b.0) c.begin.new.session.tx
     refl none (sym c.in_ok-answer-in-Begin.ensures.number) (sym c.in_ok-answer-in-Begin.ensures.current) (sym (c.in_ok-answer-in-Begin.ensures.skipping ∙ c.requires.listening)) (sym b.1)

@@ -1,18 +1,18 @@
-use Rattle.std.proofs.Common.{◌≡◌, ◌∙◌, ap, sym, subst, refl, Option, Some, None, false, true, List, is_some}
+use Rattle.std.proofs.Common.{◌∙◌, ap, sym, subst, refl, Option, Some, None, false, true, List, is_some}
 use Rattle.db_store.specs.Overlay.{Overlay}
-use Rattle.db_store.specs.State.{State, dataset_of}
+use Rattle.db_store.specs.State.{dataset_of}
 use Rattle.lock_table.specs.declared.need.Need.{Need}
 use Rattle.lock_table.specs.Rows.{Row, Table, holder}
 use Rattle.lock_table.specs.Grants.{added}
 use Rattle.lock_table.specs.Answer.{answer_of}
 use Rattle.branch_tx.specs.Act.{Tx}
-use Rattle.branch_tx.specs.Granted.{Granted}
+use Rattle.branch_tx.specs.Granted.{Granted, has_done}
 use Rattle.branch_tx.specs.Needs.{needs}
 use Rattle.db_core.specs.Ends.{grown, moved_to}
 use Rattle.db_core.specs.Order.{World, tagged, next}
-use Rattle.db_core.specs.Sits.{Seated, heard, step_over, entry_over}
+use Rattle.db_core.specs.Sits.{Seated, done_in, heard, entry_over}
 use Rattle.db_core.proofs.Rows.{tagged_new}
-use Rattle.db_core.proofs.Answering.{there, reply_free, after_end, after_stay, keeps_open, keeps_tagged, seated_same, commit_fits, end_same, seated_as, on_err}
+use Rattle.db_core.proofs.Answering.{there, reply_free, after_end, after_stay, keeps_open, keeps_tagged, clean_open, seated_same, commit_fits, end_same, seated_as, on_err}
 use Rattle.db_core.proofs.session.answer_free.Goals as goal
 
 pub turn-requires-clause-branch : goal.turn-requires-clause-branch
@@ -24,8 +24,16 @@ turn-requires-clause-keeps g c =
     let st = g.St.Store.state c.args.store.now in
     let w = c.requires.seated.0 in
     let h = subst (λ (o : Option Granted). Seated w st c.args.locks.now.rows s.number s.current s.skipping o) c.in-Some.is c.requires.seated.1 in
-    let ns = needs (dataset_of st) s.current true c.args.stmt.now in
+    let ns = needs (dataset_of st) s.current true (has_done c.in-Some.tx) c.args.stmt.now in
     (tagged s.number ns w.rows, s.number, keeps_tagged w st c.args.locks.now.rows s.number s.current s.skipping c.in-Some.tx h ns, tagged_new s.number ns w.rows)
+
+pub turn-requires-clause-clean : goal.turn-requires-clause-clean
+turn-requires-clause-clean g c =
+    let s = c.args.session.now in
+    let st = g.St.Store.state c.args.store.now in
+    let w = c.requires.seated.0 in
+    let h = subst (λ (o : Option Granted). Seated w st c.args.locks.now.rows s.number s.current s.skipping o) c.in-Some.is c.requires.seated.1 in
+    clean_open w st c.args.locks.now.rows s.number s.current s.skipping c.in-Some.tx h
 
 pub turn-requires-clause-fits : goal.turn-requires-clause-fits
 turn-requires-clause-fits g c = λ e f.
@@ -55,7 +63,7 @@ returns-then-is_end-clause-reply g c = λ w a.
     let table : List Row = c.args.locks.now.rows in
     let x = c.args.stmt.now in
     let h = subst (λ (o : Option Granted). Seated w st table s.number s.current s.skipping o) c.in-Some.is a in
-    let same = c.requires.needs ∙ ap (λ (o : Option Granted). needs (dataset_of st) s.current (is_some o) x) c.in-Some.is in
+    let same = c.requires.needs ∙ ap (λ (o : Option Granted). needs (dataset_of st) s.current (is_some o) (done_in o) x) c.in-Some.is in
     let free = ap (λ (ns : List Need). holder s.number ns table) (sym same) ∙ c.requires.free in
     c.in_ok-answer-in-Some.ensures.reply ∙ sym (reply_free w st table s.number s.current s.skipping (Some c.in-Some.tx) h x c.requires.roomy c.requires.listening free)
 
@@ -68,7 +76,7 @@ returns-then-is_end-clause-seated g c = λ w a.
     let x = c.args.stmt.now in
     let tx = c.in-Some.tx in
     let h = subst (λ (o : Option Granted). Seated w st table s.number s.current s.skipping o) c.in-Some.is a in
-    let same = c.requires.needs ∙ ap (λ (o : Option Granted). needs d s.current (is_some o) x) c.in-Some.is in
+    let same = c.requires.needs ∙ ap (λ (o : Option Granted). needs d s.current (is_some o) (done_in o) x) c.in-Some.is in
     let free = ap (λ (ns : List Need). holder s.number ns table) (sym same) ∙ c.requires.free in
     let e = sym c.is_end.ensures ∙ c.if-is_end.true in
     let stood = end_same d s.current tx x e in
@@ -84,7 +92,7 @@ returns-else-is_end-clause-reply g c = λ w a.
     let table : List Row = c.args.locks.now.rows in
     let x = c.args.stmt.now in
     let h = subst (λ (o : Option Granted). Seated w st table s.number s.current s.skipping o) c.in-Some.is a in
-    let same = c.requires.needs ∙ ap (λ (o : Option Granted). needs (dataset_of st) s.current (is_some o) x) c.in-Some.is in
+    let same = c.requires.needs ∙ ap (λ (o : Option Granted). needs (dataset_of st) s.current (is_some o) (done_in o) x) c.in-Some.is in
     let free = ap (λ (ns : List Need). holder s.number ns table) (sym same) ∙ c.requires.free in
     c.in_ok-answer-in-Some.ensures.reply ∙ sym (reply_free w st table s.number s.current s.skipping (Some c.in-Some.tx) h x c.requires.roomy c.requires.listening free)
 
@@ -97,8 +105,8 @@ returns-else-is_end-clause-seated g c = λ w a.
     let x = c.args.stmt.now in
     let tx = c.in-Some.tx in
     let h = subst (λ (o : Option Granted). Seated w st table s.number s.current s.skipping o) c.in-Some.is a in
-    let ns = needs d s.current true x in
-    let same = c.requires.needs ∙ ap (λ (o : Option Granted). needs d s.current (is_some o) x) c.in-Some.is in
+    let ns = needs d s.current true (has_done tx) x in
+    let same = c.requires.needs ∙ ap (λ (o : Option Granted). needs d s.current (is_some o) (done_in o) x) c.in-Some.is in
     let free = ap (λ (ms : List Need). holder s.number ms table) (sym same) ∙ c.requires.free in
     let e = sym c.is_end.ensures ∙ c.if-is_end.false in
     let granted = c.ask.ensures.granted (c.ask.ensures.answer ∙ ap answer_of c.requires.free) in

@@ -2,7 +2,7 @@ use Rattle.std.proofs.Common.{sym, subst, Option, Some, is_some}
 use Rattle.db_store.specs.State.{dataset_of}
 use Rattle.branch_tx.specs.Granted.{Granted}
 use Rattle.branch_tx.specs.Needs.{needs}
-use Rattle.db_core.specs.Sits.{AllGranted}
+use Rattle.db_core.specs.Sits.{AllGranted, done_in}
 use Rattle.db_core.specs.Desk.{KeepsIf, IsSameIf}
 use Rattle.db_core.proofs.Answering.{on_err}
 use Rattle.db_core.proofs.session.grant_open.Goals as goal
@@ -21,4 +21,4 @@ returns-in_ok-grant_or_back-in-Some-clause-keeps g c = λ rows k a.
     let d = dataset_of (g.St.Store.state c.args.store.now) in
     c.in_ok-grant_or_back-in-Some.ensures.keeps rows s.number
     (subst (λ (o : Option Granted). KeepsIf d rows s.number s.current o) c.in-Some.is k)
-    (subst (λ (o : Option Granted). AllGranted rows s.number (needs d s.current (is_some o) c.args.stmt.now)) c.in-Some.is a)
+    (subst (λ (o : Option Granted). AllGranted rows s.number (needs d s.current (is_some o) (done_in o) c.args.stmt.now)) c.in-Some.is a)

@@ -1,4 +1,4 @@
-use Rattle.std.proofs.Common.{◌≡◌, ◌∙◌, sym, ap, subst, refl, Option, Bool, List, ℕ}
+use Rattle.std.proofs.Common.{◌≡◌, ◌∙◌, sym, ap, subst, Option, ℕ}
 use Rattle.db_store.specs.State.{State, dataset_of}
 use Rattle.branch_tx.specs.Granted.{Granted}
 use Rattle.db_core.specs.Kept.{Kept, world_of}

@@ -1,11 +1,10 @@
-use Rattle.std.proofs.Common.{◌≡◌, ◌∙◌, ◌++◌, ◌∷◌, [], ap, sym, subst, refl, Option, Some, None, false, true, List, Bool, ℕ}
+use Rattle.std.proofs.Common.{◌≡◌, ◌∙◌, ◌++◌, ◌∷◌, [], ap, sym, subst, false, List, ℕ}
 use Rattle.db_value.specs.declared.step.Step.{Step}
-use Rattle.db_store.specs.State.{State, dataset_of}
 use Rattle.reply_text.specs.Reply.{NamesItsRows}
-use Rattle.db_core.specs.Order.{Said, World, said_of, opening, after, next, reply_in}
+use Rattle.db_core.specs.Order.{said_of, opening, after, next, reply_in}
 use Rattle.db_core.specs.Kept.{Kept, Stands, world_of, saids, said_step}
-use Rattle.db_core.specs.Sits.{Sits, Seated, heard}
-use Rattle.db_core.proofs.Standing.{seated_of, roomy_line, said_in, said_named, world_more, stands_more, stands_kept, stands_steps, sits_world, kept_with}
+use Rattle.db_core.specs.Sits.{Sits, heard}
+use Rattle.db_core.proofs.Standing.{seated_of, roomy_line, said_in, said_named, world_more, stands_more, stands_kept, stands_steps, sits_world}
 use Rattle.db_core.proofs.board.Board.serve.Goals as goal
 
 pub answer-requires-clause-seated : goal.answer-requires-clause-seated

@@ -1,0 +1,116 @@
+//! Merges in a granted transaction.
+ghost use Rattle.std.specs.Prelude.{◌≡◌, ◌<◌, None, true, nat_lt, length, IfOk, OnOk, OnErr};
+ghost use Rattle.std.specs.List.{list_all};
+ghost use Rattle.db_value.specs.Relations.{columns_at};
+ghost use Rattle.db_store.specs.Adopt.{keys_differ, full_from};
+ghost use Rattle.db_store.specs.Counted.{IsTable};
+ghost use Rattle.db_store.specs.Overlay.{untouched};
+ghost use Rattle.db_store.specs.Table.{with_changes};
+ghost use Rattle.field_merge.specs.Named.{IsFieldOf};
+ghost use Rattle.branch_tx.specs.Merging.{relation_name, field_name, merge_refusal, merged_to};
+ghost use Rattle.branch_tx.specs.Keeping.{over_table};
+ghost use Rattle.branch_tx.specs.Granted.{tx_in, merged, with_merge};
+
+use crate::refuse::{refused, versions_full};
+use crate::tx::Tx;
+use db_store::{Store, WorkStop};
+use db_value::{Changes, Name, Prefer, Refusal, Reply, Schema, VersionPlace};
+use field_merge::{MergeStop, merge_tables};
+use std::alloc::AllocError;
+
+// The name of a relation.
+fn relation_name(schema: &Schema, relation: u8) -> Name
+    requires { relation < length schema.now }
+    ensures { result ≡ relation_name schema.now relation }
+{
+    schema.relations()[relation as usize].name
+}
+
+// The name of a column, unless the whole record is meant.
+fn field_name(schema: &Schema, relation: u8, field: Option<u8>) -> Option<Name>
+    requires relation { relation < length schema.now }
+    requires field { IsFieldOf (length (columns_at schema.now relation)) field }
+    ensures { result ≡ field_name schema.now relation field }
+{
+    match field {
+        None => None,
+        Some(column) => {
+            let columns = schema.relations()[relation as usize].columns.as_slice();
+            Some(columns[column as usize])
+        }
+    }
+}
+
+impl<St: Store> Tx<St> {
+    // Takes the changes of a merge that has no conflict.
+    fn adopt(&mut self, from: VersionPlace, changes: &Changes) -> Result<Reply, AllocError>
+        requires untouched { self.old.overlays ≡ untouched }
+        requires relations { list_all (λ c. nat_lt c.relation (length self.old.head)) changes.now ≡ true }
+        requires differ { keys_differ changes.now ≡ true }
+        ensures reply { IfOk result (λ r. r ≡ (merged_to (over_table self.old.head) (tx_in self.old) from changes.now (merge_refusal self.old.schema self.old.room (length changes.now) None (full_from 0 (with_changes self.old.head changes.now)))).reply) }
+        ensures left { OnOk result (self.new ≡ with_merge self.old (merged_to (over_table self.old.head) (tx_in self.old) from changes.now (merge_refusal self.old.schema self.old.room (length changes.now) None (full_from 0 (with_changes self.old.head changes.now))))) }
+        ensures err { OnErr result (self.new ≡ self.old) }
+    {
+        match self.work.adopt(changes) {
+            Ok(()) => {
+                self.second = Some(from);
+                Ok(Reply::Done)
+            }
+            Err(WorkStop::TableFull { relation }) => Ok(refused(Refusal::TableFull {
+                relation: relation_name(&self.schema, relation),
+            })),
+            Err(WorkStop::Room) => Ok(refused(Refusal::Room {
+                room: self.work.room(),
+            })),
+            Err(_) => Err(AllocError),
+        }
+    }
+
+    /// Merges the right table, which stands at a place, into its working table, over the table of
+    /// their common ancestor. A refused merge leaves everything as before, and so does want of memory.
+    pub fn merge(
+        &mut self,
+        from: VersionPlace,
+        base: &St::View,
+        right: &St::View,
+        prefer: Prefer,
+    ) -> Result<Reply, AllocError>
+        requires untouched { self.old.overlays ≡ untouched }
+        requires first { self.old.second ≡ None }
+        requires left { IsTable self.old.schema self.old.head }
+        requires base { IsTable self.old.schema (St.View.table base.now) }
+        requires right { IsTable self.old.schema (St.View.table right.now) }
+        ensures reply { IfOk result (λ r. r ≡ (merged self.old from prefer (St.View.table base.now) (St.View.table right.now)).reply) }
+        ensures left { OnOk result (self.new ≡ with_merge self.old (merged self.old from prefer (St.View.table base.now) (St.View.table right.now))) }
+        ensures err { OnErr result (self.new ≡ self.old) }
+    {
+        if self.is_full() {
+            return Ok(versions_full(self.current));
+        }
+        match merge_tables(
+            self.allocator(),
+            &self.schema,
+            base,
+            &self.work,
+            right,
+            prefer,
+        ) {
+            Ok(changes) => {
+                let reply = self.adopt(from, &changes)?;
+                Ok(reply)
+            }
+            Err(
+                MergeStop::Conflict {
+                    relation,
+                    key,
+                    field,
+                },
+            ) => Ok(refused(Refusal::Conflict {
+                relation: relation_name(&self.schema, relation),
+                key,
+                field: field_name(&self.schema, relation, field),
+            })),
+            Err(MergeStop::Memory) => Err(AllocError),
+        }
+    }
+}

@@ -1,0 +1,3 @@
+pub mod Found
+pub mod Log
+pub mod Graph

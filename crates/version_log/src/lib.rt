@@ -1,0 +1,21 @@
+//! Versions of a store by name, and reports of which versions there are.
+//!
+//! The layers above rely on one statement: a name is found, and a log is told, as the definitions of
+//! `specs/` say of the store's dataset.
+//!
+//! | file | has |
+//! |---|---|
+//! | `specs/Found.antt` | what a version's name stands for |
+//! | `specs/Log.antt` | the log of a branch |
+//! | `specs/Graph.antt` | the graph: the logs of all branches |
+//! | `src/find.rt` | versions by name |
+//! | `src/log.rt`, `src/every.rt` | the log of a branch, and of every branch |
+#![tactic(auto)]
+
+mod every;
+mod find;
+mod log;
+
+pub use every::graph;
+pub use find::find_version;
+pub use log::log_branch;
