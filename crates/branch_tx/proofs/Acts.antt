@@ -21,9 +21,11 @@ use Rattle.stmt_text.specs.declared.stmt.NamedSet.{NamedSet}
 use Rattle.stmt_text.specs.declared.stmt.ScanOver.{ScanOver}
 use Rattle.stmt_text.specs.declared.stmt.ScanOver.TheVariants.{Current, Named, Heads}
 use Rattle.branch_tx.specs.Keeping.{Keeping}
-use Rattle.version_log.specs.Found.{plain}
+use Rattle.db_store.specs.Found.{plain}
 use Rattle.branch_tx.specs.Found.{Source, Own, Other, Lacking, first_lacking}
-use Rattle.branch_tx.specs.Act.{Tx, Outcome, Ground, relation_named, resolved, refused, answered, unless, column_refusal, changed_to, insert_of, update_in, update_of, delete_of, get_from, source_at, get_of, marked, union_marked, pairs_of, unlike, contents_from, rows_from, scan_versions, scan_over, scan_of, join_in, join_with, join_of, minus_of, act}
+use Rattle.branch_tx.specs.Act.{Tx, Outcome, Ground, refused, answered, unless, changed_to, insert_of, update_in, update_of, delete_of, get_from, source_at, get_of, marked, union_marked, pairs_of, unlike, contents_from, rows_from, scan_versions, scan_over, scan_of, join_in, join_with, join_of, minus_of, act}
+use Rattle.line_needs.specs.Columns.{relation_named, resolved}
+use Rattle.line_needs.specs.Early.{column_refusal}
 use Rattle.branch_tx.proofs.Images.{named_within}
 
 -- a reply that tells nothing more

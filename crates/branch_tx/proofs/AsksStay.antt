@@ -20,10 +20,11 @@ use Rattle.lock_table.specs.declared.need.Need.{Need}
 use Rattle.stmt_text.specs.declared.stmt.ScanOver.{ScanOver}
 use Rattle.stmt_text.specs.declared.stmt.ScanOver.TheVariants.{Current, Named, Heads}
 use Rattle.branch_tx.specs.Keeping.{Keeping, over_table}
-use Rattle.version_log.specs.Found.{Found, NoBranch, NoPosition, Head, Fixed, found_by, found, branch_names, plain}
+use Rattle.db_store.specs.Found.{Found, NoBranch, NoPosition, Head, Fixed, found_by, found, branch_names, plain}
 use Rattle.branch_tx.specs.Found.{Source, Own, Other, source_of, lacking, lacking_or, first_lacking}
-use Rattle.branch_tx.specs.Act.{Tx, Outcome, answered, unless, column_refusal, marked, union_marked, pairs_of, unlike, contents_from, rows_from, scan_versions, scan_over, scan_of, join_in, join_of, minus_of}
-use Rattle.branch_tx.specs.Needs.{catalogue, lock_of, shared, found_needs, names_needs, branch_needs, scan_needs}
+use Rattle.branch_tx.specs.Act.{Tx, Outcome, answered, unless, marked, union_marked, pairs_of, unlike, contents_from, rows_from, scan_versions, scan_over, scan_of, join_in, join_of, minus_of}
+use Rattle.line_needs.specs.Early.{column_refusal}
+use Rattle.line_needs.specs.Needs.{catalogue, lock_of, shared, found_needs, names_needs, branch_needs, scan_needs}
 use Rattle.branch_tx.specs.Frame.{Within}
 use Rattle.branch_tx.proofs.Entries.{Frame, named_there}
 use Rattle.branch_tx.proofs.ReadsStay.{found_stays, head_stays}

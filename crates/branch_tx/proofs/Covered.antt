@@ -18,12 +18,14 @@ use Rattle.stmt_text.specs.declared.stmt.Stmt.TheVariants.{Insert, Update, Delet
 use Rattle.stmt_text.specs.declared.stmt.ScanOver.{ScanOver}
 use Rattle.stmt_text.specs.declared.stmt.ScanOver.TheVariants.{Current, Named, Heads}
 use Rattle.branch_tx.specs.Keeping.{Keeping, over_table}
-use Rattle.version_log.specs.Found.{found, branch_names, plain}
+use Rattle.db_store.specs.Found.{found, branch_names, plain}
 use Rattle.branch_tx.specs.Found.{Source, Own, Other, Lacking, source_of, lacking, lacking_or, first_lacking}
-use Rattle.branch_tx.specs.Act.{Tx, Outcome, relation_named, refused, answered, unless, column_refusal, get_from, get_of, marked, union_marked, pairs_of, unlike, contents_from, rows_from, scan_versions, scan_over, scan_of, join_of, minus_of, act}
+use Rattle.branch_tx.specs.Act.{Tx, Outcome, refused, answered, unless, get_from, get_of, marked, union_marked, pairs_of, unlike, contents_from, rows_from, scan_versions, scan_over, scan_of, join_of, minus_of, act}
+use Rattle.line_needs.specs.Columns.{relation_named}
+use Rattle.line_needs.specs.Early.{column_refusal}
 use Rattle.branch_tx.specs.Alone.{ground_of}
 use Rattle.branch_tx.specs.Granted.{Granted, has_done, is_current, lent_table, lent_source, source_in, names_or_none, ground_in, tx_in, acted}
-use Rattle.branch_tx.specs.Early.{is_early}
+use Rattle.line_needs.specs.Early.{is_early}
 use Rattle.branch_tx.specs.Frame.{step_over}
 use Rattle.branch_tx.specs.Covers.{holds_alone, has_version, has_at, has_heads, has_over, is_granted, covers, IsGrantedOn, CoveredLaw}
 use Rattle.branch_tx.proofs.EarlyLines.{early_why, early_refused, act_early}

@@ -20,11 +20,13 @@ use Rattle.stmt_text.specs.declared.stmt.NamedSet.{NamedSet}
 use Rattle.stmt_text.specs.declared.stmt.ScanOver.{ScanOver}
 use Rattle.stmt_text.specs.declared.stmt.ScanOver.TheVariants.{Current, Named, Heads}
 use Rattle.branch_tx.specs.Keeping.{Keeping}
-use Rattle.version_log.specs.Found.{plain}
+use Rattle.db_store.specs.Found.{plain}
 use Rattle.branch_tx.specs.Found.{Source, first_lacking}
-use Rattle.branch_tx.specs.Act.{Tx, Outcome, Ground, relation_named, resolved, refused, unless, column_refusal, insert_of, update_in, update_of, delete_of, get_of, scan_over, scan_of, join_of, minus_of, act}
+use Rattle.branch_tx.specs.Act.{Tx, Outcome, Ground, refused, unless, insert_of, update_in, update_of, delete_of, get_of, scan_over, scan_of, join_of, minus_of, act}
+use Rattle.line_needs.specs.Columns.{relation_named, resolved}
+use Rattle.line_needs.specs.Early.{column_refusal}
 use Rattle.branch_tx.specs.Alone.{ground_of, told, told_of, has_changed, step}
-use Rattle.branch_tx.specs.Early.{outside_refusal, inside_refusal, first_refusal, relation_refusal, count_refusal, unresolved_refusal, set_refusal, ask_refusal, join_refusal, early_refusal, is_early}
+use Rattle.line_needs.specs.Early.{outside_refusal, inside_refusal, first_refusal, relation_refusal, count_refusal, unresolved_refusal, set_refusal, ask_refusal, join_refusal, early_refusal, is_early}
 use Rattle.branch_tx.proofs.Acts.{is_done}
 
 -- ---- why it is refused

@@ -14,7 +14,7 @@ use Rattle.db_store.specs.Order.{IsOrdered, common}
 use Rattle.db_store.specs.Sound.{IsSound}
 use Rattle.db_store.proofs.OrderMade.{common_stays}
 use Rattle.db_store.proofs.SoundLemmas.{version_stays, position_same, position_kept, commit_count, commit_other, begun_other}
-use Rattle.branch_tx.specs.Needs.{catalogue, lock_of}
+use Rattle.line_needs.specs.Needs.{catalogue, lock_of}
 use Rattle.branch_tx.specs.Frame.{Spares}
 
 -- t is s after an entry that spares the locks N

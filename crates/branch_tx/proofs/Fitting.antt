@@ -31,7 +31,7 @@ use Rattle.field_merge.proofs.OrderLemmas.{merged_within, merged_fits, merged_as
 use Rattle.stmt_text.specs.declared.stmt.Stmt.{Stmt}
 use Rattle.stmt_text.specs.declared.stmt.Stmt.TheVariants.{Begin}
 use Rattle.branch_tx.specs.Keeping.{over_table}
-use Rattle.version_log.specs.Found.{found, found_by, lack, place_found, NoPosition}
+use Rattle.db_store.specs.Found.{found, found_by, lack, place_found, NoPosition}
 use Rattle.branch_tx.specs.Act.{Tx}
 use Rattle.branch_tx.specs.Merging.{merge_refusal, put_all}
 use Rattle.branch_tx.specs.Alone.{fresh, room_of, ground_of, common_table, place_in, overlaid}

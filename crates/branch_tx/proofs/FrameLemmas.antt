@@ -19,14 +19,15 @@ use Rattle.stmt_text.specs.declared.stmt.Stmt.{Stmt}
 use Rattle.stmt_text.specs.declared.stmt.Stmt.TheVariants.{Begin, Commit, Abort, On, LogOf, Graph, Branch, Merge, Insert, Update, Delete, Get, Scan, Join, Minus}
 use Rattle.stmt_text.specs.declared.stmt.ScanOver.{ScanOver}
 use Rattle.branch_tx.specs.Keeping.{Keeping, over_table}
-use Rattle.version_log.specs.Found.{Found, found, lack, branch_names}
+use Rattle.db_store.specs.Found.{Found, found, lack, branch_names}
 use Rattle.branch_tx.specs.Found.{Source, Own, Other, Lacking, source_of}
-use Rattle.branch_tx.specs.Act.{Tx, Outcome, relation_named, refused, answered, get_from, get_of, scan_of, join_of, minus_of, act}
+use Rattle.branch_tx.specs.Act.{Tx, Outcome, refused, answered, get_from, get_of, scan_of, join_of, minus_of, act}
+use Rattle.line_needs.specs.Columns.{relation_named}
 use Rattle.version_log.specs.Log.{log_of}
 use Rattle.branch_tx.specs.Merging.{merge_in}
 use Rattle.branch_tx.specs.Alone.{ground_of, told_of, made_next, common_table, merge_named, place_in, on_of, branch_as, branch_of, overlaid}
-use Rattle.branch_tx.specs.Early.{is_early}
-use Rattle.branch_tx.specs.Needs.{catalogue, lock_of, found_needs, source_needs, names_needs, branch_needs, scan_needs, on_needs, log_needs, merge_needs, stmt_needs, needs, shared, exclusive}
+use Rattle.line_needs.specs.Early.{is_early}
+use Rattle.line_needs.specs.Needs.{catalogue, lock_of, found_needs, source_needs, names_needs, branch_needs, scan_needs, on_needs, log_needs, merge_needs, stmt_needs, needs, shared, exclusive}
 use Rattle.branch_tx.specs.Frame.{Whole, and_then, is_changed, step_over, whole, apply_all, AllFit, Within, AllWithin, AllSpare, LockOf, FrameLaw}
 use Rattle.branch_tx.proofs.Entries.{Frame, frame_entry, named_there}
 use Rattle.branch_tx.proofs.EarlyLines.{early_why, early_refused, told_answer, told_refusal, scan_asks, join_asks, minus_asks}

@@ -23,9 +23,11 @@ use Rattle.stmt_text.specs.declared.stmt.NamedSet.{NamedSet}
 use Rattle.stmt_text.specs.declared.stmt.ScanOver.{ScanOver}
 use Rattle.stmt_text.specs.declared.stmt.ScanOver.TheVariants.{Current, Named, Heads}
 use Rattle.branch_tx.specs.Keeping.{Keeping}
-use Rattle.version_log.specs.Found.{Found, found, lack, branch_names, plain}
+use Rattle.db_store.specs.Found.{Found, found, lack, branch_names, plain}
 use Rattle.branch_tx.specs.Found.{Source, Own, Other, Lacking, source_of, first_lacking}
-use Rattle.branch_tx.specs.Act.{Tx, Outcome, Ground, relation_named, resolved, updated, insert_refusal, change_refusal, unless, column_refusal, unless_full, fields_at, has_space, has_room, changed_to, insert_of, update_in, update_of, delete_of, get_from, source_at, get_of, scan_versions, scan_over, scan_of, join_with, join_of, minus_of, act}
+use Rattle.branch_tx.specs.Act.{Tx, Outcome, Ground, updated, insert_refusal, change_refusal, unless, unless_full, fields_at, has_space, has_room, changed_to, insert_of, update_in, update_of, delete_of, get_from, source_at, get_of, scan_versions, scan_over, scan_of, join_with, join_of, minus_of, act}
+use Rattle.line_needs.specs.Columns.{relation_named, resolved}
+use Rattle.line_needs.specs.Early.{column_refusal}
 use Rattle.branch_tx.specs.Merging.{refusal_of_merge, put_all, merged_to}
 use Rattle.branch_tx.specs.Alone.{ground_of, common_table, place_in, room_of, on_of, branch_as, has_changed, merge_named, step}
 use Rattle.branch_tx.proofs.Private.{State}

@@ -1,8 +1,6 @@
 pub mod WideLemmas
 pub mod Spellings
 pub mod LentLemmas
-pub mod SetLemmas
-pub mod TermLemmas
 pub mod Private
 pub mod Images
 pub mod WithSets

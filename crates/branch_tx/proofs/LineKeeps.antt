@@ -11,12 +11,13 @@ use Rattle.lock_table.specs.Grants.{Has}
 use Rattle.stmt_text.specs.declared.stmt.Stmt.{Stmt}
 use Rattle.stmt_text.specs.declared.stmt.Stmt.TheVariants.{Begin, Commit, Abort, On, LogOf, Graph, Branch, Merge, Insert, Update, Delete, Get, Scan, Join, Minus}
 use Rattle.branch_tx.specs.Keeping.{Keeping, over_table}
-use Rattle.version_log.specs.Found.{branch_names, found, lack}
+use Rattle.db_store.specs.Found.{branch_names, found, lack}
 use Rattle.branch_tx.specs.Found.{Source, source_of}
-use Rattle.branch_tx.specs.Act.{Tx, Outcome, relation_named}
+use Rattle.branch_tx.specs.Act.{Tx, Outcome}
+use Rattle.line_needs.specs.Columns.{relation_named}
 use Rattle.branch_tx.specs.Alone.{ground_of, room_of, place_in}
-use Rattle.branch_tx.specs.Early.{is_early}
-use Rattle.branch_tx.specs.Needs.{catalogue, lock_of, exclusive, merge_needs, stmt_needs, needs}
+use Rattle.line_needs.specs.Early.{is_early}
+use Rattle.line_needs.specs.Needs.{catalogue, lock_of, exclusive, merge_needs, stmt_needs, needs}
 use Rattle.branch_tx.specs.Frame.{is_changed, whole, step_over, Within, AllWithin}
 use Rattle.branch_tx.proofs.Keeps.{IsBranch, cond_keeps, act_keeps, get_keeps, scan_keeps, join_keeps, minus_keeps, on_keeps, branch_keeps, merge_keeps}
 use Rattle.branch_tx.proofs.EarlyLines.{early_refused}

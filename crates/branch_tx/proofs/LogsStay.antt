@@ -9,7 +9,7 @@ use Rattle.db_store.specs.Sound.{IsSound}
 use Rattle.db_store.proofs.StateLemmas.{proper_made}
 use Rattle.version_log.specs.Log.{name_of, name_if, made_line, log_line, log_down, branch_log, log_of}
 use Rattle.version_log.specs.Graph.{first_logs, graph_of}
-use Rattle.branch_tx.specs.Needs.{catalogue, lock_of}
+use Rattle.line_needs.specs.Needs.{catalogue, lock_of}
 use Rattle.branch_tx.proofs.Entries.{Frame}
 
 module _ (N : ℕ → Type 0) (s t : Dataset) (f : Frame N s t) (sound : IsSound s) where

@@ -11,11 +11,11 @@ use Rattle.db_store.specs.Dataset.{Branch, Dataset, Version, branch_at, branch_n
 use Rattle.db_store.specs.Fits.{most_versions}
 use Rattle.std.proofs.lemmas.Bool.{lt-ltb}
 use Rattle.branch_tx.specs.Keeping.{over_table}
-use Rattle.version_log.specs.Found.{Found, NoBranch, NoPosition, Head, Fixed, found_by, position_found, place_found, found}
+use Rattle.db_store.specs.Found.{Found, NoBranch, NoPosition, Head, Fixed, found_by, position_found, place_found, found}
 use Rattle.branch_tx.specs.Found.{Own, Other, source_of}
 use Rattle.branch_tx.specs.Act.{Tx, Outcome, get_from}
 use Rattle.branch_tx.specs.Alone.{ground_of, made_next, told, told_of}
-use Rattle.branch_tx.specs.Needs.{catalogue, lock_of, found_needs}
+use Rattle.line_needs.specs.Needs.{catalogue, lock_of, found_needs}
 use Rattle.branch_tx.specs.Frame.{Within}
 use Rattle.branch_tx.proofs.Entries.{Frame, named_there}
 

@@ -9,12 +9,14 @@ use Rattle.db_value.specs.declared.record.Marked.{Marked}
 use Rattle.db_value.specs.declared.condition.Term.{Term}
 use Rattle.db_store.specs.Table.{Table, relation_at}
 use Rattle.db_store.specs.Overlay.{Overlay}
+use Rattle.db_store.specs.Rows.{rows_where}
 use Rattle.stmt_text.specs.declared.stmt.Stmt.TheVariants.{Scan, Join, Minus}
 use Rattle.stmt_text.specs.declared.stmt.ScanOver.{ScanOver}
-use Rattle.multi_scan.specs.Multi.{rows_where, union_marked, multi}
+use Rattle.multi_scan.specs.Multi.{union_marked, multi}
 use Rattle.branch_tx.specs.Keeping.{over_table}
 use Rattle.branch_tx.specs.Found.{Source, Own, Other, Lacking, lacking, lacking_or, first_lacking}
-use Rattle.branch_tx.specs.Act.{Tx, rows_from, contents_from, answered, unless, relation_named, scan_versions}
+use Rattle.branch_tx.specs.Act.{Tx, rows_from, contents_from, answered, unless, scan_versions}
+use Rattle.line_needs.specs.Columns.{relation_named}
 use Rattle.branch_tx.specs.Granted.{Granted, same_version, lent_table, source_in, names_or_none, tx_in, left, table_from}
 use Rattle.branch_tx.specs.TxState.{AllWide}
 use Rattle.branch_tx.proofs.Keeps.{scan_keeps, join_keeps, minus_keeps}

@@ -1,9 +1,8 @@
 -- What a statement that reads or changes records does in a transaction.
-use Rattle.std.specs.Prelude.{ℕ, ◌==◌, ◌||◌, nat_lt, cond, Bool, true, false, List, [], ◌∷◌, length, map, position, Option, Some, None, Result, Ok, Err}
+use Rattle.std.specs.Prelude.{ℕ, ◌==◌, ◌||◌, nat_lt, cond, Bool, true, false, List, [], ◌∷◌, length, map, Option, Some, None, Result, Ok, Err}
 use Rattle.std.specs.FinMap as finite
 use Rattle.std.specs.List.{filter}
 use Rattle.db_value.specs.Value.{Value}
-use Rattle.db_value.specs.Text.{same}
 use Rattle.db_value.specs.Relations.{columns_at}
 use Rattle.db_value.specs.Condition.{holds}
 use Rattle.db_value.specs.Pred.{first_unknown}
@@ -20,15 +19,18 @@ use Rattle.db_value.specs.declared.reply.Refusal.TheVariants.{Line, InTransactio
 use Rattle.db_store.specs.Table.{Contents, relation_at, rows_of}
 use Rattle.db_store.specs.Fits.{most_keys}
 use Rattle.db_store.specs.Work.{with_sets}
-pub use Rattle.multi_scan.specs.Multi.{marked, union_marked}
+pub use Rattle.db_store.specs.Rows.{marked}
+pub use Rattle.multi_scan.specs.Multi.{union_marked}
 pub use Rattle.version_join.specs.Join.{pairs_of, unlike}
 use Rattle.stmt_text.specs.declared.stmt.Stmt.{Stmt}
 use Rattle.stmt_text.specs.declared.stmt.Stmt.TheVariants.{Begin, On, Branch, Merge, Insert, Update, Delete, Get, Scan, Join, Minus}
 use Rattle.stmt_text.specs.declared.stmt.NamedSet.{NamedSet}
 use Rattle.stmt_text.specs.declared.stmt.ScanOver.{ScanOver}
 use Rattle.stmt_text.specs.declared.stmt.ScanOver.TheVariants.{Current, Named, Heads}
+use Rattle.line_needs.specs.Columns.{relation_named, resolved}
+use Rattle.line_needs.specs.Early.{column_refusal}
 use Rattle.branch_tx.specs.Keeping.{Keeping}
-use Rattle.version_log.specs.Found.{plain}
+use Rattle.db_store.specs.Found.{plain}
 use Rattle.branch_tx.specs.Found.{Source, Own, Other, Lacking, first_lacking}
 
 -- a transaction: whether `begin` opened it, its room for touched keys, and how it keeps its working table; the second parent that a merge gives, a branch that it makes, and the branch to which it moves its session
@@ -50,29 +52,6 @@ pub record Ground : Type 0 where
   pub schema : List Relation
   pub name : List ℕ
   pub full : Bool
-
--- the number of the relation with a name
-abbrev pub relation_named : List Relation → List ℕ → Option ℕ
-relation_named schema name = position (λ r. same r.name name) schema
-
--- the number of the column with a name
-abbrev pub column_named : List (List ℕ) → List ℕ → Option ℕ
-column_named columns name = position (λ c. same c name) columns
-
--- a new value of a column
-abbrev pub set_at : ℕ → NamedSet → Set
-set_at column s = record { column = column; value = s.value }
-
--- a new value of the column with a name, in front of others
-abbrev pub set_onto : NamedSet → Option ℕ → Result (List Set) (List ℕ) → Result (List Set) (List ℕ)
-set_onto s None rest = Err s.column
-set_onto s (Some c) (Err name) = Err name
-set_onto s (Some c) (Ok sets) = Ok (set_at c s ∷ sets)
-
--- new values by the numbers of their columns, or the first name that no column has
-abbrev pub resolved : List (List ℕ) → List NamedSet → Result (List Set) (List ℕ)
-resolved columns [] = Ok []
-resolved columns (s ∷ ss) = set_onto s (column_named columns s.column) (resolved columns ss)
 
 -- why a record isn't inserted: the branch is full, the key is there, the relation is full, or the room is used up
 abbrev pub insert_refusal : List ℕ → ℕ → ℕ → Option (List Value) → Bool → Bool → Option Refusal
@@ -107,11 +86,6 @@ answered tx reply = record { tx = tx; reply = reply }
 abbrev pub unless : {W : Type 0} → Tx W → Option Refusal → Outcome W → Outcome W
 unless tx None o = o
 unless tx (Some why) o = refused tx why
-
--- a condition is refused where it names a column that isn't there
-abbrev pub column_refusal : Option (List ℕ) → Option Refusal
-column_refusal None = None
-column_refusal (Some column) = Some (NoColumn column)
 
 -- a question with a condition on the rows of a relation with these columns
 abbrev pub where_known : {W : Type 0} → Tx W → List (List ℕ) → List Term → ((Record → Bool) → Outcome W) → Outcome W

@@ -16,7 +16,7 @@ use Rattle.db_store.specs.Fits.{most_branches, most_versions}
 use Rattle.stmt_text.specs.declared.stmt.Stmt.{Stmt}
 use Rattle.stmt_text.specs.declared.stmt.Stmt.TheVariants.{Begin, Commit, Abort, On, LogOf, Graph, Branch, Merge}
 use Rattle.branch_tx.specs.Keeping.{Keeping, Private, private_copy, privately, over_table}
-use Rattle.version_log.specs.Found.{Found, Fixed, Head, NoBranch, NoPosition, branch_names, found, lack}
+use Rattle.db_store.specs.Found.{Found, Fixed, Head, NoBranch, NoPosition, branch_names, found, lack}
 use Rattle.version_log.specs.Log.{log_of}
 use Rattle.version_log.specs.Graph.{graph_of}
 use Rattle.branch_tx.specs.Found.{source_of}

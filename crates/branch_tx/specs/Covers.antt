@@ -7,11 +7,11 @@ use Rattle.stmt_text.specs.declared.stmt.Stmt.{Stmt}
 use Rattle.stmt_text.specs.declared.stmt.Stmt.TheVariants.{Insert, Update, Delete, Get, Scan, Join, Minus}
 use Rattle.stmt_text.specs.declared.stmt.ScanOver.{ScanOver}
 use Rattle.stmt_text.specs.declared.stmt.ScanOver.TheVariants.{Current, Named, Heads}
-use Rattle.version_log.specs.Found.{found, branch_names, plain}
+use Rattle.db_store.specs.Found.{found, branch_names, plain}
 use Rattle.branch_tx.specs.Found.{source_of}
 use Rattle.branch_tx.specs.Alone.{ground_of}
 use Rattle.branch_tx.specs.Granted.{Granted, has_done, is_current, lent_table, source_in, ground_in, tx_in, acted}
-use Rattle.branch_tx.specs.Early.{is_early}
+use Rattle.line_needs.specs.Early.{is_early}
 use Rattle.branch_tx.specs.Frame.{step_over}
 
 -- its branch is granted exclusively

@@ -3,7 +3,7 @@ use Rattle.std.specs.Prelude.{ℕ, ◌==◌, cond, List, [], ◌∷◌, Option, 
 use Rattle.db_value.specs.declared.reply.Refusal.{Refusal}
 use Rattle.db_value.specs.declared.reply.Refusal.TheVariants.{NoBranch as RefusedBranch, NoVersion as RefusedVersion}
 use Rattle.db_store.specs.Table.{Table}
-use Rattle.version_log.specs.Found.{Found, NoBranch, NoPosition, Head, Fixed}
+use Rattle.db_store.specs.Found.{Found, NoBranch, NoPosition, Head, Fixed}
 
 -- where a transaction on branch b finds a version that is named: the plain name of its own branch means its working table
 pub data Source : Type 0 where

@@ -13,7 +13,7 @@ use Rattle.stmt_text.specs.declared.stmt.Stmt.{Stmt}
 use Rattle.branch_tx.specs.Keeping.{over_table}
 use Rattle.branch_tx.specs.Act.{Tx, Outcome}
 use Rattle.branch_tx.specs.Alone.{fresh, step}
-use Rattle.branch_tx.specs.Needs.{catalogue, lock_of, needs}
+use Rattle.line_needs.specs.Needs.{catalogue, lock_of, needs}
 
 -- what lines run alone gave: the transaction after them, and for each line its reply and its needs, newest first
 pub record Whole : Type 0 where

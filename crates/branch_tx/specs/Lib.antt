@@ -7,8 +7,6 @@ pub mod Granted
 pub mod Lending
 pub mod Stops
 pub mod TxState
-pub mod Early
-pub mod Needs
 pub mod Frame
 pub mod Covers
 pub mod Laws

@@ -4,9 +4,10 @@ ghost use Rattle.std.specs.List.{All};
 ghost use Rattle.db_value.specs.Relations.{columns_at};
 ghost use Rattle.db_value.specs.Condition.{holds};
 ghost use Rattle.db_value.specs.Pred.{pred_holds, first_unknown};
-ghost use Rattle.multi_scan.specs.Multi.{multi, marked, rows_where};
+ghost use Rattle.db_store.specs.Rows.{marked, rows_where};
+ghost use Rattle.multi_scan.specs.Multi.{multi};
 ghost use Rattle.version_join.specs.Join.{join_of, minus_of};
-ghost use Rattle.version_log.specs.Found.{plain};
+ghost use Rattle.db_store.specs.Found.{plain};
 
 use db_store::View;
 use db_value::{

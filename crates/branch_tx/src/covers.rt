@@ -2,16 +2,16 @@
 ghost use Rattle.std.specs.Prelude.{◌≡◌};
 
 use crate::Tx;
-use crate::early::is_early;
 use db_store::Store;
 use db_value::{Name, VersionName};
+use line_needs::is_early;
 use stmt_text::{ScanOver, Stmt};
 
 impl<St: Store> Tx<St> {
     ghost use Rattle.std.specs.Prelude.{is_some};
     ghost use Rattle.std.specs.Prelude.{◌&&◌};
     ghost use Rattle.std.specs.List.{list_all};
-    ghost use Rattle.version_log.specs.Found.{plain};
+    ghost use Rattle.db_store.specs.Found.{plain};
     ghost use Rattle.branch_tx.specs.Covers.{holds_alone, has_version, has_at, has_heads, has_over, is_granted, covers};
 
     /// Is its branch granted?

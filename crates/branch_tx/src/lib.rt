@@ -13,21 +13,18 @@
 //! | `specs/Alone.antt` | one transaction alone |
 //! | `specs/Granted.antt` | a granted transaction by itself |
 //! | `specs/Lending.antt` | the names under which versions were lent, and a map that finds them |
-//! | `specs/Needs.antt` | what a line needs of the lock table |
 //! | `specs/Covers.antt` | which statements a granted transaction answers by itself |
 //! | `specs/Frame.antt` | a transaction's replies and needs, which entries of others leave |
 //! | `specs/Laws.antt`, `src/laws.rt` | laws, each the contract of a function that does nothing |
 //! | `src/tx.rt`, `src/questions.rt` | the granted transaction, and its questions to versions |
 //! | `src/lent.rt`, `src/key.rt` | the versions that were lent to it, and names of versions in an order |
 //! | `src/covers.rt` | which statements it answers by itself |
-//! | `src/early.rt` | refusals that look at no lock |
 //! | `src/look.rt`, `src/ask.rt` | reading in a view, and questions to views |
-//! | `src/sets.rt`, `src/refuse.rt` | new values by column, and refusals |
+//! | `src/refuse.rt` | refusals |
 #![tactic(auto)]
 
 mod ask;
 mod covers;
-mod early;
 mod key;
 pub mod laws;
 mod lent;
@@ -35,9 +32,7 @@ mod look;
 mod merge;
 mod questions;
 mod refuse;
-mod sets;
 mod tx;
 
 pub use ask::plain_names;
-pub use early::{early_refusal, is_early};
 pub use tx::{Mark, Tx};

@@ -18,7 +18,7 @@ impl<St: Store> Tx<St> {
     ghost use Rattle.db_value.specs.Condition.{holds};
     ghost use Rattle.db_value.specs.Relations.{columns_at};
     ghost use Rattle.db_store.specs.SeenState.{seen_table};
-    ghost use Rattle.version_log.specs.Found.{plain};
+    ghost use Rattle.db_store.specs.Found.{plain};
     ghost use Rattle.branch_tx.specs.Found.{lacking, first_lacking};
     ghost use Rattle.branch_tx.specs.Act.{scan_versions, scan_over, join_in, minus_in};
     ghost use Rattle.branch_tx.specs.Granted.{source_in, names_or_none, table_from};

@@ -7,15 +7,14 @@ ghost use Rattle.branch_tx.specs.Keeping.{over_table};
 ghost use Rattle.branch_tx.specs.Alone.{commit_entry};
 ghost use Rattle.branch_tx.specs.Granted.{ungranted, tx_in, has_done, acted, left, lent_table};
 
-use crate::early::column_count;
 use crate::lent::Lending;
 use crate::look::find_record;
 use crate::refuse::{no_column, no_relation, refusal_of, refused, value_count, versions_full};
-use crate::sets::resolve;
 use db_store::{Store, View, Work};
 use db_value::{
     Entry, Fields, Name, Names, Record, Refusal, Reply, Schema, Sets, VersionName, VersionPlace,
 };
+use line_needs::{column_count, resolve};
 use std::alloc::{AllocError, Global};
 use std::marker::Model;
 use stmt_text::{NamedSets, Stmt};
@@ -84,15 +83,15 @@ impl<St: Store> Model for Tx<St> {
 
 impl<St: Store> Tx<St> {
     ghost use Rattle.std.specs.Prelude.{◌<◌, ◌≤◌, Ok, Err, IfSome, is_some, cond, take};
-    ghost use Rattle.db_store.specs.Work.{insert_stop};
-    ghost use Rattle.branch_tx.specs.Act.{insert_of, insert_in, update_of, update_in, delete_of, get_of, get_from, source_at};
+    ghost use Rattle.branch_tx.specs.Act.{insert_in, update_in, get_from, source_at};
     ghost use Rattle.branch_tx.specs.Granted.{ground_in, source_in, with_work, placed, renewed, removed, is_current, record_in};
     ghost use Rattle.std.specs.FinMap as finite;
     ghost use Rattle.db_store.specs.Table.{relation_at};
     ghost use Rattle.db_store.specs.Overlay.{laid};
-    ghost use Rattle.branch_tx.specs.Act.{record_with, resolved};
+    ghost use Rattle.branch_tx.specs.Act.{record_with};
+    ghost use Rattle.line_needs.specs.Columns.{resolved};
     ghost use Rattle.db_value.specs.Relations.{columns_at};
-    ghost use Rattle.branch_tx.specs.Act.{relation_named};
+    ghost use Rattle.line_needs.specs.Columns.{relation_named};
 
     /// A transaction on the branch of this name, to which nothing is granted yet.
     pub fn over(

@@ -1,7 +1,6 @@
 //! The board: a dataset, and the lines that were run on it.
-ghost use Rattle.std.specs.Prelude.{◌≡◌, ◌++◌, ◌∷◌, ℕ, List, [], None, false, length, IfOk, OnOk, OnErr};
-ghost use Rattle.db_store.specs.State.{State, dataset_of};
-ghost use Rattle.lock_table.specs.Rows.{Table};
+ghost use Rattle.std.specs.Prelude.{◌≡◌, ◌++◌, ◌∷◌, List, [], None, false, IfOk, OnOk, OnErr};
+ghost use Rattle.db_store.specs.State.{dataset_of};
 ghost use Rattle.stmt_text.specs.declared.stmt.Stmt.{Stmt};
 ghost use Rattle.entry_codec.specs.Count.{counted};
 ghost use Rattle.reply_text.specs.Reply.{NamesItsRows};
@@ -180,7 +179,7 @@ impl<St: Store, J: Log<St>> Board<St, J> {
 impl<St: Store, J: Log<St>> Board<St, J> {
     ghost use Rattle.std.specs.Prelude.{◌≢◌, ◌⊎◌, is_some, Some, true};
     ghost use Rattle.lock_table.specs.Rows.{Row, holder};
-    ghost use Rattle.branch_tx.specs.Needs.{needs};
+    ghost use Rattle.line_needs.specs.Needs.{needs};
     ghost use Rattle.db_core.specs.Desk.{Agrees, entered, cleared, grant_of, rows_by, IsMoreIf, IsReadyIf, KeepsIf};
     ghost use Rattle.db_core.specs.Ends.{grown};
     ghost use Rattle.db_core.specs.Sits.{AllGranted, done_in, step_over, tx_of, entry_over, branch_out, branch_entry};
@@ -210,6 +209,7 @@ impl<St: Store, J: Log<St>> Board<St, J> {
         requires agree { Agrees self.old desk.old }
         requires line { said_of text.now false ≡ heard desk.old.session stmt.now }
         ensures reply { IfOk result (λ r. (later : List Said) → AllHaveRoom later → r ≡ reply_in (world_of (entered self.old desk.old)) (said_of text.now false) later) }
+        ensures named { IfOk result NamesItsRows }
         ensures steps { OnOk result (saids self.new.steps ≡ saids (entered self.old desk.old).steps ++ said_of text.now false ∷ []) }
         ensures waiting { OnOk result (desk.new.waiting ≡ []) }
         ensures agree { Agrees self.new desk.new }

@@ -10,3 +10,4 @@ pub mod WorkLemmas
 pub mod CountLemmas
 pub mod AdoptLemmas
 pub mod OrderMade
+pub mod RowLemmas

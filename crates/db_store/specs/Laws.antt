@@ -1,8 +1,11 @@
--- What growth keeps.
-use Rattle.std.specs.Prelude.{◌≡◌, ℕ, true, List}
+-- What growth keeps, and which rows are listed without a condition.
+use Rattle.std.specs.Prelude.{◌≡◌, ℕ, Bool, true, List}
 use Rattle.version_graph.specs.Ancestors.{IsLastCommon}
 use Rattle.db_value.specs.declared.version.VersionPlace.{VersionPlace}
 use Rattle.db_value.specs.declared.entry.Entry.{Entry}
+use Rattle.db_value.specs.declared.record.Record.{Record}
+use Rattle.db_store.specs.Table.{Table, relation_at, rows_of}
+use Rattle.db_store.specs.Rows.{rows_where}
 use Rattle.db_store.specs.Dataset.{Dataset, proper, new_dataset, apply, IsMade}
 use Rattle.db_store.specs.Order.{IsOrdered, lineage, number_of, common}
 use Rattle.db_store.specs.Sound.{IsSound}
@@ -54,3 +57,7 @@ CommonIsProper = (d : Dataset) (a b : VersionPlace) → IsSound d → IsOrdered 
 -- growth leaves it
 abbrev pub CommonStays : Type 0
 CommonStays = (d : Dataset) (e : Entry) (a b : VersionPlace) → IsSound d → IsOrdered d → fits d e ≡ true → IsMade d a → IsMade d b → common (apply d e) a b ≡ common d a b
+
+-- where the condition holds of every row, all rows are listed
+abbrev pub AllRows : Type 0
+AllRows = (p : Record → Bool) → ((row : Record) → p row ≡ true) → (r : ℕ) (t : Table) → rows_where p r t ≡ rows_of (relation_at t r)

@@ -1,5 +1,6 @@
 pub mod Table
 pub mod Dataset
+pub mod Found
 pub mod Fits
 pub mod Sound
 pub mod Counted
@@ -25,3 +26,4 @@ pub mod Rising
 pub mod Counts
 pub mod Adopt
 pub mod Order
+pub mod Rows

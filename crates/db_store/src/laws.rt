@@ -1,5 +1,5 @@
 //! Laws of the definitions: each function does nothing, and its contract is the law.
-ghost use Rattle.db_store.specs.Laws.{GrowthApplies, PartsStay, SoundStays, NewIsSound, CountedStays, NewIsCounted, OrderedStays, NewIsOrdered, CommonIsLast, CommonIsProper, CommonStays};
+ghost use Rattle.db_store.specs.Laws.{GrowthApplies, PartsStay, SoundStays, NewIsSound, CountedStays, NewIsCounted, OrderedStays, NewIsOrdered, CommonIsLast, CommonIsProper, CommonStays, AllRows};
 
 /// The dataset of a state grows as the model says.
 pub fn growth_applies()
@@ -46,4 +46,10 @@ pub fn common_ancestors()
     ensures last { CommonIsLast }
     ensures proper { CommonIsProper }
     ensures stays { CommonStays }
+{}
+
+/// Without a condition a relation has all its rows.
+#[tactic(auto, using(crate::proofs::RowLemmas::all_rows))]
+pub fn whole_relations()
+    ensures { AllRows }
 {}

@@ -13,6 +13,7 @@
 //! | `specs/State.antt`, `specs/Laws.antt` | states, and what growth keeps |
 //! | `specs/Parts.antt` | the parts of a view |
 //! | `src/view.rt`, `src/store.rt` | the traits |
+//! | `specs/Rows.antt`, `src/rows.rt` | the rows of one relation of a view, by key |
 //! | `src/laws.rt` | the laws, each the contract of a function that does nothing |
 //! | `specs/Overlay.antt`, `specs/Work.antt`, `specs/WorkParts.antt` | working tables and their parts |
 //! | `src/work.rt`, `src/work_view.rt` | the working table of a transaction, and the view that it is |
@@ -24,6 +25,7 @@
 mod adopt;
 pub mod laws;
 mod layer;
+mod rows;
 mod seen;
 mod store;
 mod touched;
@@ -31,6 +33,7 @@ mod view;
 mod work;
 mod work_view;
 
+pub use rows::{blank_record, list_all, list_rows, row_at};
 pub use seen::Seen;
 pub use store::{Parents, Store};
 pub use view::{PartInfo, Spot, View};

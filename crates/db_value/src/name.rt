@@ -1,5 +1,5 @@
 //! Names of relations, columns and branches.
-ghost use Rattle.std.specs.Prelude.{◌≡◌, ◌≤◌, ℕ, List, true, codes, length, IsTrue, IsSome, IfSome, ◌↔◌};
+ghost use Rattle.std.specs.Prelude.{◌≡◌, ◌≤◌, ℕ, List, true, codes, length, IsSome, IfSome, ◌↔◌};
 ghost use Rattle.std.specs.List.{list_all, list_any};
 ghost use Rattle.db_value.specs.Text.{is_name, is_reserved, starts_with_letter, is_name_byte, same};
 

@@ -15,7 +15,7 @@ use Rattle.db_store.specs.Table.{Contents, Table, relation_at, rows_of, changed,
 use Rattle.db_store.specs.TouchRules.{same_key}
 use Rattle.db_store.specs.OverlayRules.{get_change}
 use Rattle.db_store.specs.SameRows.{fields_in, fields_rows}
-use Rattle.multi_scan.proofs.Sorted.{all_append}
+use Rattle.db_store.proofs.RowLemmas.{all_append}
 use Rattle.field_merge.specs.Merge.{merge_at, merge_key, same_state, keys_of, put_key, union_keys, all_keys, change_where, clash_where, relation_changes, relation_clashes, table_changes, table_clashes}
 use Rattle.field_merge.proofs.KeyLemmas.{put_cases}
 

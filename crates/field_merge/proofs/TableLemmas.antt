@@ -1,14 +1,12 @@
 -- The merge relation by relation.
-use Rattle.std.proofs.Common.{◌≡◌, ℕ, suc, ◌==◌, ◌+◌, ◌-◌, ◌<◌, ◌≤◌, Bool, true, false, cond, List, [], ◌∷◌, ◌++◌, length, map, Some, Result, Err, refl, ap, sym, ◌∙◌, subst, arith}
+use Rattle.std.proofs.Common.{◌≡◌, ℕ, suc, ◌==◌, ◌+◌, ◌-◌, ◌<◌, ◌≤◌, Bool, true, false, cond, List, [], ◌∷◌, ◌++◌, length, Some, Result, Err, refl, ap, sym, ◌∙◌, subst, arith}
 use Rattle.std.specs.List.{flat_map, range_with_len}
 use Rattle.std.proofs.lemmas.Bool.{eqb-true, eq-eqb}
 use Rattle.std.proofs.lemmas.Option.{none-some}
 use Rattle.std.proofs.lemmas.List.{append-nil, append_assoc}
 use Rattle.db_value.specs.Value.{Value}
-use Rattle.db_value.specs.Pred.{pred_holds}
 use Rattle.db_value.specs.Relations.{columns_at}
 use Rattle.db_value.specs.declared.record.Record.{Record}
-use Rattle.db_value.specs.declared.record.Marked.{Marked}
 use Rattle.db_value.specs.declared.entry.Change.{Change}
 use Rattle.db_value.specs.declared.schema.Relation.{Relation}
 use Rattle.db_value.specs.declared.condition.Prefer.{Prefer}
@@ -16,18 +14,8 @@ use Rattle.db_store.specs.Table.{Contents, Table, relation_at, rows_of}
 use Rattle.db_store.specs.Counted.{IsTable}
 use Rattle.db_store.specs.Rising.{rises_rows}
 use Rattle.db_store.specs.SameRows.{fields_in, Apart, fields_rows, apart_rows}
-use Rattle.multi_scan.specs.Multi.{rows_where, marked}
-use Rattle.multi_scan.proofs.Views.{all_rows}
 use Rattle.field_merge.specs.Merge.{merge_at, all_keys, change_where, clash_where, relation_changes, relation_clashes, Clash, least_clash}
-use Rattle.field_merge.specs.Walk.{records_of, record_changes, record_clashes, HaveFields, AreSides}
-
-marked_records : (rows : List Record) → records_of (map marked rows) ≡ rows
-marked_records [] = refl
-marked_records (r ∷ rs) = ap (λ (t : List Record). r ∷ t) (marked_records rs)
-
--- a list of all rows has the rows of the relation
-pub listed_records : (rows : List Marked) (r : ℕ) (t : Table) → rows ≡ map marked (rows_where (pred_holds []) r t) → records_of rows ≡ rows_of (relation_at t r)
-listed_records rows r t e = ap records_of e ∙ marked_records (rows_where (pred_holds []) r t) ∙ all_rows (pred_holds []) (λ row. refl) r t
+use Rattle.field_merge.specs.Walk.{record_changes, record_clashes, HaveFields, AreSides}
 
 -- ---- the rows of a table's relation
 

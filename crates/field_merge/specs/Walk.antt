@@ -1,17 +1,12 @@
 -- The merge of three lists of records by ascending key, walked from the front.
-use Rattle.std.specs.Prelude.{◌≡◌, ℕ, ◌==◌, cond, min, List, [], ◌∷◌, map, length, Option, Some, None}
+use Rattle.std.specs.Prelude.{◌≡◌, ℕ, ◌==◌, cond, min, List, [], ◌∷◌, length, Option, Some, None}
 use Rattle.std.specs.List.{flat_map}
 use Rattle.db_value.specs.declared.record.Record.{Record}
-use Rattle.db_value.specs.declared.record.Marked.{Marked}
 use Rattle.db_value.specs.declared.entry.Change.{Change}
 use Rattle.db_value.specs.declared.condition.Prefer.{Prefer}
 use Rattle.db_store.specs.Rising.{Rises}
 use Rattle.db_store.specs.SameRows.{fields_in}
 use Rattle.field_merge.specs.Merge.{merge_at, keys_in, change_where, clash_where, Clash}
-
--- the records of rows of one view
-abbrev pub records_of : List Marked → List Record
-records_of rows = map (λ m. m.row) rows
 
 -- the changes that make the merge of records, by key
 abbrev pub record_changes : Prefer → ℕ → List Record → List Record → List Record → List Change

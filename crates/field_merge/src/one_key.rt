@@ -1,7 +1,7 @@
 //! The merge of three records that have one key.
 ghost use Rattle.std.specs.Prelude.{◌≡◌, ◌<◌, length};
 ghost use Rattle.std.specs.Option.{option_copied};
-ghost use Rattle.db_value.specs.Value.{value_eq, field_at};
+ghost use Rattle.db_value.specs.Value.{field_at};
 ghost use Rattle.field_merge.specs.Merge.{preferred, is_base, merge_field, merge_fields, merge_changed, same_state, of_fields};
 ghost use Rattle.field_merge.specs.Rows.{fields_if, field_if, key_in, merged_as, merge_rows, AreAsLong, AreVersions};
 

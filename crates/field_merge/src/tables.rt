@@ -1,5 +1,5 @@
 //! The merge of three tables.
-ghost use Rattle.std.specs.Prelude.{◌≡◌, ℕ, ◌+◌, ◌≤◌, ◌<◌, ◌++◌, [], Option, Ok, Err, Some, true, length, map, IfOk, OnOk};
+ghost use Rattle.std.specs.Prelude.{◌≡◌, ℕ, ◌+◌, ◌<◌, ◌++◌, [], Option, Ok, Err, Some, true, length, IfOk, OnOk};
 ghost use Rattle.std.specs.List.{list_all};
 ghost use Rattle.db_value.specs.Relations.{columns_at};
 ghost use Rattle.db_value.specs.declared.condition.Prefer.TheVariants.{Neither};
@@ -10,40 +10,37 @@ ghost use Rattle.db_store.specs.Fits.{ascends, change_fits};
 ghost use Rattle.field_merge.specs.declared.stop.MergeStop.TheVariants.{Conflict};
 ghost use Rattle.field_merge.specs.Merge.{merge_key, relation_changes, relation_clashes, table_changes, table_clashes, least_clash};
 ghost use Rattle.field_merge.specs.Named.{IsFieldOf};
-ghost use Rattle.field_merge.specs.Walk.{records_of};
 
 use crate::MergeStop;
 use crate::walk::merge_rows;
-use db_store::View;
-use db_value::{Change, Changes, ListOf, Pred, Prefer, Rows, Schema, Steps};
-use multi_scan::list;
+use db_store::{View, list_all};
+use db_value::{Change, Changes, ListOf, Prefer, Records, Schema, Steps};
 use std::alloc::{AllocError, Global};
 use std::marker::Brand;
 use std::sync::ledger::{Blank, Ledger};
 
 // The rows of a relation, where nobody counts the steps.
-#[tactic(auto, using(crate::proofs::TableLemmas::listed_records))]
 fn list_counted<V: View, L: Ledger>(
     alloc: Global,
     view: &V,
     relation: u8,
     blank: Blank,
-) -> Result<Rows, AllocError>
+) -> Result<Records, AllocError>
     requires relation { relation < length (V.table view.now) }
     requires name { blank.name ≡ L.name }
     requires parts { blank.parts ≡ L.parts }
     requires some { 0 < L.parts }
-    ensures { IfOk result (λ rows. records_of rows ≡ rows_of (relation_at (V.table view.now) relation)) }
+    ensures { IfOk result (λ rows. rows ≡ rows_of (relation_at (V.table view.now) relation)) }
 {
     let mut steps = Steps::<L>::open(blank);
-    let rows = list(alloc, view, relation, &Pred::always(alloc), &mut steps)?;
+    let rows = list_all(alloc, view, relation, &mut steps)?;
     Ok(rows)
 }
 
 // The rows of a relation, by key.
-fn rows_at<V: View>(alloc: Global, view: &V, relation: u8) -> Result<Rows, AllocError>
+fn rows_at<V: View>(alloc: Global, view: &V, relation: u8) -> Result<Records, AllocError>
     requires { relation < length (V.table view.now) }
-    ensures { IfOk result (λ rows. records_of rows ≡ rows_of (relation_at (V.table view.now) relation)) }
+    ensures { IfOk result (λ rows. rows ≡ rows_of (relation_at (V.table view.now) relation)) }
 {
     list_counted::<V, Brand>(alloc, view, relation, Blank::new(1))
 }
@@ -62,13 +59,13 @@ fn rows_of_all<B: View, L: View, R: View>(
     left: &L,
     right: &R,
     relation: u8,
-) -> Result<(Rows, Rows, Rows), AllocError>
+) -> Result<(Records, Records, Records), AllocError>
     requires base { relation < length (B.table base.now) }
     requires left { relation < length (L.table left.now) }
     requires right { relation < length (R.table right.now) }
-    ensures base { IfOk result (λ rows. records_of rows.0 ≡ rows_of (relation_at (B.table base.now) relation)) }
-    ensures left { IfOk result (λ rows. records_of rows.1 ≡ rows_of (relation_at (L.table left.now) relation)) }
-    ensures right { IfOk result (λ rows. records_of rows.2 ≡ rows_of (relation_at (R.table right.now) relation)) }
+    ensures base { IfOk result (λ rows. rows.0 ≡ rows_of (relation_at (B.table base.now) relation)) }
+    ensures left { IfOk result (λ rows. rows.1 ≡ rows_of (relation_at (L.table left.now) relation)) }
+    ensures right { IfOk result (λ rows. rows.2 ≡ rows_of (relation_at (R.table right.now) relation)) }
 {
     let base = rows_at(alloc, base, relation)?;
     let left = rows_at(alloc, left, relation)?;

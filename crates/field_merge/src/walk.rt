@@ -1,48 +1,42 @@
 //! Three lists of records by key, walked side by side.
-ghost use Rattle.std.specs.Prelude.{◌≡◌, ℕ, ◌+◌, ◌≤◌, ◌<◌, ◌++◌, [], ◌∷◌, Option, Ok, Err, Some, length, OnOk, option_copied};
+ghost use Rattle.std.specs.Prelude.{◌≡◌, ℕ, ◌++◌, [], ◌∷◌, Option, Ok, Err, Some, OnOk, option_copied};
 ghost use Rattle.db_value.specs.declared.condition.Prefer.TheVariants.{Neither};
 ghost use Rattle.field_merge.specs.declared.stop.MergeStop.TheVariants.{Conflict};
 ghost use Rattle.field_merge.specs.Merge.{change_where, clash_where, least_clash};
 ghost use Rattle.field_merge.specs.Rows.{fields_if, merge_records, AreVersions};
-ghost use Rattle.field_merge.specs.Walk.{records_of, record_changes, record_clashes, first_at, behind, first_key, lesser, least_key, AreSides};
+ghost use Rattle.field_merge.specs.Walk.{record_changes, record_clashes, first_at, behind, first_key, lesser, least_key, AreSides};
 
 use crate::one_key::is_same;
 use crate::{MergeStop, Merged, merge3};
-use db_value::{Change, Fields, Marked, Prefer, Record};
+use db_value::{Change, Fields, Prefer, Record};
 use std::alloc::AllocError;
 
 // The first record, where it has a key.
-fn first_at(rows: &[Marked], key: u64) -> Option<&Record>
-    ensures { option_copied result ≡ first_at key (records_of rows.now) }
+fn first_at(rows: &[Record], key: u64) -> Option<&Record>
+    ensures { option_copied result ≡ first_at key rows.now }
 {
     match rows {
         [] => None,
-        [first, ..] => {
-            if first.row.key == key {
-                Some(&first.row)
-            } else {
-                None
-            }
-        }
+        [first, ..] => { if first.key == key { Some(first) } else { None } }
     }
 }
 
 // The records behind the first one, where that has a key, and else all of them.
-fn behind(rows: &[Marked], key: u64) -> &[Marked]
-    ensures records { records_of result.now ≡ behind key (records_of rows.now) }
+fn behind(rows: &[Record], key: u64) -> &[Record]
+    ensures records { result.now ≡ behind key rows.now }
 {
     match rows {
         [] => rows,
-        [first, rest @ ..] => { if first.row.key == key { rest } else { rows } }
+        [first, rest @ ..] => { if first.key == key { rest } else { rows } }
     }
 }
 
-fn first_key(rows: &[Marked]) -> Option<u64>
-    ensures { result ≡ first_key (records_of rows.now) }
+fn first_key(rows: &[Record]) -> Option<u64>
+    ensures { result ≡ first_key rows.now }
 {
     match rows {
         [] => None,
-        [first, ..] => Some(first.row.key),
+        [first, ..] => Some(first.key),
     }
 }
 
@@ -58,8 +52,8 @@ fn lesser(a: Option<u64>, b: Option<u64>) -> Option<u64>
     }
 }
 
-fn least_key(base: &[Marked], left: &[Marked], right: &[Marked]) -> Option<u64>
-    ensures { result ≡ least_key (records_of base.now) (records_of left.now) (records_of right.now) }
+fn least_key(base: &[Record], left: &[Record], right: &[Record]) -> Option<u64>
+    ensures { result ≡ least_key base.now left.now right.now }
 {
     lesser(first_key(base), lesser(first_key(left), first_key(right)))
 }
@@ -126,16 +120,16 @@ fn merge_key(
 /// Adds the changes that make the merge of three lists of records by key, or tells the first conflict.
 pub fn merge_rows(
     relation: u8,
-    base: &[Marked],
-    left: &[Marked],
-    right: &[Marked],
+    base: &[Record],
+    left: &[Record],
+    right: &[Record],
     prefer: Prefer,
     all: &mut Vec<Change>,
 ) -> Result<(), MergeStop>
-    requires { AreSides (records_of base.now) (records_of left.now) (records_of right.now) }
-    ensures changes { OnOk result (all.new.items ≡ all.old.items ++ record_changes prefer relation (records_of base.now) (records_of left.now) (records_of right.now)) }
-    ensures free { OnOk result (record_clashes prefer relation (records_of base.now) (records_of left.now) (records_of right.now) ≡ []) }
-    ensures conflict { (r k : ℕ) (f : Option ℕ) → result ≡ Err (Conflict r k f) → least_clash (record_clashes prefer relation (records_of base.now) (records_of left.now) (records_of right.now)) ≡ Some (record { relation = r; key = k; field = f }) }
+    requires { AreSides base.now left.now right.now }
+    ensures changes { OnOk result (all.new.items ≡ all.old.items ++ record_changes prefer relation base.now left.now right.now) }
+    ensures free { OnOk result (record_clashes prefer relation base.now left.now right.now ≡ []) }
+    ensures conflict { (r k : ℕ) (f : Option ℕ) → result ≡ Err (Conflict r k f) → least_clash (record_clashes prefer relation base.now left.now right.now) ≡ Some (record { relation = r; key = k; field = f }) }
     ensures asked { (r k : ℕ) (f : Option ℕ) → result ≡ Err (Conflict r k f) → prefer ≡ Neither }
 {
     let (mut base, mut left, mut right) = (base, left, right);

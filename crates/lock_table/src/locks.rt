@@ -30,7 +30,7 @@ pub struct Locks {
 
 impl Model for Locks {
     ghost use Rattle.lock_table.specs.Rows.{Table};
-    ghost use Rattle.lock_table.specs.Kept.{LockGrants, rows_from, IsKept};
+    ghost use Rattle.lock_table.specs.Kept.{rows_from, IsKept};
 
     ghost Value = { Table };
 

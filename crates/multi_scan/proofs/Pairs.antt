@@ -16,7 +16,8 @@ use Rattle.db_value.specs.declared.record.Marked.{Marked}
 use Rattle.multi_scan.specs.declared.found.Found.{Found}
 use Rattle.multi_scan.specs.Found.{joined, found_cmp}
 use Rattle.multi_scan.specs.Multi.{has, union_of, positions_from, marked_in, union_marked}
-use Rattle.multi_scan.proofs.Sorted.{same_sorted, strictly_sorted, sorted_append, sorted_nil, sorted_cons, distinct_append, distinct_nil, all_append, all_map}
+use Rattle.db_store.proofs.RowLemmas.{same_sorted, strictly_sorted, all_append}
+use Rattle.multi_scan.proofs.Sorted.{sorted_append, sorted_nil, sorted_cons, distinct_append, distinct_nil, all_map}
 use Rattle.multi_scan.proofs.Union.{anywhere, has_union, sorted_union, each_member}
 
 abbrev pub pair : ℕ → Record → Found

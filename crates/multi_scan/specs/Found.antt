@@ -1,17 +1,14 @@
 -- Rows as they are found, part by part, each with the position of its view.
-use Rattle.std.specs.Prelude.{ℕ, suc, ◌+◌, Bool, cond, ◌&&◌, List, [], ◌∷◌, ◌++◌, Option, Some, None}
+use Rattle.std.specs.Prelude.{ℕ, suc, ◌+◌, Bool, cond, List, [], ◌∷◌, ◌++◌, Option, Some, None}
 use Rattle.std.specs.List.{flat_map}
 use Rattle.std.specs.Ordering.{nat_cmp, ordering_then}
 use Rattle.std.specs.declared.cmp.Ordering.{Ordering}
 use Rattle.db_value.specs.declared.record.Record.{Record}
 use Rattle.db_value.specs.declared.record.Marked.{Marked}
 use Rattle.db_store.specs.Parts.{Part}
+use Rattle.db_store.specs.Rows.{row_in_slot}
 use Rattle.multi_scan.specs.declared.found.Found.{Found}
 use Rattle.db_value.specs.Order.{record_eq, record_cmp}
-
--- the record of a slot, where it is live and the condition holds
-abbrev pub row_in_slot : (Record → Bool) → Record × Bool → Option Record
-row_in_slot p s = cond (s.1 && p s.0) (Some s.0) None
 
 -- a row at a position
 abbrev pub found_at : ℕ → Option Record → List Found

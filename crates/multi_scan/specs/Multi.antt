@@ -1,15 +1,12 @@
 -- The rows of one relation in several tables, by value.
 use Rattle.std.specs.Prelude.{ℕ, ◌+◌, Bool, cond, List, [], ◌∷◌, map}
-use Rattle.std.specs.List.{filter, flat_map, list_any}
+use Rattle.std.specs.List.{flat_map, list_any}
 use Rattle.std.specs.Ordering.{match_ordering}
 use Rattle.db_value.specs.Order.{record_eq, record_cmp}
 use Rattle.db_value.specs.declared.record.Record.{Record}
 use Rattle.db_value.specs.declared.record.Marked.{Marked}
-use Rattle.db_store.specs.Table.{Table, relation_at, rows_of}
-
--- the rows of a relation of a table for which a condition holds, by key
-abbrev pub rows_where : (Record → Bool) → ℕ → Table → List Record
-rows_where p r t = filter p (rows_of (relation_at t r))
+use Rattle.db_store.specs.Table.{Table}
+use Rattle.db_store.specs.Rows.{rows_where}
 
 -- whether a row is one of these
 abbrev pub has : Record → List Record → Bool
@@ -45,7 +42,3 @@ union_marked lists = map (marked_in lists) (union_of lists)
 -- the rows of a relation in several tables for which a condition holds
 abbrev pub multi : (Record → Bool) → ℕ → List Table → List Marked
 multi p r tables = union_marked (map (rows_where p r) tables)
-
--- a row of the one table that was asked for
-abbrev pub marked : Record → Marked
-marked row = record { row = row; positions = 0 ∷ [] }

@@ -10,7 +10,7 @@
 //! | `specs/Cost.antt` | how many slots views have |
 //! | `src/found.rt` | a row that was found |
 //! | `src/slots.rt` | the live records of views for which a condition holds |
-//! | `specs/Laws.antt`, `src/laws.rt` | what scans of one table and without a condition are |
+//! | `specs/Laws.antt`, `src/laws.rt` | what a scan of one table is |
 //! | `src/scans.rt` | what was found, in order, each row once |
 #![tactic(auto)]
 
@@ -20,4 +20,3 @@ mod scans;
 mod slots;
 
 pub use scans::{list, scan};
-pub use slots::blank_record;

@@ -1,16 +1,16 @@
 //! Scans of one view and of several.
 ghost use Rattle.std.specs.Prelude.{◌≡◌, ◌+◌, ◌<◌, ◌≤◌, length, map, IfOk};
-ghost use Rattle.std.specs.List.{All, filter};
+ghost use Rattle.std.specs.List.{All};
 ghost use Rattle.std.specs.List.Sorted.{IsPermutation, IsSorted};
 ghost use Rattle.db_value.specs.Pred.{pred_holds};
-ghost use Rattle.db_store.specs.Table.{relation_at, rows_of};
+ghost use Rattle.db_store.specs.Rows.{rows_where, marked, slots_of};
 ghost use Rattle.multi_scan.specs.Found.{joined, run_length, found_cmp};
-ghost use Rattle.multi_scan.specs.Multi.{multi, marked, rows_where};
-ghost use Rattle.multi_scan.specs.Cost.{slots_of, slots_of_all};
+ghost use Rattle.multi_scan.specs.Multi.{multi};
+ghost use Rattle.multi_scan.specs.Cost.{slots_of_all};
 
 use crate::found::Found;
-use crate::slots::{gather, gather_view};
-use db_store::View;
+use crate::slots::gather;
+use db_store::{View, list_rows};
 use db_value::{ListOf, Marked, Positions, Pred, Record, Rows, Steps};
 use std::alloc::{AllocError, Global};
 use std::sync::ledger::Ledger;
@@ -63,6 +63,20 @@ fn join(alloc: Global, found: &[Found]) -> Result<Rows, AllocError>
     Ok(ListOf::of(rows))
 }
 
+// Rows of the one view, with its position.
+fn mark(alloc: Global, rows: &[Record]) -> Result<Rows, AllocError>
+    ensures { IfOk result (λ all. all ≡ map marked rows.now) }
+{
+    let mut all = Vec::new(alloc);
+    for row in rows {
+        all.push(Marked {
+            row: *row,
+            positions: Positions::first_alone(alloc),
+        })?;
+    }
+    Ok(ListOf::of(all))
+}
+
 /// The records of a relation for which a condition holds, by key, as rows of the one view.
 pub fn list<V: View, L: Ledger>(
     alloc: Global,
@@ -75,10 +89,9 @@ pub fn list<V: View, L: Ledger>(
     ensures rows { IfOk result (λ rows. rows ≡ map marked (rows_where (pred_holds pred.now) relation (V.table view.now))) }
     ensures cost { steps.new ≤ steps.old + slots_of (V.parts_of view.now relation) }
 {
-    let mut found = Vec::new(alloc);
-    gather_view(view, relation, pred, 0, &mut found, steps)?;
-    let rows = join(alloc, &sorted(found))?;
-    Ok(rows)
+    let rows = list_rows(alloc, view, relation, pred, steps)?;
+    let all = mark(alloc, rows.as_slice())?;
+    Ok(all)
 }
 
 /// The records of a relation in several views for which a condition holds: each pair of key and

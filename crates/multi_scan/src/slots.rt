@@ -1,46 +1,17 @@
 //! What views have, slot by slot.
-ghost use Rattle.std.specs.Prelude.{◌≡◌, ◌+◌, ◌<◌, ◌≤◌, ◌++◌, true, length, map, OnOk, IfOk};
+ghost use Rattle.std.specs.Prelude.{◌≡◌, ◌+◌, ◌<◌, ◌≤◌, ◌++◌, length, map, OnOk, IfOk};
 ghost use Rattle.std.specs.List.{All};
 ghost use Rattle.db_value.specs.Pred.{pred_holds};
-ghost use Rattle.db_store.specs.Parts.{part_at, slot_at};
-ghost use Rattle.multi_scan.specs.Found.{row_in_slot, found_at, found_in_part, found_in_parts, found_in_views};
-ghost use Rattle.multi_scan.specs.Cost.{slots_of, slots_of_all};
+ghost use Rattle.db_store.specs.Parts.{part_at};
+ghost use Rattle.db_store.specs.Rows.{slots_of};
+ghost use Rattle.multi_scan.specs.Found.{found_at, found_in_part, found_in_parts, found_in_views};
+ghost use Rattle.multi_scan.specs.Cost.{slots_of_all};
 
 use crate::found::Found;
-use db_store::{Spot, View};
-use db_value::{Fields, Pred, Record, Steps};
+use db_store::{Spot, View, row_at};
+use db_value::{Pred, Record, Steps};
 use std::alloc::{AllocError, Global};
 use std::sync::ledger::Ledger;
-
-/// A record to read another one into.
-pub fn blank_record() -> Record {
-    match Fields::of(&[0]) {
-        Some(fields) => Record { key: 0, fields },
-        None => unreachable!(),
-    }
-}
-
-// The record of a slot, where it is live and the condition holds.
-fn row_at<V: View, L: Ledger>(
-    view: &V,
-    relation: u8,
-    pred: &Pred,
-    spot: Spot,
-    steps: &mut Steps<L>,
-) -> Option<Record>
-    requires relation { relation < length (V.table view.now) }
-    requires part { spot.part < length (V.parts_of view.now relation) }
-    requires slot { spot.slot < length (part_at (V.parts_of view.now relation) spot.part).slots }
-    ensures row { result ≡ row_in_slot (pred_holds pred.now) (slot_at (V.parts_of view.now relation) spot.part spot.slot) }
-    ensures cost { steps.new ≤ steps.old + 1 }
-{
-    if !view.live(relation, spot.part, spot.slot) {
-        return None;
-    }
-    let mut row = blank_record();
-    view.read(relation, spot, &mut row, steps);
-    if pred.holds(&row) { Some(row) } else { None }
-}
 
 // A row more, if there is one.
 fn keep(found: &mut Vec<Found>, row: Option<Record>, position: u32) -> Result<(), AllocError>
@@ -74,8 +45,8 @@ fn gather_part<V: View, L: Ledger>(
     Ok(())
 }
 
-/// The live records of a view for which a condition holds, behind those that were found before.
-pub fn gather_view<V: View, L: Ledger>(
+// The live records of a view for which a condition holds, behind those that were found before.
+fn gather_view<V: View, L: Ledger>(
     view: &V,
     relation: u8,
     pred: &Pred,

@@ -6,7 +6,7 @@ use Rattle.db_value.specs.Value.{Value, fields_eq}
 use Rattle.db_value.specs.declared.record.Record.{Record}
 use Rattle.db_value.specs.declared.report.Pair.{Pair}
 use Rattle.db_store.specs.Table.{Table, Contents, relation_at, rows_of}
-use Rattle.multi_scan.specs.Multi.{rows_where}
+use Rattle.db_store.specs.Rows.{rows_where}
 
 -- a record beside the fields at its key on the other side, where there are any
 abbrev pub pair_with : Record → Option (List Value) → List Pair

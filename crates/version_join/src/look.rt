@@ -3,9 +3,8 @@ ghost use Rattle.std.specs.Prelude.{◌≡◌, ◌+◌, ◌<◌, ◌≤◌, leng
 ghost use Rattle.std.specs.FinMap as finite;
 ghost use Rattle.db_store.specs.Table.{relation_at};
 
-use db_store::View;
+use db_store::{View, blank_record};
 use db_value::{Fields, Steps};
-use multi_scan::blank_record;
 use std::sync::ledger::Ledger;
 
 /// The fields at a key, if there are any.

@@ -1,8 +1,8 @@
 //! Versions by name in a store.
-ghost use Rattle.std.specs.Prelude.{◌≡◌, ◌<◌, length, IfOk, IfErr, Some};
+ghost use Rattle.std.specs.Prelude.{◌≡◌, ◌<◌, IfOk, IfErr, Some};
 ghost use Rattle.db_store.specs.Dataset.{branch_named, table_at, IsMade};
 ghost use Rattle.db_store.specs.State.{dataset_of};
-ghost use Rattle.version_log.specs.Found.{found, found_as, lack};
+ghost use Rattle.db_store.specs.Found.{found, found_as, lack};
 
 use db_store::Store;
 use db_value::{Refusal, VersionName, VersionPlace};

@@ -1,14 +1,14 @@
 use Rattle.std.proofs.Common.{◌≡◌, ap, sym, ◌∙◌, Some}
 use Rattle.field_merge.specs.Merge.{Clash, least_clash}
-use Rattle.field_merge.specs.Walk.{records_of, least_key}
+use Rattle.field_merge.specs.Walk.{least_key}
 use Rattle.field_merge.proofs.WalkLemmas.{AreFirst, AreBehind, clash_first, clashes_walked, changes_walked, sides_walked}
 use Rattle.field_merge.proofs.walk.merge_rows.Goals as goal
 
 pub returns-in-Err-clause-conflict : goal.returns-in-Err-clause-conflict
 returns-in-Err-clause-conflict c = λ r k f e.
-    let base = records_of c.keys.base.now in
-    let left = records_of c.keys.left.now in
-    let right = records_of c.keys.right.now in
+    let base = c.keys.base.now in
+    let left = c.keys.left.now in
+    let right = c.keys.right.now in
     let least : least_key base left right ≡ Some c.in-Some.key = sym c.least_key.ensures ∙ c.in-Some.is in
     let first : AreFirst c.in-Some.key base left right _ _ _ = record { base_is = c.first_at.ensures; left_is = c.first_at-here.ensures; right_is = c.first_at-in-Some.ensures } in
     let clash : Clash = record { relation = r; key = k; field = f } in
@@ -17,9 +17,9 @@ returns-in-Err-clause-conflict c = λ r k f e.
 
 pub keys-preserved : goal.keys-preserved
 keys-preserved c =
-    let base = records_of c.keys.base.now in
-    let left = records_of c.keys.left.now in
-    let right = records_of c.keys.right.now in
+    let base = c.keys.base.now in
+    let left = c.keys.left.now in
+    let right = c.keys.right.now in
     let least : least_key base left right ≡ Some c.in-Some.key = sym c.least_key.ensures ∙ c.in-Some.is in
     let first : AreFirst c.in-Some.key base left right _ _ _ = record { base_is = c.first_at.ensures; left_is = c.first_at-here.ensures; right_is = c.first_at-in-Some.ensures } in
     let rest : AreBehind c.in-Some.key base left right _ _ _ = record { base_is = c.behind-base.ensures.records; left_is = c.behind-left.ensures.records; right_is = c.behind-right.ensures.records } in

@@ -1,7 +1,7 @@
 use Rattle.std.proofs.Common.{◌≡◌, ◌+◌, ◌≤◌, ◌++◌, take, drop}
 use Rattle.db_value.specs.Pred.{pred_holds}
 use Rattle.multi_scan.specs.Found.{found_in_parts}
-use Rattle.multi_scan.specs.Cost.{slots_of}
+use Rattle.db_store.specs.Rows.{slots_of}
 use Rattle.multi_scan.proofs.slots.gather_view.Given as goal
 
 abbrev pub invariant-loop-index : goal.invariant-loop-index
