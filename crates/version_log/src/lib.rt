@@ -5,7 +5,6 @@
 //!
 //! | file | has |
 //! |---|---|
-//! | `specs/Found.antt` | what a version's name stands for |
 //! | `specs/Log.antt` | the log of a branch |
 //! | `specs/Graph.antt` | the graph: the logs of all branches |
 //! | `src/find.rt` | versions by name |
