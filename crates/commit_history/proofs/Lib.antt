@@ -1,0 +1,4 @@
+pub mod Exclusive
+pub mod Composed
+pub mod Rooms
+pub mod Places

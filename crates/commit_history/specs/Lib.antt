@@ -1,0 +1,3 @@
+pub mod Combined
+pub mod Sparse
+pub mod Runs

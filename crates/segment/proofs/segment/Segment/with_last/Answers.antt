@@ -1,0 +1,24 @@
+use Rattle.std.proofs.Common.{arith, ◌≡◌, ◌<◌, ◌≤◌, ◌++◌, ◌∷◌, [], ℕ, List, length, map, ap, sym, ◌∙◌, subst}
+use Rattle.std.specs.Arc.{arc_value}
+use Rattle.std.proofs.lemmas.List.{length-map}
+use Rattle.record_page.specs.Page.{Rows, capacity}
+use Rattle.segment.specs.Pages.{pages_of, records_of, IsLaid}
+use Rattle.segment.proofs.BlockLemmas.{laid_last, rows_after}
+use Rattle.segment.proofs.segment.Segment.with_last.Goals as goal
+
+pub invariant_of-result : goal.invariant_of-result
+invariant_of-result c =
+    let t = c.args.tail in
+    let blocks : List (List Rows) = arc_value t.blocks in
+    let pages : List Rows = map arc_value t.pages.items in
+    let put = c.in_ok-put_page.ensures.put in
+    let room = c.requires.room in
+    let m = length-map t.pages.items arc_value in
+    let fits : length t.last.records ≤ capacity t.fields = subst (λ (k : ℕ). length t.last.records ≤ capacity k) t.same c.len-count.ensures.paged.room in
+    let laid : IsLaid t.fields blocks (pages ++ t.last ∷ []) = laid_last t.fields blocks pages t.last t.some t.most t.full t.whole (omega (arith, room, m)) t.same c.requires.some fits c.requires.wide in (
+      c.requires.len ∙ ap length (sym (rows_after (pages_of blocks) pages t.last)) ∙ ap (λ (ps : List Rows). length (records_of (pages_of blocks ++ ps))) (sym put),
+      (
+        c.capacity_of-most.ensures,
+        subst (λ (ps : List Rows). IsLaid t.fields blocks ps) (sym put) laid,
+      ),
+    )

@@ -1,0 +1,202 @@
+//! One segment.
+ghost use Rattle.std.specs.Prelude.{◌≡◌, ◌+◌, ◌*◌, ◌^◌, ◌<◌, ◌≤◌, ◌++◌, [], length, IfOk};
+ghost use Rattle.record_page.specs.Page.{capacity, record_at};
+ghost use Rattle.segment.specs.Pages.{AreWide, page_count, page_of};
+
+use crate::block::{BLOCK_PAGES, Blocks, front_of, page_in, put_page};
+use crate::tail::Tail;
+use db_value::{Record, Records, Steps};
+use record_page::{Page, capacity_of};
+use std::alloc::{AllocError, Global};
+use std::marker::Model;
+use std::sync::Arc;
+use std::sync::ledger::Ledger;
+
+/// A segment is a list of fewer than 2^32 records with one number of fields each. All its pages but
+/// the last one are full.
+#[derive(Drop)]
+pub struct Segment {
+    fields: u8,
+    most: u32,
+    len: u32,
+    blocks: Arc<Blocks>,
+    tail: Vec<Arc<Page>>,
+}
+
+impl Model for Segment {
+    ghost use Rattle.std.specs.Prelude.{◌≡◌, ◌<◌, ◌≤◌, ◌++◌, length, map};
+    ghost use Rattle.std.specs.Arc.{arc_value};
+    ghost use Rattle.record_page.specs.Page.{Rows, rows_code, capacity};
+    ghost use Rattle.segment.specs.Pages.{IsLaid, pages_of, records_of};
+
+    ghost Value = { Rows };
+
+    ghost coded = { rows_code };
+
+    ghost view = { λ s. record { fields = s.fields; records = records_of (pages_of (arc_value s.blocks) ++ map arc_value s.tail.items) } };
+
+    ghost invariant = { λ s. (s.len ≡ length (records_of (pages_of (arc_value s.blocks) ++ map arc_value s.tail.items))) × ((s.most ≡ capacity s.fields) × IsLaid s.fields (arc_value s.blocks) (map arc_value s.tail.items)) };
+}
+
+impl Segment {
+    ghost use Rattle.segment.specs.Tails.{rows_in};
+
+    /// A segment without records, for records of so many fields.
+    pub fn new(alloc: Global, fields: u8) -> Result<Segment, AllocError>
+        requires some { 0 < fields }
+        requires few { fields ≤ 15 }
+        ensures { IfOk result (λ s. s ≡ record { fields = fields; records = [] }) }
+    {
+        Ok(Segment {
+            fields,
+            most: capacity_of(fields) as u32,
+            len: 0,
+            blocks: Arc::new(alloc, Blocks::new(alloc))?,
+            tail: Vec::new(alloc),
+        })
+    }
+
+    /// The segment with further records after its own. The two share all pages that are full here.
+    pub fn extended(&self, rows: &Records) -> Result<Segment, AllocError>
+        requires fields { AreWide self.now.fields rows.now }
+        requires few { length self.now.records + length rows.now < 2 ^ 32 }
+        ensures { IfOk result (λ s. s ≡ record self.now { records = self.now.records ++ rows.now }) }
+    {
+        let len = self.len() + rows.as_slice().len() as u32;
+        let mut tail = self.opened()?;
+        for row in rows.as_slice() {
+            tail.push(row)?;
+        }
+        Segment::closed(tail, len)
+    }
+
+    // Its pages, as those of a segment that is being made.
+    fn opened(&self) -> Result<Tail, AllocError>
+        ensures rows { IfOk result (λ t. rows_in t ≡ self.now.records) }
+        ensures fields { IfOk result (λ t. t.fields ≡ self.now.fields) }
+    {
+        let alloc = *self.tail.allocator();
+        Tail::of(alloc, self.fields, &self.blocks, self.tail.as_slice())
+    }
+
+    // The segment of a tail's records.
+    fn closed(mut tail: Tail, len: u32) -> Result<Segment, AllocError>
+        requires len { len ≡ length (rows_in tail) }
+        requires wide { AreWide tail.fields (rows_in tail) }
+        ensures { IfOk result (λ s. s ≡ record { fields = tail.fields; records = rows_in tail }) }
+    {
+        if tail.last.len() > 0 {
+            tail.fold()?;
+            return Segment::with_last(tail, len);
+        }
+        let Tail {
+            fields,
+            blocks,
+            pages,
+            ..
+        } = tail;
+        let most = capacity_of(fields) as u32;
+        Ok(Segment {
+            fields,
+            most,
+            len,
+            blocks,
+            tail: pages,
+        })
+    }
+
+    // The same, where the last page has records.
+    fn with_last(tail: Tail, len: u32) -> Result<Segment, AllocError>
+        requires len { len ≡ length (rows_in tail) }
+        requires wide { AreWide tail.fields (rows_in tail) }
+        requires some { 0 < length tail.last.records }
+        requires room { length tail.pages.items < 64 }
+        ensures { IfOk result (λ s. s ≡ record { fields = tail.fields; records = rows_in tail }) }
+    {
+        let _count = tail.last.len();
+        let Tail {
+            alloc,
+            fields,
+            blocks,
+            mut pages,
+            last,
+        } = tail;
+        put_page(alloc, &mut pages, last)?;
+        let most = capacity_of(fields) as u32;
+        Ok(Segment {
+            fields,
+            most,
+            len,
+            blocks,
+            tail: pages,
+        })
+    }
+
+    // The page in which the record at a multiple of the capacity stands.
+    fn page_there(&self, index: usize) -> &Page
+        requires { index * capacity self.now.fields < length self.now.records }
+        ensures { result.now ≡ page_of self.now index }
+    {
+        let block = index / BLOCK_PAGES;
+        if block < self.blocks.count() {
+            return self.blocks.page(block, index % BLOCK_PAGES);
+        }
+        page_in(
+            self.tail.as_slice(),
+            index - BLOCK_PAGES * self.blocks.count(),
+        )
+    }
+
+    /// How many records it has.
+    pub fn len(&self) -> u32
+        ensures count { result ≡ length self.now.records }
+        ensures wide { AreWide self.now.fields self.now.records }
+    {
+        self.len
+    }
+
+    /// How many pages.
+    pub fn pages(&self) -> u32
+        ensures { result ≡ page_count self.now.fields (length self.now.records) }
+    {
+        let most = capacity_of(self.fields);
+        ((self.len as usize + (most - 1)) / most) as u32
+    }
+
+    /// A page.
+    pub fn page(&self, index: u32) -> &Page
+        requires { index < page_count self.now.fields (length self.now.records) }
+        ensures { result.now ≡ page_of self.now index }
+    {
+        self.page_there(index as usize)
+    }
+
+    /// The record in a slot, at the cost of one step.
+    pub fn read<L: Ledger>(&self, slot: u32, into: &mut Record, steps: &mut Steps<L>)
+        requires { slot < length self.now.records }
+        ensures row { into.new ≡ record_at self.now.records slot }
+        ensures cost { steps.new ≡ steps.old + 1 }
+    {
+        let most = self.most;
+        let page = self.page_there((slot / most) as usize);
+        page.read((slot % most) as u16, into, steps);
+    }
+
+    /// An equal segment, which shares its pages with this one.
+    pub fn duplicate(&self) -> Result<Segment, AllocError>
+        ensures { IfOk result (λ s. s ≡ self.now) }
+    {
+        let tail = front_of(
+            *self.tail.allocator(),
+            self.tail.as_slice(),
+            self.tail.len(),
+        )?;
+        Ok(Segment {
+            fields: self.fields,
+            most: self.most,
+            len: self.len,
+            blocks: Arc::try_clone(&self.blocks)?,
+            tail,
+        })
+    }
+}

@@ -1,0 +1,165 @@
+//! The end of a segment that is being made.
+ghost use Rattle.std.specs.Prelude.{◌≡◌, ◌-◌, ◌<◌, ◌≤◌, ◌++◌, ◌∷◌, [], length, map, true, false, IfOk, OnOk};
+ghost use Rattle.std.specs.Arc.{arc_value};
+ghost use Rattle.record_page.specs.Page.{capacity};
+ghost use Rattle.segment.specs.Pages.{AreAllFull, AreWhole, IsLaid, page_at, pages_of, records_of};
+
+use crate::block::{BLOCK_PAGES, Blocks, front_of, page_in, put_page};
+use db_value::Record;
+use record_page::{Page, capacity_of};
+use std::alloc::{AllocError, Global};
+use std::sync::Arc;
+
+// Full pages, and one after them that may have room.
+#[derive(Drop)]
+pub(crate) struct Tail {
+    pub(crate) alloc: Global,
+    pub(crate) fields: u8,
+    pub(crate) blocks: Arc<Blocks>,
+    pub(crate) pages: Vec<Arc<Page>>,
+    pub(crate) last: Page,
+    ghost same: { last.fields ≡ fields },
+    ghost full: { AreAllFull fields (pages_of (arc_value blocks) ++ map arc_value pages.items) },
+    ghost whole: { AreWhole (arc_value blocks) },
+    ghost few: { length pages.items ≤ 64 },
+    ghost some: { 0 < fields },
+    ghost most: { fields ≤ 15 },
+}
+
+// Whether there is a last page that isn't full.
+fn has_room(fields: u8, links: &[Arc<Page>]) -> bool
+    ensures some { result ≡ true → 0 < length links.now }
+    ensures full { result ≡ false → 0 < length links.now → capacity fields ≤ length (page_at (map arc_value links.now) (length links.now - 1)).records }
+{
+    if links.is_empty() {
+        return false;
+    }
+    (page_in(links, links.len() - 1).len() as usize) < capacity_of(fields)
+}
+
+impl Tail {
+    ghost use Rattle.segment.specs.Tails.{rows_in, full_in};
+
+    // The full pages, and the last one again.
+    fn in_last(
+        alloc: Global,
+        fields: u8,
+        blocks: &Arc<Blocks>,
+        links: &[Arc<Page>],
+    ) -> Result<Tail, AllocError>
+        requires laid { IsLaid fields (arc_value blocks.now) (map arc_value links.now) }
+        requires some { 0 < length links.now }
+        ensures rows { IfOk result (λ t. rows_in t ≡ records_of (pages_of (arc_value blocks.now) ++ map arc_value links.now)) }
+        ensures fields { IfOk result (λ t. t.fields ≡ fields) }
+    {
+        let count = links.len() - 1;
+        let last = page_in(links, count).duplicate()?;
+        let pages = front_of(alloc, links, count)?;
+        let blocks = Arc::try_clone(blocks)?;
+        Ok(Tail {
+            alloc,
+            fields,
+            blocks,
+            pages,
+            last,
+        })
+    }
+
+    // The pages, and an empty one after them.
+    fn after_last(
+        alloc: Global,
+        fields: u8,
+        blocks: &Arc<Blocks>,
+        links: &[Arc<Page>],
+    ) -> Result<Tail, AllocError>
+        requires laid { IsLaid fields (arc_value blocks.now) (map arc_value links.now) }
+        requires full { AreAllFull fields (pages_of (arc_value blocks.now) ++ map arc_value links.now) }
+        ensures rows { IfOk result (λ t. rows_in t ≡ records_of (pages_of (arc_value blocks.now) ++ map arc_value links.now)) }
+        ensures fields { IfOk result (λ t. t.fields ≡ fields) }
+    {
+        let last = Page::new(alloc, fields)?;
+        let pages = front_of(alloc, links, links.len())?;
+        let blocks = Arc::try_clone(blocks)?;
+        Ok(Tail {
+            alloc,
+            fields,
+            blocks,
+            pages,
+            last,
+        })
+    }
+
+    /// The pages of a segment: all that are full, and the last one again if it has room.
+    pub(crate) fn of(
+        alloc: Global,
+        fields: u8,
+        blocks: &Arc<Blocks>,
+        links: &[Arc<Page>],
+    ) -> Result<Tail, AllocError>
+        requires { IsLaid fields (arc_value blocks.now) (map arc_value links.now) }
+        ensures rows { IfOk result (λ t. rows_in t ≡ records_of (pages_of (arc_value blocks.now) ++ map arc_value links.now)) }
+        ensures fields { IfOk result (λ t. t.fields ≡ fields) }
+    {
+        if has_room(fields, links) {
+            return Tail::in_last(alloc, fields, blocks, links);
+        }
+        Tail::after_last(alloc, fields, blocks, links)
+    }
+
+    /// Makes a block of the pages, if they are as many as a block has.
+    pub(crate) fn fold(&mut self) -> Result<(), AllocError>
+        ensures rows { OnOk result (rows_in self.new ≡ rows_in self.old) }
+        ensures last { self.new.last ≡ self.old.last }
+        ensures room { OnOk result (length self.new.pages.items < 64) }
+        ensures fields { self.new.fields ≡ self.old.fields }
+    {
+        if self.pages.len() < BLOCK_PAGES {
+            return Ok(());
+        }
+        let pages = std::mem::replace(&mut self.pages, Vec::new(self.alloc));
+        let blocks = self.blocks.with_block(self.alloc, pages)?;
+        self.blocks = Arc::new(self.alloc, blocks)?;
+        Ok(())
+    }
+
+    // Begins another page, if the last one is full.
+    fn turn(&mut self) -> Result<(), AllocError>
+        requires { capacity self.old.fields ≤ length self.old.last.records }
+        ensures rows { OnOk result (rows_in self.new ≡ rows_in self.old) }
+        ensures room { OnOk result (length self.new.last.records < capacity self.new.fields) }
+        ensures fields { self.new.fields ≡ self.old.fields }
+    {
+        self.fold()?;
+        let _count = self.last.len();
+        let fresh = Page::new(self.alloc, self.fields)?;
+        let full = std::mem::replace(&mut self.last, fresh);
+        put_page(self.alloc, &mut self.pages, full)?;
+        Ok(())
+    }
+
+    // Puts a record on the last page.
+    fn put(&mut self, row: &Record)
+        requires fields { length row.now.fields ≡ self.old.fields }
+        requires room { length self.old.last.records < capacity self.old.fields }
+        ensures rows { rows_in self.new ≡ rows_in self.old ++ row.now ∷ [] }
+        ensures fields { self.new.fields ≡ self.old.fields }
+    {
+        match self.last.push(row) {
+            Ok(_) => {}
+            Err(_) => unreachable!(),
+        }
+    }
+
+    /// Puts a record after the others.
+    pub(crate) fn push(&mut self, row: &Record) -> Result<(), AllocError>
+        requires { length row.now.fields ≡ self.old.fields }
+        ensures rows { OnOk result (rows_in self.new ≡ rows_in self.old ++ row.now ∷ []) }
+        ensures fields { self.new.fields ≡ self.old.fields }
+    {
+        if (self.last.len() as usize) >= capacity_of(self.fields) {
+            self.turn()?;
+        }
+        self.put(row);
+        Ok(())
+    }
+}
