@@ -1,5 +1,5 @@
 //! Questions to views, where nobody counts the steps.
-ghost use Rattle.std.specs.Prelude.{◌≡◌, ◌<◌, None, Some, length, map, IfOk, OnOk, IfErr, IfSome};
+ghost use Rattle.std.specs.Prelude.{◌≡◌, ◌<◌, None, Some, length, map, IfOk, OnOk, IfErr, IfNone, IfSome};
 ghost use Rattle.std.specs.List.{All};
 ghost use Rattle.db_value.specs.Relations.{columns_at};
 ghost use Rattle.db_value.specs.Condition.{holds};
@@ -22,6 +22,7 @@ use version_join::{join, minus};
 // The first column that the relation hasn't; none is want of memory.
 fn column_of(stop: &PredStop) -> Option<Name>
     ensures some { IfSome result (λ column. stop.now ≡ PredStop.NoColumn column) }
+    ensures memory { IfNone result (stop.now ≡ PredStop.Memory) }
 {
     match stop {
         PredStop::NoColumn { column } => Some(*column),

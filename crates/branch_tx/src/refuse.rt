@@ -1,5 +1,5 @@
 //! Refusals of statements.
-ghost use Rattle.std.specs.Prelude.{◌≡◌, IfOk, IsErr};
+ghost use Rattle.std.specs.Prelude.{◌≡◌, IfOk, OnErr, IsErr};
 ghost use Rattle.branch_tx.specs.Stops.{refusal_of};
 
 use db_store::WorkStop;
@@ -51,6 +51,7 @@ pub fn refusal_of(
 ) -> Result<Refusal, AllocError>
     ensures why { IfOk result (λ why. why ≡ refusal_of relation key room stop) }
     ensures memory { stop ≡ WorkStop.Memory → IsErr result }
+    ensures cause { OnErr result (stop ≡ WorkStop.Memory) }
 {
     match stop {
         WorkStop::KeyThere => Ok(Refusal::KeyThere { relation, key }),

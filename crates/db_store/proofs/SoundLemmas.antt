@@ -181,6 +181,7 @@ sound_commit d b second changes s f =
     record {
       some = omega (arith, n, s.some);
       few_branches = omega (arith, n, s.few_branches);
+      master = (branch_extends d e 0 s.some).name ∙ s.master;
       rooted = λ x h. let r = s.rooted x (old x h) in let k = (branch_extends d e x (old x h)).versions in let l = ap length k.1 ∙ length-append (branch_at d x).versions k.0 in omega (arith, r, l);
       few_versions = λ x h. few x (old x h) (cases_eq x b);
       named = λ x h. name_stays d e x (Some x) (old x h)
@@ -222,6 +223,7 @@ sound_branch d name origin s f =
     record {
       some = omega (arith, n, s.some);
       few_branches = omega (arith, n, f.room);
+      master = (branch_extends d (NewBranch name origin) 0 s.some).name ∙ s.master;
       rooted = λ x h. rooted x (begun_or d name origin x h);
       few_versions = λ x h. few x (begun_or d name origin x h);
       named = λ x h. named x (begun_or d name origin x h);
@@ -282,6 +284,7 @@ pub new_sound : (schema : List Relation) → IsSound (new_dataset schema)
 new_sound schema = record {
   some = omega arith;
   few_branches = omega arith;
+  master = refl;
   rooted = rooted;
   few_versions = few;
   named = named;

@@ -1,13 +1,25 @@
-//! Where the entries of a dataset are logged.
+//! The bytes of entries, and where entries are logged.
 //!
-//! The layer above relies on one statement: `fault_count` tells how often a log has failed.
+//! The layers above rely on two statements. An entry is read exactly where bytes begin with its one
+//! spelling, and no spelling is a proper front of another (`CodecLaws` in `specs/Laws.antt`). A log tells
+//! how often it has failed, and fails only where this count rose.
 //!
 //! | file | has |
 //! |---|---|
-//! | `specs/Count.antt` | a count as a number of 64 bits |
-//! | `src/log.rt` | a log, and the one that stores nothing |
+//! | `specs/Spelling.antt` | the bytes of an entry |
+//! | `specs/Grammar.antt` | how an entry is read from the front of bytes |
+//! | `src/write.rt`, `src/read.rt` | both ways as code |
+//! | `specs/Logs.antt`, `src/log.rt` | a log, and the one that stores nothing |
 #![tactic(auto)]
 
+mod laws;
 mod log;
+mod read;
+#[cfg(test)]
+mod tests;
+mod write;
 
+pub use laws::{codec_laws, fitting_law};
 pub use log::{Log, NoLog};
+pub use read::{EntryStop, decode};
+pub use write::{EntryBytes, encode};

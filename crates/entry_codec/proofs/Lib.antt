@@ -1,0 +1,4 @@
+pub mod Back
+pub mod Fitting
+pub mod Lists
+pub mod Spelled
