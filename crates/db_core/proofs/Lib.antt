@@ -1,6 +1,7 @@
 pub mod Rows
 pub mod Lends
 pub mod Granting
+pub mod Storing
 pub mod Runs
 pub mod Worlds
 pub mod Until
@@ -12,6 +13,9 @@ pub mod Seating
 pub mod Answering
 pub mod Others
 pub mod Standing
+pub mod Serving
+pub mod Logging
+pub mod Marked
 pub mod Sessions
 pub mod Held
 pub mod Rooms
@@ -19,6 +23,8 @@ pub mod Examples
 pub mod NamedReplies
 pub mod Owned
 pub mod Waiting
+pub mod Counting
 pub mod Desks
 pub mod OtherDesks
+pub mod LocalLines
 pub mod Merges

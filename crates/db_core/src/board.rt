@@ -1,17 +1,19 @@
 //! The board: a dataset, and the lines that were run on it.
-ghost use Rattle.std.specs.Prelude.{◌≡◌, ◌++◌, ◌∷◌, List, [], None, false, IfOk, OnOk, OnErr};
+ghost use Rattle.std.specs.Prelude.{◌≡◌, [], None, false, Bool, IfOk, IfErr, OnOk, OnErr};
 ghost use Rattle.db_store.specs.State.{dataset_of};
 ghost use Rattle.stmt_text.specs.declared.stmt.Stmt.{Stmt};
-ghost use Rattle.entry_codec.specs.Count.{counted};
+ghost use Rattle.db_outside.specs.Count.{counted};
 ghost use Rattle.reply_text.specs.Reply.{NamesItsRows};
-ghost use Rattle.db_core.specs.Order.{Said, said_of, next, reply_in};
-ghost use Rattle.db_core.specs.Laws.{AllHaveRoom};
-ghost use Rattle.db_core.specs.Kept.{Kept, Stands, world_of, saids, new_kept};
+ghost use Rattle.db_core.specs.Order.{said_of};
+ghost use Rattle.db_core.specs.Kept.{Stands, world_of, new_kept};
+ghost use Rattle.db_core.specs.Answered.{IsAnswered, entry_of, ended_by};
+ghost use Rattle.db_core.specs.Stored.{Stores};
 ghost use Rattle.db_core.specs.Sits.{Sits, heard, unheard};
 
 use crate::desk::Desk;
-use crate::outside::{branch_of, end};
-use crate::session::{Grant, Session, answer, ask, close};
+use crate::outside::branch_of;
+use crate::session::{Grant, Session, answer, ask, close, finish};
+use crate::stored::{Answer, carry_out};
 use crate::twice::{refusal, why_bad};
 use db_store::Store;
 use db_value::{LineText, Name, Refusal, Reply, Schema, Step, VersionName};
@@ -37,18 +39,21 @@ pub struct Board<St: Store, J: Log<St>> {
 impl<St: Store, J: Log<St>> Model for Board<St, J> {
     ghost use Rattle.std.specs.Coded.{codes};
     ghost use Rattle.db_store.specs.Table.{contents_code};
-    ghost use Rattle.db_core.specs.Kept.{Kept};
+    ghost use Rattle.db_core.specs.Kept.{Logged};
 
-    ghost Value = { Kept };
+    ghost Value = { Logged J };
 
     ghost coded = { Prim.hlevel (codes, contents_code) };
 
     ghost view = { λ b. record {
-      opening = St.state b.opening;
-      steps = b.steps.items;
-      now = St.state b.store;
-      rows = b.locks.rows;
-      first_count = b.first_count;
+      kept = record {
+        opening = St.state b.opening;
+        steps = b.steps.items;
+        now = St.state b.store;
+        rows = b.locks.rows;
+        first_count = b.first_count;
+      };
+      log = b.log;
     } };
 }
 
@@ -65,7 +70,9 @@ fn parts_of<St: Store>(alloc: Global, store: &St) -> Result<(St, Locks), AllocEr
 impl<St: Store, J: Log<St>> Board<St, J> {
     /// A board on which nothing was run. Want of memory gives store and log back.
     pub fn new(alloc: Global, store: St, log: J) -> Result<Board<St, J>, (AllocError, St, J)>
-        ensures { IfOk result (λ b. b ≡ new_kept (St.state store) (counted (J.faults log))) }
+        ensures given_back { IfErr result (λ e. (St.state e.1 ≡ St.state store) × (e.2 ≡ log)) }
+        ensures kept { IfOk result (λ b. b.kept ≡ new_kept (St.state store) (counted (J.faults log))) }
+        ensures log { IfOk result (λ b. b.log ≡ log) }
     {
         match parts_of(alloc, &store) {
             Err(stop) => Err((stop, store, log)),
@@ -86,64 +93,74 @@ impl<St: Store, J: Log<St>> Board<St, J> {
 
     /// The schema of the dataset.
     pub fn schema(&self) -> &Schema
-        ensures { result.now ≡ (dataset_of self.now.now).schema }
+        ensures { result.now ≡ (dataset_of self.now.kept.now).schema }
     {
         self.store.schema()
     }
 
     /// The lines that were run, with their replies.
     pub fn steps(&self) -> &[Step]
-        ensures { result.now ≡ self.now.steps }
+        ensures { result.now ≡ self.now.kept.steps }
     {
         &self.steps
     }
 
     /// The dataset as it is.
     pub fn store(&self) -> &St
-        ensures { St.state result.now ≡ self.now.now }
+        ensures { St.state result.now ≡ self.now.kept.now }
     {
         &self.store
     }
 
     /// The store and the log.
     pub fn into_parts(self) -> (St, J)
-        ensures { St.state result.0 ≡ self.now }
+        ensures state { St.state result.0 ≡ self.kept.now }
+        ensures log { result.1 ≡ self.log }
     {
         let Board { store, log, .. } = self;
         (store, log)
     }
 
-    // Answers a line of a session at once, and keeps it with its reply. Want of memory leaves board
-    // and session as before.
+    // Answers a line of a session at once, and keeps it with its reply and mark. Want of memory leaves
+    // board and session as before.
     pub(crate) fn serve(
         &mut self,
         session: &mut Session<St>,
         text: &LineText,
         stmt: &Stmt,
     ) -> Result<Reply, AllocError>
-        requires stands { Stands self.old }
-        requires sits { Sits (world_of self.old) session.old.number session.old.current session.old.skipping session.old.tx }
+        requires stands { Stands self.old.kept }
+        requires sits { Sits (world_of self.old.kept) session.old.number session.old.current session.old.skipping session.old.tx }
         requires line { said_of text.now false ≡ heard session.old.number stmt.now }
-        ensures reply { IfOk result (λ r. (later : List Said) → AllHaveRoom later → r ≡ reply_in (world_of self.old) (said_of text.now false) later) }
+        ensures answered { IfOk result (λ r. (failed : Bool) × IsAnswered self.old.kept self.new.kept text.now failed r
+            × Stores J.faults J.Keeps J.generation J.moment J.opens_since J.Quiet self.old.kept.now failed (entry_of self.old.kept text.now) self.old.log self.new.log) }
         ensures named { IfOk result NamesItsRows }
-        ensures steps { OnOk result (saids self.new.steps ≡ saids self.old.steps ++ said_of text.now false ∷ []) }
-        ensures world { OnOk result (world_of self.new ≡ next (world_of self.old) (said_of text.now false)) }
-        ensures opening { self.new.opening ≡ self.old.opening }
-        ensures first_count { self.new.first_count ≡ self.old.first_count }
-        ensures stands { Stands self.new }
-        ensures sits { Sits (world_of self.new) session.new.number session.new.current session.new.skipping session.new.tx }
+        ensures stands { Stands self.new.kept }
+        ensures sits { Sits (world_of self.new.kept) session.new.number session.new.current session.new.skipping session.new.tx }
         ensures number { session.new.number ≡ session.old.number }
-        ensures err { OnErr result (self.new.steps ≡ self.old.steps) }
+        ensures err { OnErr result (self.new ≡ self.old) }
     {
         let line = text.duplicate()?;
         self.steps.reserve(1)?;
-        let answered = answer(self.alloc, &mut self.store, &mut self.locks, session, stmt)?;
+        let answered = answer(
+            self.alloc,
+            &mut self.store,
+            &mut self.log,
+            &mut self.locks,
+            session,
+            stmt,
+        )?;
+        let Answer {
+            reply,
+            copy,
+            failed,
+        } = answered;
         self.steps.push_reserved(Step {
             line,
-            failed: false,
-            reply: answered.copy,
+            failed,
+            reply: copy,
         });
-        Ok(answered.reply)
+        Ok(reply)
     }
 
     // Refuses a bad line of a session, and keeps it with its reply. Want of memory leaves the board
@@ -153,17 +170,15 @@ impl<St: Store, J: Log<St>> Board<St, J> {
         session: &Session<St>,
         text: &LineText,
     ) -> Result<Reply, AllocError>
-        requires stands { Stands self.old }
-        requires sits { Sits (world_of self.old) session.now.number session.now.current session.now.skipping session.now.tx }
+        requires stands { Stands self.old.kept }
+        requires sits { Sits (world_of self.old.kept) session.now.number session.now.current session.now.skipping session.now.tx }
         requires line { said_of text.now false ≡ unheard session.now.number }
-        ensures reply { IfOk result (λ r. (later : List Said) → AllHaveRoom later → r ≡ reply_in (world_of self.old) (said_of text.now false) later) }
+        ensures answered { IfOk result (λ r. IsAnswered self.old.kept self.new.kept text.now false r) }
         ensures named { IfOk result NamesItsRows }
-        ensures steps { OnOk result (saids self.new.steps ≡ saids self.old.steps ++ said_of text.now false ∷ []) }
-        ensures world { world_of self.new ≡ world_of self.old }
-        ensures opening { self.new.opening ≡ self.old.opening }
-        ensures first_count { self.new.first_count ≡ self.old.first_count }
-        ensures stands { Stands self.new }
-        ensures err { OnErr result (self.new.steps ≡ self.old.steps) }
+        ensures world { world_of self.new.kept ≡ world_of self.old.kept }
+        ensures log { self.new.log ≡ self.old.log }
+        ensures stands { Stands self.new.kept }
+        ensures err { OnErr result (self.new.kept ≡ self.old.kept) }
     {
         let line = text.duplicate()?;
         let why = why_bad(session.skipping);
@@ -177,21 +192,24 @@ impl<St: Store, J: Log<St>> Board<St, J> {
 }
 
 impl<St: Store, J: Log<St>> Board<St, J> {
-    ghost use Rattle.std.specs.Prelude.{◌≢◌, ◌⊎◌, is_some, Some, true};
+    ghost use Rattle.std.specs.Prelude.{◌≢◌, List, is_some, Some, true};
     ghost use Rattle.lock_table.specs.Rows.{Row, holder};
     ghost use Rattle.line_needs.specs.Needs.{needs};
-    ghost use Rattle.db_core.specs.Desk.{Agrees, entered, cleared, grant_of, rows_by, IsMoreIf, IsReadyIf, KeepsIf};
-    ghost use Rattle.db_core.specs.Ends.{grown};
+    ghost use Rattle.db_core.specs.Desk.{Agrees, IsLeft, entered, cleared, grant_of, rows_by, IsMoreIf, IsReadyIf, KeepsIf};
+    ghost use Rattle.db_core.specs.Laws.{HasName};
     ghost use Rattle.db_core.specs.Sits.{AllGranted, done_in, step_over, tx_of, entry_over, branch_out, branch_entry};
+    ghost use Rattle.db_core.specs.Stored.{told_if, stored_if};
+    ghost use Rattle.db_core.specs.Ends.{grown};
     ghost use Rattle.lock_table.specs.Grants.{without};
 
     /// Moves the desk's lines into the list. Want of memory leaves both as before.
     pub fn enter(&mut self, desk: &mut Desk<St>) -> Result<(), AllocError>
-        requires { Agrees self.old desk.old }
-        ensures ok { OnOk result (self.new ≡ entered self.old desk.old) }
+        requires { Agrees self.old.kept desk.old }
+        ensures log { self.new.log ≡ self.old.log }
+        ensures ok { OnOk result (self.new.kept ≡ entered self.old.kept desk.old) }
         ensures cleared { OnOk result (desk.new ≡ cleared desk.old) }
-        ensures agree { Agrees self.new desk.new }
-        ensures err { OnErr result (self.new ≡ self.old) }
+        ensures agree { Agrees self.new.kept desk.new }
+        ensures err { OnErr result (self.new.kept ≡ self.old.kept) }
         ensures kept { OnErr result (desk.new ≡ desk.old) }
     {
         self.steps.append(&mut desk.waiting)?;
@@ -206,17 +224,17 @@ impl<St: Store, J: Log<St>> Board<St, J> {
         text: &LineText,
         stmt: &Stmt,
     ) -> Result<Reply, AllocError>
-        requires agree { Agrees self.old desk.old }
+        requires agree { Agrees self.old.kept desk.old }
         requires line { said_of text.now false ≡ heard desk.old.session stmt.now }
-        ensures reply { IfOk result (λ r. (later : List Said) → AllHaveRoom later → r ≡ reply_in (world_of (entered self.old desk.old)) (said_of text.now false) later) }
+        ensures answered { IfOk result (λ r. (failed : Bool) × IsAnswered (entered self.old.kept desk.old) self.new.kept text.now failed r
+            × Stores J.faults J.Keeps J.generation J.moment J.opens_since J.Quiet self.old.kept.now failed
+            (entry_of (entered self.old.kept desk.old) text.now) self.old.log self.new.log) }
         ensures named { IfOk result NamesItsRows }
-        ensures steps { OnOk result (saids self.new.steps ≡ saids (entered self.old desk.old).steps ++ said_of text.now false ∷ []) }
+        ensures agree { Agrees self.new.kept desk.new }
         ensures waiting { OnOk result (desk.new.waiting ≡ []) }
-        ensures agree { Agrees self.new desk.new }
-        ensures opening { self.new.opening ≡ self.old.opening }
-        ensures first_count { self.new.first_count ≡ self.old.first_count }
         ensures session { desk.new.session ≡ desk.old.session }
-        ensures err { OnErr result ((self.new.steps ≡ self.old.steps) ⊎ (self.new.steps ≡ (entered self.old desk.old).steps)) }
+        ensures err { OnErr result (IsLeft self.old.kept desk.old self.new.kept desk.new) }
+        ensures untouched { OnErr result (self.new.log ≡ self.old.log) }
     {
         self.enter(desk)?;
         let reply = self.serve(&mut desk.session, text, stmt)?;
@@ -226,38 +244,48 @@ impl<St: Store, J: Log<St>> Board<St, J> {
 
     /// Releases the needs of the desk's transaction, which ends without an entry. It takes no memory.
     pub fn end(&mut self, desk: &mut Desk<St>)
-        ensures board { self.new ≡ record self.old { rows = without desk.old.session self.old.rows } }
+        ensures log { self.new.log ≡ self.old.log }
+        ensures board { self.new.kept ≡ record self.old.kept { rows = without desk.old.session self.old.kept.rows } }
         ensures desk { desk.new ≡ record desk.old { open_tx = None; skipping = false } }
     {
         self.locks.release(desk.session.number);
         close(&mut desk.session, false);
     }
 
-    /// Makes a branch of a version, for a line whose needs were granted, and releases them. Want of
-    /// memory leaves all as before.
+    /// Makes a branch of a version, for a line whose needs were granted, and releases them. If the log
+    /// fails, no branch is made. Want of memory leaves all as before, and the log isn't called.
     pub fn branch(
         &mut self,
         desk: &mut Desk<St>,
         name: &Name,
         of: &VersionName,
     ) -> Result<Reply, AllocError>
-        ensures reply { IfOk result (λ r. r ≡ (branch_out (dataset_of self.old.now) name.now of.now).reply) }
-        ensures board { OnOk result (self.new ≡ record self.old { now = grown self.old.now (branch_entry (branch_out (dataset_of self.old.now) name.now of.now).tx.made); rows = without desk.old.session self.old.rows }) }
+        requires { HasName (Stmt.Branch name.now of.now) }
+        ensures answered { IfOk result (λ r. (failed : Bool)
+            × (r ≡ told_if failed (branch_out (dataset_of self.old.kept.now) name.now of.now).reply)
+            × (self.new.kept ≡ ended_by failed self.old.kept desk.old.session (branch_entry (branch_out (dataset_of self.old.kept.now) name.now of.now).tx.made))
+            × Stores J.faults J.Keeps J.generation J.moment J.opens_since J.Quiet self.old.kept.now failed
+            (branch_entry (branch_out (dataset_of self.old.kept.now) name.now of.now).tx.made) self.old.log self.new.log) }
         ensures desk { desk.new ≡ desk.old }
         ensures err { OnErr result (self.new ≡ self.old) }
     {
-        let answer = branch_of(&mut self.store, name, of)?;
+        let plan = branch_of(&self.store, name, of);
+        let answer = carry_out(self.alloc, &mut self.store, &mut self.log, plan)?;
         self.locks.release(desk.session.number);
         Ok(answer.reply)
     }
 
     /// Ends the desk's open transaction with its entry, if it has one, and tells the version that this
-    /// made. Want of memory leaves the transaction open and unchanged.
+    /// made. If the log fails, it ends without the entry. Want of memory leaves the transaction open
+    /// and unchanged, and the log isn't called.
     pub fn commit(&mut self, desk: &mut Desk<St>) -> Result<Reply, AllocError>
-        requires agree { Agrees self.old desk.old }
+        requires agree { Agrees self.old.kept desk.old }
         requires open { is_some desk.old.open_tx ≡ true }
-        ensures reply { IfOk result (λ r. r ≡ (step_over (dataset_of self.old.now) desk.old.current (tx_of desk.old.open_tx) Stmt.Commit).reply) }
-        ensures board { OnOk result (self.new ≡ record self.old { now = grown self.old.now (entry_over (dataset_of self.old.now) desk.old.current Stmt.Commit (tx_of desk.old.open_tx)); rows = without desk.old.session self.old.rows }) }
+        ensures answered { IfOk result (λ r. (failed : Bool)
+            × (r ≡ told_if failed (step_over (dataset_of self.old.kept.now) desk.old.current (tx_of desk.old.open_tx) Stmt.Commit).reply)
+            × (self.new.kept ≡ ended_by failed self.old.kept desk.old.session (entry_over (dataset_of self.old.kept.now) desk.old.current Stmt.Commit (tx_of desk.old.open_tx)))
+            × Stores J.faults J.Keeps J.generation J.moment J.opens_since J.Quiet self.old.kept.now failed
+            (entry_over (dataset_of self.old.kept.now) desk.old.current Stmt.Commit (tx_of desk.old.open_tx)) self.old.log self.new.log) }
         ensures desk { OnOk result (desk.new ≡ record desk.old { open_tx = None; skipping = false }) }
         ensures err { OnErr result (self.new ≡ self.old) }
         ensures kept { OnErr result (desk.new ≡ desk.old) }
@@ -265,9 +293,16 @@ impl<St: Store, J: Log<St>> Board<St, J> {
         let branch = desk.session.current;
         let number = desk.session.number;
         match &desk.session.tx {
-            None => Ok(Reply::Done),
+            None => unreachable!(),
             Some(tx) => {
-                let answer = end(&mut self.store, tx, branch, &Stmt::Commit)?;
+                let answer = finish(
+                    self.alloc,
+                    &mut self.store,
+                    &mut self.log,
+                    tx,
+                    branch,
+                    &Stmt::Commit,
+                )?;
                 self.locks.release(number);
                 close(&mut desk.session, false);
                 Ok(answer.reply)
@@ -279,16 +314,17 @@ impl<St: Store, J: Log<St>> Board<St, J> {
     /// granted, the open transaction gets what the statement reads or changes; where one is held, the
     /// desk stays. Want of memory leaves the board as before, and the desk in agreement with it.
     pub fn grant(&mut self, desk: &mut Desk<St>, stmt: &Stmt) -> Result<Grant, AllocError>
-        requires agree { Agrees self.old desk.old }
-        ensures answer { IfOk result (λ r. r ≡ grant_of (dataset_of self.old.now) (holder desk.old.session (needs (dataset_of self.old.now) desk.old.current (is_some desk.old.open_tx) (done_in desk.old.open_tx) stmt.now) self.old.rows)) }
-        ensures rows { OnOk result (self.new ≡ record self.old { rows = rows_by (holder desk.old.session (needs (dataset_of self.old.now) desk.old.current (is_some desk.old.open_tx) (done_in desk.old.open_tx) stmt.now) self.old.rows) desk.old.session (needs (dataset_of self.old.now) desk.old.current (is_some desk.old.open_tx) (done_in desk.old.open_tx) stmt.now) self.old.rows }) }
+        requires agree { Agrees self.old.kept desk.old }
+        ensures answer { IfOk result (λ r. r ≡ grant_of (dataset_of self.old.kept.now) (holder desk.old.session (needs (dataset_of self.old.kept.now) desk.old.current (is_some desk.old.open_tx) (done_in desk.old.open_tx) stmt.now) self.old.kept.rows)) }
+        ensures log { self.new.log ≡ self.old.log }
+        ensures rows { OnOk result (self.new.kept ≡ record self.old.kept { rows = rows_by (holder desk.old.session (needs (dataset_of self.old.kept.now) desk.old.current (is_some desk.old.open_tx) (done_in desk.old.open_tx) stmt.now) self.old.kept.rows) desk.old.session (needs (dataset_of self.old.kept.now) desk.old.current (is_some desk.old.open_tx) (done_in desk.old.open_tx) stmt.now) self.old.kept.rows }) }
         ensures desk { desk.new ≡ record desk.old { open_tx = desk.new.open_tx } }
         ensures held { IfOk result (λ r. r ≢ Grant.Granted → desk.new ≡ desk.old) }
         ensures more { OnOk result (IsMoreIf desk.old.open_tx desk.new.open_tx) }
-        ensures ready { IfOk result (λ r. r ≡ Grant.Granted → IsReadyIf (dataset_of self.old.now) desk.old.current stmt.now desk.new.open_tx) }
-        ensures keeps { OnOk result ((rows : List Row) → KeepsIf (dataset_of self.old.now) rows desk.old.session desk.old.current desk.old.open_tx → AllGranted rows desk.old.session (needs (dataset_of self.old.now) desk.old.current (is_some desk.old.open_tx) (done_in desk.old.open_tx) stmt.now) → KeepsIf (dataset_of self.old.now) rows desk.old.session desk.old.current desk.new.open_tx) }
-        ensures err { OnErr result (self.new ≡ self.old) }
-        ensures kept { OnErr result (Agrees self.new desk.new) }
+        ensures ready { IfOk result (λ r. r ≡ Grant.Granted → IsReadyIf (dataset_of self.old.kept.now) desk.old.current stmt.now desk.new.open_tx) }
+        ensures keeps { OnOk result ((rows : List Row) → KeepsIf (dataset_of self.old.kept.now) rows desk.old.session desk.old.current desk.old.open_tx → AllGranted rows desk.old.session (needs (dataset_of self.old.kept.now) desk.old.current (is_some desk.old.open_tx) (done_in desk.old.open_tx) stmt.now) → KeepsIf (dataset_of self.old.kept.now) rows desk.old.session desk.old.current desk.new.open_tx) }
+        ensures err { OnErr result (self.new.kept ≡ self.old.kept) }
+        ensures kept { OnErr result (Agrees self.new.kept desk.new) }
     {
         let told = ask(
             self.alloc,

@@ -1,6 +1,8 @@
 //! Laws of lists of lines: each function does nothing, and its contract is the law.
 ghost use Rattle.db_core.specs.Laws.{RoomLaw, MachineLaw, StateLaw, GrowthLaw, RowsLaw};
 ghost use Rattle.db_core.specs.Desk.{NewDeskLaw, OtherLinesLaw};
+ghost use Rattle.db_core.specs.Local.{LocalLaw};
+ghost use Rattle.db_core.specs.Marks.{FailedLaw, RefusedLaw};
 
 /// A line that is read has a room that can be.
 pub fn room_law()
@@ -32,7 +34,22 @@ pub fn new_desk_law()
     ensures { NewDeskLaw }
 {}
 
-/// A desk at which no line waits agrees with the board after lines of other sessions too.
+/// A desk agrees with the board after lines of other sessions too.
 pub fn other_lines_law()
     ensures { OtherLinesLaw }
+{}
+
+/// Lines that a session answers by itself are right behind lines of other sessions that came between.
+pub fn local_law()
+    ensures { LocalLaw }
+{}
+
+/// A failed line leaves the state: its transaction has no entry.
+pub fn failed_law()
+    ensures { FailedLaw }
+{}
+
+/// A line that may have the mark and has it is refused for the disk.
+pub fn refused_law()
+    ensures { RefusedLaw }
 {}

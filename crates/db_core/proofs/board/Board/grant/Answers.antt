@@ -1,17 +1,17 @@
 use Rattle.std.proofs.Common.{◌≡◌, ◌∙◌, sym, ap, subst, Option, ℕ}
-use Rattle.db_store.specs.State.{State, dataset_of}
 use Rattle.branch_tx.specs.Granted.{Granted}
 use Rattle.db_core.specs.Kept.{Kept, world_of}
 use Rattle.db_core.specs.Desk.{AtDesk, Agrees, entered, IsSameIf}
+use Rattle.db_core.proofs.Logging.{kept_is}
 use Rattle.db_core.proofs.Answering.{seated_as, on_err}
 use Rattle.db_core.proofs.Standing.{seated_agree, agree_same}
 use Rattle.db_core.proofs.board.Board.grant.Goals as goal
 
 pub ask-requires : goal.ask-requires
 ask-requires g c =
-    let b : Kept = c.args.self.now in
+    let b : Kept = c.args.self.now.kept in
     let k : AtDesk = c.args.desk.now in
-    let v = c.self.view_is in
+    let v = (kept_is _ _ c.self.view_is) in
     let u = c.desk.view_is in
     record {
       seated = (
@@ -24,9 +24,9 @@ ask-requires g c =
 
 pub returns-in_err-told-clause-kept : goal.returns-in_err-told-clause-kept
 returns-in_err-told-clause-kept g c =
-    let b : Kept = c.args.self.now in
+    let b : Kept = c.args.self.now.kept in
     let k : AtDesk = c.args.desk.now in
-    let v = c.self.view_is in
+    let v = (kept_is _ _ c.self.view_is) in
     let u = c.desk.view_is in
     let s = c.ask.new.session in
     let m : AtDesk = record { session = s.number; current = s.current; name = c.desk.inside.name; skipping = s.skipping; open_tx = s.tx; schema = c.desk.inside.schema; waiting = c.desk.inside.waiting.items } in
@@ -39,9 +39,9 @@ returns-in_err-told-clause-kept g c =
       schema = ap (λ (x : AtDesk). x.schema) u i;
       waiting = ap (λ (x : AtDesk). x.waiting) u i;
     }) in
-    let same : IsSameIf (dataset_of b.now) k.session k.current k.open_tx m.open_tx =
-    subst (λ (p : State × (ℕ × (ℕ × Option Granted))). IsSameIf (dataset_of p.0) p.1.0 p.1.1.0 p.1.1.1 m.open_tx)
-    (λ i. (ap (λ (x : Kept). x.now) v i, (ap (λ (x : AtDesk). x.session) u i, (ap (λ (x : AtDesk). x.current) u i, ap (λ (x : AtDesk). x.open_tx) u i)))) c.in_err-told.ensures.kept in
+    let same : IsSameIf k.session k.current k.open_tx m.open_tx =
+    subst (λ (p : ℕ × (ℕ × Option Granted)). IsSameIf p.0 p.1.0 p.1.1 m.open_tx)
+    (λ i. (ap (λ (x : AtDesk). x.session) u i, (ap (λ (x : AtDesk). x.current) u i, ap (λ (x : AtDesk). x.open_tx) u i))) c.in_err-told.ensures.kept in
     let board : b ≡ record { opening = g.St.Store.state c.self.inside.opening; steps = c.self.inside.steps.items; now = g.St.Store.state c.self.inside.store; rows = c.ask.new.locks.rows; first_count = c.self.inside.first_count } =
     (sym v ∙ (λ i. record { opening = g.St.Store.state c.self.inside.opening; steps = c.self.inside.steps.items; now = g.St.Store.state c.self.inside.store; rows = sym c.in_err-told.ensures.err i; first_count = c.self.inside.first_count })) in
     on_err c.from_residual.result _ (subst (λ (x : Kept). Agrees x m) board (agree_same b k m c.requires.agree e same))
