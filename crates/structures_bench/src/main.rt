@@ -1,5 +1,5 @@
 //! How long the calls of the structures take: bitmaps, the index, the overlay, the region, the table
-//! of locks and the graph of versions.
+//! of locks, the graph of versions and the history of a bitmap.
 //!
 //! A line tells the least time of a call over some rounds, and a sum over what the calls answered,
 //! which another program for the same work must print too.
@@ -16,9 +16,11 @@
 //! | `src/regions.rt` | `work_region` |
 //! | `src/lockers.rt` | `lock_table` |
 //! | `src/lineages.rt` | `version_graph` |
+//! | `src/histories.rt` | `commit_history` |
 #![tactic(auto)]
 
 mod bitmaps;
+mod histories;
 mod indexes;
 mod keys;
 mod lineages;
@@ -30,6 +32,7 @@ mod words;
 
 use anyhow::Result;
 use bitmaps::time_bitmaps;
+use histories::time_histories;
 use indexes::time_indexes;
 use lineages::time_lineages;
 use lockers::time_lockers;
@@ -41,7 +44,7 @@ use std::rt::{Clock, Env};
 use words::{Kind, Order, Words, words_of};
 
 const USAGE: &str =
-    "usage: structures_bench all | NAME SIZE ROUNDS (NAME: plain_bits key_index overlay work_region lock_table version_graph, SIZE: 1 to 16777216, ROUNDS: 1 to 1000)";
+    "usage: structures_bench all | NAME SIZE ROUNDS (NAME: plain_bits key_index overlay work_region lock_table version_graph commit_history, SIZE: 1 to 16777216, ROUNDS: 1 to 1000)";
 
 fn run_order<R: Clock + Print + AllocGlobal>(rt: &R, order: &Order) -> Result<()> {
     let (size, rounds) = (order.size, order.rounds);
@@ -52,6 +55,7 @@ fn run_order<R: Clock + Print + AllocGlobal>(rt: &R, order: &Order) -> Result<()
         Kind::Region => time_regions(rt, size, rounds),
         Kind::Locks => time_lockers(rt, size, rounds),
         Kind::Graph => time_lineages(rt, size, rounds),
+        Kind::History => time_histories(rt, size, rounds),
     }
 }
 
@@ -65,7 +69,8 @@ fn run_all<R: Clock + Print + AllocGlobal>(rt: &R) -> Result<()> {
     time_regions(rt, 4_096, 25)?;
     time_regions(rt, 65_536, 25)?;
     time_lockers(rt, 64, 25)?;
-    time_lineages(rt, 100_000, 25)
+    time_lineages(rt, 100_000, 25)?;
+    time_histories(rt, 10_000, 25)
 }
 
 // Whether the words were some that the program knows.

@@ -15,6 +15,7 @@ pub enum Kind {
     Region,
     Locks,
     Graph,
+    History,
 }
 
 /// One structure, of a size that its kind gives a meaning, in a number of rounds.
@@ -43,6 +44,7 @@ fn kind_of(name: &str) -> Option<Kind> {
         "work_region" => Some(Kind::Region),
         "lock_table" => Some(Kind::Locks),
         "version_graph" => Some(Kind::Graph),
+        "commit_history" => Some(Kind::History),
         _ => None,
     }
 }
