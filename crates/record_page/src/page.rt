@@ -3,7 +3,7 @@ ghost use Rattle.std.specs.Prelude.{◌≡◌, ◌<◌, ◌≤◌, ◌+◌, [], 
 ghost use Rattle.record_page.specs.Page.{IsPaged, capacity, record_at, with_record, page_bytes, page_in};
 
 use crate::head::are_page;
-use crate::slots::{PageFull, blank, many_in, push_record, record_of_slot, spelled};
+use crate::slots::{PageFull, blank, many_in, push_record, read_slot, spelled};
 use db_value::{Record, Steps};
 use std::alloc::{AllocError, Global};
 use std::marker::Model;
@@ -76,7 +76,7 @@ impl Page {
         ensures row { into.new ≡ record_at self.now.records slot }
         ensures cost { steps.new ≡ steps.old + 1 }
     {
-        *into = record_of_slot(self.bytes.as_slice(), slot);
+        read_slot(self.bytes.as_slice(), slot, into);
         steps.tick();
     }
 

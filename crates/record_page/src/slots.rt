@@ -5,7 +5,7 @@ ghost use Rattle.record_page.specs.Spelling.{record_size};
 ghost use Rattle.record_page.specs.Laws.{IsSpelled};
 
 use crate::head::{HEAD_BYTES, PAGE_BYTES, capacity_of, count_of, put_count, width_of};
-use crate::spelling::{put_record, record_of, size_of};
+use crate::spelling::{put_record, read_record, size_of};
 use db_value::Record;
 use std::alloc::{AllocError, Global};
 
@@ -53,14 +53,14 @@ fn place_of(bytes: &[u8], slot: u16) -> usize
     HEAD_BYTES + slot as usize * size_of(width_of(bytes))
 }
 
-/// The record in a slot.
-pub(crate) fn record_of_slot(bytes: &[u8], slot: u16) -> Record
+/// Reads the record in a slot.
+pub(crate) fn read_slot(bytes: &[u8], slot: u16, into: &mut Record)
     requires page { is_page bytes.now ≡ true }
     requires there { slot < length (rows_in bytes.now).records }
-    ensures { result ≡ record_at (rows_in bytes.now).records slot }
+    ensures { into.new ≡ record_at (rows_in bytes.now).records slot }
 {
     let at = place_of(bytes, slot);
-    record_of(&bytes[at..], width_of(bytes))
+    read_record(&bytes[at..], width_of(bytes), into);
 }
 
 /// Puts a record after the others, and tells its slot.

@@ -68,8 +68,22 @@ fn fields_of(bytes: &[u8], count: usize) -> Fields
     }
 }
 
-/// The record of so many fields in the first bytes.
-pub(crate) fn record_of(bytes: &[u8], fields: u8) -> Record
+// Gives fields their values, as many as there are, out of the first bytes.
+fn take_fields(bytes: &[u8], into: &mut Fields)
+    requires { VALUE_BYTES * length into.old ≤ length bytes.now }
+    ensures { into.new ≡ values_in (length into.old) bytes.now }
+{
+    let count = into.count();
+    let mut rest = bytes;
+    for at in 0..count {
+        let (value, after) = value_of(rest);
+        into.put(at as u8, value);
+        rest = after;
+    }
+}
+
+// The record of so many fields in the first bytes.
+fn record_of(bytes: &[u8], fields: u8) -> Record
     requires some { 0 < fields }
     requires few { fields ≤ 15 }
     requires room { record_size fields ≤ length bytes.now }
@@ -80,6 +94,22 @@ pub(crate) fn record_of(bytes: &[u8], fields: u8) -> Record
         key,
         fields: fields_of(rest, fields as usize),
     }
+}
+
+/// Reads the record of so many fields in the first bytes. Where `into` has as many fields, only these are written.
+pub(crate) fn read_record(bytes: &[u8], fields: u8, into: &mut Record)
+    requires some { 0 < fields }
+    requires few { fields ≤ 15 }
+    requires room { record_size fields ≤ length bytes.now }
+    ensures { into.new ≡ record_in fields bytes.now }
+{
+    if into.fields.count() != fields as usize {
+        *into = record_of(bytes, fields);
+        return;
+    }
+    let (key, rest) = key_of(bytes);
+    into.key = key;
+    take_fields(rest, &mut into.fields);
 }
 
 // Puts a key in the first bytes.

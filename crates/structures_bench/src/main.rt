@@ -1,5 +1,5 @@
 //! How long the calls of the structures take: bitmaps, the index, the overlay, the region, the table
-//! of locks, the graph of versions and the history of a bitmap.
+//! of locks, the graph of versions, the history of a bitmap, pages and segments.
 //!
 //! A line tells the least time of a call over some rounds, and a sum over what the calls answered,
 //! which another program for the same work must print too.
@@ -17,6 +17,7 @@
 //! | `src/lockers.rt` | `lock_table` |
 //! | `src/lineages.rt` | `version_graph` |
 //! | `src/histories.rt` | `commit_history` |
+//! | `src/pages.rt` | `record_page` and `segment` |
 #![tactic(auto)]
 
 mod bitmaps;
@@ -26,6 +27,7 @@ mod keys;
 mod lineages;
 mod lockers;
 mod overlays;
+mod pages;
 mod regions;
 mod timing;
 mod words;
@@ -37,6 +39,7 @@ use indexes::time_indexes;
 use lineages::time_lineages;
 use lockers::time_lockers;
 use overlays::time_overlays;
+use pages::time_pages;
 use regions::time_regions;
 use std::env;
 use std::process::ExitCode;
@@ -44,7 +47,7 @@ use std::rt::{Clock, Env};
 use words::{Kind, Order, Words, words_of};
 
 const USAGE: &str =
-    "usage: structures_bench all | NAME SIZE ROUNDS (NAME: plain_bits key_index overlay work_region lock_table version_graph commit_history, SIZE: 1 to 16777216, ROUNDS: 1 to 1000)";
+    "usage: structures_bench all | NAME SIZE ROUNDS (NAME: plain_bits key_index overlay work_region lock_table version_graph commit_history segment, SIZE: 1 to 16777216, ROUNDS: 1 to 1000)";
 
 fn run_order<R: Clock + Print + AllocGlobal>(rt: &R, order: &Order) -> Result<()> {
     let (size, rounds) = (order.size, order.rounds);
@@ -56,6 +59,7 @@ fn run_order<R: Clock + Print + AllocGlobal>(rt: &R, order: &Order) -> Result<()
         Kind::Locks => time_lockers(rt, size, rounds),
         Kind::Graph => time_lineages(rt, size, rounds),
         Kind::History => time_histories(rt, size, rounds),
+        Kind::Pages => time_pages(rt, size, rounds),
     }
 }
 
@@ -70,7 +74,8 @@ fn run_all<R: Clock + Print + AllocGlobal>(rt: &R) -> Result<()> {
     time_regions(rt, 65_536, 25)?;
     time_lockers(rt, 64, 25)?;
     time_lineages(rt, 100_000, 25)?;
-    time_histories(rt, 10_000, 25)
+    time_histories(rt, 10_000, 25)?;
+    time_pages(rt, 262_144, 25)
 }
 
 // Whether the words were some that the program knows.

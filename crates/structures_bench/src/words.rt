@@ -1,6 +1,6 @@
 //! What the program is asked to run.
 
-ghost use Rattle.std.specs.Prelude.{◌<◌, IfSome};
+ghost use Rattle.std.specs.Prelude.{◌<◌, ◌≤◌, IfSome};
 
 const MOST_SIZE: u32 = 16_777_216;
 
@@ -16,6 +16,7 @@ pub enum Kind {
     Locks,
     Graph,
     History,
+    Pages,
 }
 
 /// One structure, of a size that its kind gives a meaning, in a number of rounds.
@@ -25,6 +26,7 @@ pub struct Order {
     pub size: u32,
     pub rounds: u32,
     ghost some: { 0 < size },
+    ghost few: { size ≤ 16777216 },
 }
 
 /// The words of a call.
@@ -45,12 +47,14 @@ fn kind_of(name: &str) -> Option<Kind> {
         "lock_table" => Some(Kind::Locks),
         "version_graph" => Some(Kind::Graph),
         "commit_history" => Some(Kind::History),
+        "segment" => Some(Kind::Pages),
         _ => None,
     }
 }
 
 fn number_of(text: &str, most: u32) -> Option<u32>
-    ensures { IfSome result (λ number. 0 < number) }
+    ensures some { IfSome result (λ number. 0 < number) }
+    ensures few { IfSome result (λ number. number ≤ most) }
 {
     let number = text.parse::<u32>().ok()?;
     if number == 0 || number > most {
