@@ -1,5 +1,5 @@
 -- What every dataset has that entries make of a new one.
-use Rattle.std.proofs.Common.{◌≡◌, ◌≢◌, ℕ, zero, suc, ◌<◌, ◌≤◌, ◌==◌, Bool, true, false, cond, List, [], ◌∷◌, ◌++◌, length, get_or, set, refl, arith, ap, sym, ◌∙◌, subst, Option, Some, None, inl, inr, ◌⊎◌}
+use Rattle.std.proofs.Common.{◌≡◌, ◌≢◌, ℕ, zero, suc, ◌/◌, ◌%◌, ◌^◌, ◌<◌, ◌≤◌, ◌==◌, Bool, true, false, cond, List, [], ◌∷◌, ◌++◌, length, get_or, set, refl, arith, ap, sym, ◌∙◌, subst, Option, Some, None, inl, inr, ◌⊎◌}
 use Rattle.std.specs.Prelude.{position, nat_lt, is_some}
 use Rattle.std.specs.List.{position_or_len}
 use Rattle.std.proofs.lemmas.Bool.{and_parts, ltb-true, lt-ltb, cases_eq, not-true}
@@ -21,7 +21,9 @@ use Rattle.db_store.specs.Table.{with_changes, rows_of, relation_at}
 use Rattle.db_store.specs.Dataset.{Version, Branch, Dataset, root, branch_at, branch_named, no_branch, head_of, no_version, version_at, table_at, is_made, IsMade, proper, next_place, grown, begun, apply, new_dataset}
 use Rattle.db_store.specs.Fits.{fits, second_fits, most_branches, most_versions}
 use Rattle.db_store.specs.Sound.{IsSound}
-use Rattle.db_store.specs.State.{State, whole, dataset_of, grow, place_of_id}
+use Rattle.db_store.specs.Layout.{Layout}
+use Rattle.db_store.specs.State.{State, dataset_of, grow, place_of_id, whole_records, records_by, layout_after}
+use Rattle.db_store.proofs.SegmentLemmas.{records_stay}
 use Rattle.db_store.specs.Parts.{Part, part_at, AreOf}
 use Rattle.db_store.specs.Growth.{CommitFits, commit_parts, made_from, made_test, branch_extends, branches_stay, made_stays}
 
@@ -325,12 +327,18 @@ some_made : (b : Bool) (xs ys : List Record) → cond b (Some xs) None ≡ Some 
 some_made true xs ys e = refl
 some_made false xs ys e = absurd (none-some ys e)
 
--- growth keeps the records of every id
-pub parts_stay : (s : State) (e : Entry) (parts : ℕ → List Part) → fits (dataset_of s) e ≡ true → AreOf s parts → AreOf (grow s e) parts
-parts_stay (whole d) e parts f old r i h =
-    let at : VersionPlace = place_of_id (part_at (parts r) i).id in
-    let is = old r i h in
+whole_stays : (d : Dataset) (e : Entry) (r id : ℕ) (xs : List Record) → whole_records d r id ≡ Some xs → whole_records (apply d e) r id ≡ Some xs
+whole_stays d e r id xs is =
+    let at : VersionPlace = place_of_id id in
     let m : IsMade d at = made_from d at (some_made (is_made d at) _ _ is) in
     ap (λ b. cond b (Some (rows_of (relation_at (table_at (apply d e) at) r))) None) (made_test (apply d e) at (made_stays d e at m) ∙ sym (made_test d at m))
     ∙ ap (λ (v : Version). cond (is_made d at) (Some (rows_of (relation_at v.table r))) None) (version_stays d e at m)
     ∙ is
+
+-- growth keeps the records of every id
+id_stays : (d : Dataset) (o : Option Layout) (e : Entry) (r id : ℕ) (xs : List Record) → records_by d o r id ≡ Some xs → records_by (apply d e) (layout_after o e) r id ≡ Some xs
+id_stays d None e r id xs is = whole_stays d e r id xs is
+id_stays d (Some l) e r id xs is = records_stay l e r (id / 2 ^ 32) (id % 2 ^ 32) xs is
+
+pub parts_stay : (s : State) (e : Entry) (parts : ℕ → List Part) → fits (dataset_of s) e ≡ true → AreOf s parts → AreOf (grow s e) parts
+parts_stay s e parts f old r i h = id_stays s.dataset s.layout e r (part_at (parts r) i).id _ (old r i h)
