@@ -14,8 +14,6 @@
 mod bitmaps;
 mod ids;
 mod rows;
-#[cfg(test)]
-mod tests;
 
 pub use ids::{BranchIds, Ids, SegmentIds};
 pub use rows::BranchSegments;

@@ -16,8 +16,6 @@
 mod delta;
 mod history;
 mod level;
-#[cfg(test)]
-mod tests;
 
 pub use delta::Delta;
 pub use history::{History, NextDelta};

@@ -16,8 +16,6 @@ mod disk;
 mod file;
 mod handle;
 mod streams;
-#[cfg(test)]
-mod tests;
 
 pub use disk::RealDisk;
 pub use file::Access;

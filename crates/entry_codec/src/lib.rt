@@ -15,8 +15,6 @@
 mod laws;
 mod log;
 mod read;
-#[cfg(test)]
-mod tests;
 mod write;
 
 pub use laws::{codec_laws, fitting_law};

@@ -18,8 +18,6 @@ mod merged;
 mod one_key;
 mod stop;
 mod tables;
-#[cfg(test)]
-mod tests;
 mod walk;
 
 pub use merged::Merged;

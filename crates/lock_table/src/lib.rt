@@ -20,8 +20,6 @@ mod laws;
 mod lock;
 mod locks;
 mod need;
-#[cfg(test)]
-mod tests;
 
 pub use laws::row_laws;
 pub use locks::{Ask, Locks};

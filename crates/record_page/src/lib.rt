@@ -29,8 +29,6 @@ mod laws;
 mod page;
 mod slots;
 mod spelling;
-#[cfg(test)]
-mod tests;
 
 pub use head::capacity_of;
 pub use laws::page_laws;

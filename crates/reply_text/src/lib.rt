@@ -16,8 +16,6 @@ mod refusal;
 mod reply;
 mod report;
 mod rows;
-#[cfg(test)]
-mod tests;
 mod writer;
 
 pub use reply::{ReplyBytes, write_reply};

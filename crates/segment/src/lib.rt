@@ -20,7 +20,5 @@
 mod block;
 mod segment;
 mod tail;
-#[cfg(test)]
-mod tests;
 
 pub use segment::Segment;

@@ -1,6 +1,10 @@
-//! Tests of questions to versions of a plain store, of merges and of the graph. Nothing here is called.
+//! Tests of entries, of merges, and of questions to versions of a plain store. Nothing here is called.
 #![tactic(auto)]
 
+#[cfg(test)]
+mod entry_codec_tests;
+#[cfg(test)]
+mod field_merge_tests;
 #[cfg(test)]
 mod graph_tests;
 #[cfg(test)]

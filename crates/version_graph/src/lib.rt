@@ -19,8 +19,6 @@ mod graph;
 mod laws;
 mod marks;
 mod parents;
-#[cfg(test)]
-mod tests;
 mod walk;
 
 pub use graph::Graph;

@@ -10,7 +10,5 @@
 #![tactic(auto)]
 
 mod region;
-#[cfg(test)]
-mod tests;
 
 pub use region::{Frame, Region, RegionFull};

@@ -1,0 +1,9 @@
+//! Tests of values, statements and replies as texts. Nothing here is called.
+#![tactic(auto)]
+
+#[cfg(test)]
+mod db_value_tests;
+#[cfg(test)]
+mod reply_text_tests;
+#[cfg(test)]
+mod stmt_text_tests;

@@ -1,0 +1,299 @@
+//! Replies beside their texts, which were written by hand.
+ghost use Rattle.std.specs.Prelude.{◌≡◌, IsTrue};
+ghost use Rattle.std.specs.List.{All};
+ghost use Rattle.reply_text.specs.Rows.{HasNames};
+ghost use Rattle.reply_text.specs.Reply.{NamesItsRows};
+
+use db_value::{
+    Fields, LayoutLine, ListOf, Live, LogLine, Marked, Name, Pair, Positions, Record, Refusal,
+    Reply, Schema, VersionName,
+};
+use reply_text::*;
+use std::alloc::Global;
+use std::process::Abort;
+use std::test::Fail;
+
+fn has_names(names: &[VersionName], positions: &Positions) -> bool
+    ensures { IsTrue result → HasNames names.now positions.now }
+{
+    let (first, others) = positions.parts();
+    if names.is_empty() {
+        first == 0 && others.is_empty()
+    } else {
+        (first as usize) < names.len() && others.iter().all(|p| (*p as usize) < names.len())
+    }
+}
+
+fn have_names(names: &[VersionName], rows: &[Marked]) -> bool
+    ensures { IsTrue result → All (λ m. HasNames names.now m.positions) rows.now }
+{
+    for row in rows {
+        if !has_names(names, &row.positions) {
+            return false;
+        }
+    }
+    true
+}
+
+fn names_its_rows(reply: &Reply) -> bool
+    ensures { IsTrue result → NamesItsRows reply.now }
+{
+    match reply {
+        Reply::Listed { names, rows } => have_names(names.as_slice(), rows.as_slice()),
+        _ => true,
+    }
+}
+
+fn answers(
+    rt: &impl Abort,
+    alloc: Global,
+    line: &str,
+    reply: &Reply,
+    expected: &str,
+) -> Result<(), Fail> {
+    let (schema, _) = Schema::read(alloc, b"relation items a b\nend\n")?;
+    let text = ListOf::of(Vec::from_slice(alloc, line.as_bytes())?);
+    assert!(rt; names_its_rows(reply), "{line}: a position without a name");
+    let bytes = write_reply(alloc, &schema, &text, reply)?;
+    assert!(rt; bytes.as_slice() == expected.as_bytes(), "{line}");
+    Ok(())
+}
+
+fn name(text: &str) -> Result<Name, Fail> {
+    Ok(Name::read(text.as_bytes()).ok_or("no name")?)
+}
+
+fn version(branch: &str, position: Option<u64>) -> Result<VersionName, Fail> {
+    let branch = name(branch)?;
+    Ok(VersionName { branch, position })
+}
+
+fn fields(values: &[i64]) -> Result<Fields, Fail> {
+    Ok(Fields::of(values).ok_or("no fields")?)
+}
+
+fn row(key: u64, values: &[i64]) -> Result<Record, Fail> {
+    let fields = fields(values)?;
+    Ok(Record { key, fields })
+}
+
+fn marked(
+    alloc: Global,
+    key: u64,
+    values: &[i64],
+    first: u32,
+    others: &[u32],
+) -> Result<Marked, Fail> {
+    Ok(Marked {
+        row: row(key, values)?,
+        positions: Positions::of(first, Vec::from_slice(alloc, others)?),
+    })
+}
+
+fn listed(names: Vec<VersionName>, rows: Vec<Marked>) -> Reply {
+    Reply::Listed {
+        names: ListOf::of(names),
+        rows: ListOf::of(rows),
+    }
+}
+
+#[test]
+#[rattlefmt::skip]
+fn answers_changes_and_gets(rt: HostRuntime) -> Result<(), Fail> {
+    let replies = [
+        ("1 begin",               Reply::Done,                                               "> 1 begin\nok\n"),
+        ("1 insert items 1 1 1",  Reply::Made { branch: name("master")?, position: 1 },      "> 1 insert items 1 1 1\nok master@1\n"),
+        ("2 branch dev of master", Reply::Made { branch: name("dev")?, position: 0 },        "> 2 branch dev of master\nok dev@0\n"),
+        ("1 get items 0",         Reply::One { row: None },                                  "> 1 get items 0\nnone\n"),
+        ("1 get items 1",         Reply::One { row: Some(row(1, &[11, -21])?) },             "> 1 get items 1\nrow 1 11 -21\n"),
+        ("1 get ends 18446744073709551615", Reply::One { row: Some(row(u64::MAX, &[i64::MIN, i64::MAX])?) },
+            "> 1 get ends 18446744073709551615\nrow 18446744073709551615 -9223372036854775808 9223372036854775807\n"),
+        ("hello",                 Reply::Refused { why: Refusal::Line },                     "> hello\nrefused 1 bad line\n"),
+    ];
+    for (line, reply, expected) in replies {
+        answers(&rt, rt.alloc(), line, &reply, expected)?;
+    }
+    Ok(())
+}
+
+#[test]
+fn answers_scans_minus_and_joins(rt: HostRuntime) -> Result<(), Fail> {
+    let alloc = rt.alloc();
+    let whole = listed(
+        Vec::new(alloc),
+        vec![in alloc;
+            marked(alloc, 1, &[9, 1], 0, &[])?,
+            marked(alloc, 2, &[2, 2], 0, &[])?,
+        ]?,
+    );
+    let text = "> 1 scan items\nrow 1 9 1\nrow 2 2 2\nrows 2\n";
+    answers(&rt, alloc, "1 scan items", &whole, text)?;
+    let named = listed(
+        vec![in alloc; version("master", Some(1))?]?,
+        vec![in alloc; marked(alloc, 1, &[10, 20], 0, &[])?]?,
+    );
+    let text = "> 1 scan items in master@1\nrow 1 10 20 in master@1\nrows 1\n";
+    answers(&rt, alloc, "1 scan items in master@1", &named, text)?;
+    let heads = listed(
+        vec![in alloc; version("master", None)?, version("dev", None)?]?,
+        vec![in alloc;
+            marked(alloc, 7, &[1, 1], 0, &[1])?,
+            marked(alloc, 8, &[5, 5], 0, &[1])?,
+        ]?,
+    );
+    let text =
+        "> 1 scan items in heads\nrow 7 1 1 in master,dev\nrow 8 5 5 in master,dev\nrows 2\n";
+    answers(&rt, alloc, "1 scan items in heads", &heads, text)?;
+    let empty = listed(vec![in alloc; version("master", None)?]?, Vec::new(alloc));
+    let text = "> 1 scan items in heads\nrows 0\n";
+    answers(&rt, alloc, "1 scan items in heads", &empty, text)?;
+    let apart = listed(
+        vec![in alloc; version("master", Some(2))?, version("master", None)?]?,
+        vec![in alloc;
+            marked(alloc, 1, &[1, 1], 0, &[])?,
+            marked(alloc, 1, &[5, 1], 1, &[])?,
+        ]?,
+    );
+    let line = "1 scan items in master@2,master where key >= 1 and a != 2";
+    let text =
+        "> 1 scan items in master@2,master where key >= 1 and a != 2\nrow 1 1 1 in master@2\nrow 1 5 1 in master\nrows 2\n";
+    answers(&rt, alloc, line, &apart, text)?;
+    let minus = listed(
+        Vec::new(alloc),
+        vec![in alloc; marked(alloc, 1, &[5, 1], 0, &[])?]?,
+    );
+    let line = "1 minus items master master@2";
+    let text = "> 1 minus items master master@2\nrow 1 5 1\nrows 1\n";
+    answers(&rt, alloc, line, &minus, text)?;
+    let pair = Pair {
+        key: 1,
+        left: fields(&[1, 1])?,
+        right: fields(&[5, 1])?,
+    };
+    let joined = Reply::Paired {
+        pairs: ListOf::of(vec![in alloc; pair]?),
+    };
+    let line = "1 join items items master@1 master";
+    let text = "> 1 join items items master@1 master\npair 1 1 1 | 5 1\nrows 1\n";
+    answers(&rt, alloc, line, &joined, text)
+}
+
+fn made(branch: &str, position: u64, first: VersionName) -> Result<LogLine, Fail> {
+    let at = version(branch, Some(position))?;
+    let second = None;
+    Ok(LogLine::Made { at, first, second })
+}
+
+#[test]
+fn answers_logs_and_graphs(rt: HostRuntime) -> Result<(), Fail> {
+    let alloc = rt.alloc();
+    let origin = version("master", Some(1))?;
+    let branch = name("dev")?;
+    let lines = vec![in alloc; LogLine::Same { branch, origin }]?;
+    let log = Reply::Versions {
+        lines: ListOf::of(lines),
+        whole: false,
+    };
+    let text = "> 1 log dev\ndev@0 is master@1\npositions 1\n";
+    answers(&rt, alloc, "1 log dev", &log, text)?;
+    let merge = LogLine::Made {
+        at: version("master", Some(3))?,
+        first: version("master", Some(2))?,
+        second: Some(version("dev", Some(1))?),
+    };
+    let origin = version("master", Some(1))?;
+    let branch = name("dev")?;
+    let lines = vec![in alloc;
+        merge,
+        made("master", 2, version("master", Some(1))?)?,
+        made("master", 1, version("master", Some(0))?)?,
+        LogLine::Root,
+        made("dev", 1, version("master", Some(1))?)?,
+        LogLine::Same { branch, origin },
+    ]?;
+    let graph = Reply::Versions {
+        lines: ListOf::of(lines),
+        whole: true,
+    };
+    let text =
+        "> 1 graph\nmaster@3 of master@2 and dev@1\nmaster@2 of master@1\nmaster@1 of master@0\nmaster@0 root\ndev@1 of master@1\ndev@0 is master@1\nversions 5\n";
+    answers(&rt, alloc, "1 graph", &graph, text)
+}
+
+fn live(branch: &str, bits: u32) -> Result<Live, Fail> {
+    let branch = name(branch)?;
+    Ok(Live { branch, bits })
+}
+
+fn segment(
+    index: u32,
+    head: Option<Name>,
+    records: u32,
+    live: Vec<Live>,
+) -> Result<LayoutLine, Fail> {
+    Ok(LayoutLine {
+        relation: name("items")?,
+        index,
+        head,
+        records,
+        live: ListOf::of(live),
+    })
+}
+
+#[test]
+fn answers_segments(rt: HostRuntime) -> Result<(), Fail> {
+    let alloc = rt.alloc();
+    let shared = vec![in alloc; live("master", 1)?, live("dev", 0)?]?;
+    let layout = Reply::Layout {
+        lines: ListOf::of(vec![in alloc;
+            segment(0, None, 1, shared)?,
+            segment(
+                1,
+                Some(name("master")?),
+                1,
+                vec![in alloc; live("master", 1)?]?
+            )?,
+            segment(2, Some(name("dev")?), 3, vec![in alloc; live("dev", 2)?]?)?,
+        ]?),
+    };
+    let text =
+        "> 1 segments\nsegment items 0 internal records 1 live master=1,dev=0\nsegment items 1 head master records 1 live master=1\nsegment items 2 head dev records 3 live dev=2\nsegments 3\n";
+    answers(&rt, alloc, "1 segments", &layout, text)
+}
+
+#[test]
+#[rattlefmt::skip]
+fn tells_each_refusal(rt: HostRuntime) -> Result<(), Fail> {
+    let items = name("items")?;
+    let dev = name("dev")?;
+    let a = name("a")?;
+    let refusals = [
+        (Refusal::Line,                                               "1 bad line"),
+        (Refusal::NoRelation { relation: name("nothing")? },          "2 no relation nothing"),
+        (Refusal::NoColumn { column: name("z")? },                    "3 no column z"),
+        (Refusal::NoBranch { branch: dev },                           "4 no branch dev"),
+        (Refusal::NoVersion { branch: name("master")?, position: 9 }, "5 no version master@9"),
+        (Refusal::KeyThere { relation: items, key: 1 },               "6 key there items 1"),
+        (Refusal::KeyMissing { relation: items, key: u64::MAX },      "7 key missing items 18446744073709551615"),
+        (Refusal::Held { lock: name("master")?, by: 1 },              "8 held master by 1"),
+        (Refusal::Held { lock: Name::catalogue(), by: 64 },           "8 held catalogue by 64"),
+        (Refusal::Conflict { relation: items, key: 1, field: Some(a) }, "9 conflict items 1 a"),
+        (Refusal::Conflict { relation: items, key: 1, field: None },  "9 conflict items 1 *"),
+        (Refusal::InTransaction,                                      "10 in transaction"),
+        (Refusal::NoTransaction,                                      "11 no transaction"),
+        (Refusal::Room { room: 2 },                                   "12 room 2"),
+        (Refusal::NotFirst,                                           "13 not first"),
+        (Refusal::BranchThere { branch: name("master")? },            "14 branch there master"),
+        (Refusal::BranchesFull,                                       "15 branches full"),
+        (Refusal::VersionsFull { branch: dev },                       "16 versions full dev"),
+        (Refusal::TableFull { relation: items },                      "17 table full items"),
+        (Refusal::Skipped,                                            "18 skipped"),
+        (Refusal::FaultDisk,                                          "19 fault disk"),
+        (Refusal::ValueCount { relation: items, columns: 2 },         "21 value count items 2"),
+    ];
+    for (why, text) in refusals {
+        let expected = format!(in rt.alloc(); "> 1 commit\nrefused {text}\n")?;
+        answers(&rt, rt.alloc(), "1 commit", &Reply::Refused { why }, expected.as_str())?;
+    }
+    Ok(())
+}
