@@ -10,6 +10,7 @@ pub record Marks : Type 0 where
   pub rows : List (List Bool)
   pub segments : ℕ
 
+-- rows of marks can be written as numbers
 abbrev pub marks_code : Coded Marks
 marks_code = code_by (List (List Bool) × ℕ) (coded× (coded_list (coded_list coded_bool)) coded_ℕ) (λ m. (m.rows, m.segments)) (λ p. record { rows = p.0; segments = p.1 }) (λ _. refl)
 
@@ -21,6 +22,7 @@ row_at m b = get_or m.rows b []
 abbrev pub is_marked : Marks → ℕ → ℕ → Bool
 is_marked m b s = bit_of (row_at m b) s
 
+-- the same rows with one bit set
 abbrev pub with_mark : Marks → ℕ → ℕ → Marks
 with_mark m b s = record { rows = set m.rows b (slice_set (row_at m b) s true); segments = m.segments }
 

@@ -13,6 +13,7 @@ pub record Placed : Type 0 where
   pub item : List Bool
   pub count : ℕ
 
+-- an item with its count can be written as numbers
 abbrev pub placed_code : Coded Placed
 placed_code = code_by (List Bool × ℕ) (coded× (coded_list coded_bool) coded_ℕ) (λ p. (p.item, p.count)) (λ p. record { item = p.0; count = p.1 }) (λ _. refl)
 
@@ -37,6 +38,7 @@ pub record Next : Type 0 where
   pub by_256 : Option Placed
   pub by_4096 : Option Placed
 
+-- what was made ready can be written as numbers
 abbrev pub next_code : Coded Next
 next_code =
     code_by (Placed × (Option Placed × (Option Placed × Option Placed)))

@@ -23,6 +23,7 @@ AreBytes b = All (λ (x : ℕ). x < 256) b
 abbrev pub IsPlace : VersionPlace → Type 0
 IsPlace at = (at.branch < 2 ^ 32) × (at.position < 2 ^ 32)
 
+-- a place that has a spelling, if there is one
 abbrev pub IsPlaceIfAny : Option VersionPlace → Type 0
 IsPlaceIfAny None = Unit {0}
 IsPlaceIfAny (Some at) = IsPlace at
@@ -37,15 +38,18 @@ abbrev pub AreFields : Option (List Value) → Type 0
 AreFields None = Unit {0}
 AreFields (Some fields) = (0 < length fields) × (length fields ≤ 15) × AreValues fields
 
+-- a change that has a spelling
 pub record IsChange (c : Change) : Type 0 where
   pub relation : c.relation ≤ 7
   pub key : c.key < 2 ^ 64
   pub fields : AreFields c.fields
 
+-- all of them have a spelling
 abbrev pub AreChanges : List Change → Type 0
 AreChanges [] = Unit {0}
 AreChanges (c ∷ cs) = IsChange c × AreChanges cs
 
+-- each value has 64 bits with a sign, if there are any
 abbrev pub AreValuesIfAny : Option (List Value) → Type 0
 AreValuesIfAny None = Unit {0}
 AreValuesIfAny (Some fields) = AreValues fields
@@ -79,6 +83,7 @@ abbrev pub IsEntry : Entry → Type 0
 IsEntry (Commit branch second changes) = IsCommit branch second changes
 IsEntry (Branch name origin) = (is_name name ≡ true) × IsPlace origin
 
+-- all of them have a spelling
 abbrev pub AreEntries : List Entry → Type 0
 AreEntries [] = Unit {0}
 AreEntries (e ∷ es) = IsEntry e × AreEntries es

@@ -28,11 +28,13 @@ merge_field prefer base left right = cond (value_eq left right) (Some left) (con
 
 -- ---- the fields of a record
 
+-- the first field, if there is a record
 abbrev pub first_field : Option (List Value) → Option Value
 first_field None = None
 first_field (Some []) = None
 first_field (Some (v ∷ vs)) = Some v
 
+-- the fields behind the first one
 abbrev pub other_fields : Option (List Value) → Option (List Value)
 other_fields None = None
 other_fields (Some []) = Some []
@@ -52,6 +54,7 @@ merge_fields prefer column base (l ∷ ls) (r ∷ rs) = field_then column (merge
 
 -- ---- a key, at which a table has fields or nothing
 
+-- the two are equal: both removed, or records with equal fields
 abbrev pub same_state : Option (List Value) → Option (List Value) → Bool
 same_state None None = true
 same_state None (Some b) = false
@@ -80,6 +83,7 @@ merge_at prefer base left right = cond (same_state left right) (Ok left) (cond (
 
 -- ---- the keys of a relation
 
+-- the keys of records
 abbrev pub keys_of : List Record → List ℕ
 keys_of rows = map (λ row. row.key) rows
 
@@ -110,6 +114,7 @@ abbrev pub change_where : ℕ → ℕ → Option (List Value) → Result (Option
 change_where relation key left (Ok state) = cond (same_state state left) [] (record { relation = relation; key = key; fields = state } ∷ [])
 change_where relation key left (Err field) = []
 
+-- the conflict at a key, if its merge is one
 abbrev pub clash_where : ℕ → ℕ → Result (Option (List Value)) (Option ℕ) → List Clash
 clash_where relation key (Ok state) = []
 clash_where relation key (Err field) = record { relation = relation; key = key; field = field } ∷ []
@@ -118,6 +123,7 @@ clash_where relation key (Err field) = record { relation = relation; key = key; 
 abbrev pub merge_key : Prefer → Contents → Contents → Contents → ℕ → Result (Option (List Value)) (Option ℕ)
 merge_key prefer base left right key = merge_at prefer (finite.get base key) (finite.get left key) (finite.get right key)
 
+-- the keys that one of the three has
 abbrev pub all_keys : Contents → Contents → Contents → List ℕ
 all_keys base left right = keys_in (rows_of base) (rows_of left) (rows_of right)
 
@@ -137,6 +143,7 @@ table_changes prefer base left right = flat_map (λ r. relation_changes prefer r
 abbrev pub table_clashes : Prefer → Table → Table → Table → List Clash
 table_clashes prefer base left right = flat_map (λ r. relation_clashes prefer r (relation_at base r) (relation_at left r) (relation_at right r)) (range_with_len 0 (length left))
 
+-- the first of the conflicts
 abbrev pub least_clash : List Clash → Option Clash
 least_clash [] = None
 least_clash (c ∷ cs) = Some c

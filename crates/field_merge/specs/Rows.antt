@@ -7,6 +7,7 @@ use Rattle.field_merge.specs.declared.merged.Merged.{Merged}
 use Rattle.field_merge.specs.declared.merged.Merged.TheVariants.{Keep, Conflict}
 use Rattle.field_merge.specs.Merge.{merge_at}
 
+-- the fields of a record, if there is one
 abbrev pub fields_if : Option Record → Option (List Value)
 fields_if None = None
 fields_if (Some row) = Some row.fields
@@ -22,10 +23,12 @@ key_in (Some l) right = l.key
 key_in None (Some r) = r.key
 key_in None None = 0
 
+-- a record of these fields, if there are any
 abbrev pub row_with : ℕ → Option (List Value) → Option Record
 row_with key None = None
 row_with key (Some fields) = Some (record { key = key; fields = fields })
 
+-- the merge of one key: the record to keep, or the conflict
 abbrev pub merged_as : ℕ → Result (Option (List Value)) (Option ℕ) → Merged
 merged_as key (Ok state) = Keep (row_with key state)
 merged_as key (Err field) = Conflict field

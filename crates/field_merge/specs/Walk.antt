@@ -26,6 +26,7 @@ abbrev pub behind : ℕ → List Record → List Record
 behind key [] = []
 behind key (r ∷ rs) = cond (r.key == key) rs (r ∷ rs)
 
+-- the key of the first record, if there is one
 abbrev pub first_key : List Record → Option ℕ
 first_key [] = None
 first_key (r ∷ rs) = Some r.key

@@ -18,6 +18,7 @@ abbrev pub outside_refusal : Bool → Option Refusal
 outside_refusal true = Some InTransaction
 outside_refusal false = None
 
+-- an end is refused unless a transaction has begun
 abbrev pub inside_refusal : Bool → Option Refusal
 inside_refusal true = None
 inside_refusal false = Some NoTransaction
@@ -82,5 +83,6 @@ early_refusal schema begun changed (Join left right v w terms) = join_refusal sc
 early_refusal schema begun changed (Minus name v w) = relation_refusal name (relation_named schema name)
 early_refusal schema begun changed _ = Some Line
 
+-- the line is refused by what is known without a lock
 abbrev pub is_early : List Relation → Bool → Bool → Stmt → Bool
 is_early schema begun changed x = is_some (early_refusal schema begun changed x)

@@ -18,9 +18,11 @@ catalogue = 0
 abbrev pub lock_of : ℕ → ℕ
 lock_of b = suc b
 
+-- a lock, beside others
 abbrev pub shared : ℕ → Need
 shared lock = record { lock = lock; exclusive = false }
 
+-- a lock, for one session alone
 abbrev pub exclusive : ℕ → Need
 exclusive lock = record { lock = lock; exclusive = true }
 
@@ -63,6 +65,7 @@ abbrev pub on_needs : Option ℕ → List Need
 on_needs None = shared catalogue ∷ []
 on_needs (Some b) = []
 
+-- what a log needs: of one branch, or of all
 abbrev pub log_needs : Option ℕ → List Need
 log_needs None = shared catalogue ∷ []
 log_needs (Some b) = shared (lock_of b) ∷ []

@@ -15,15 +15,19 @@ abbrev pub found_at : ℕ → Option Record → List Found
 found_at n None = []
 found_at n (Some row) = record { row = row; position = n } ∷ []
 
+-- the row of a slot of view n, if the condition holds of it
 abbrev pub found_in_slot : (Record → Bool) → ℕ → Record × Bool → List Found
 found_in_slot p n s = found_at n (row_in_slot p s)
 
+-- the same of slots
 abbrev pub found_in_slots : (Record → Bool) → ℕ → List (Record × Bool) → List Found
 found_in_slots p n slots = flat_map (found_in_slot p n) slots
 
+-- the same of a part
 abbrev pub found_in_part : (Record → Bool) → ℕ → Part → List Found
 found_in_part p n part = found_in_slots p n part.slots
 
+-- the same of parts
 abbrev pub found_in_parts : (Record → Bool) → ℕ → List Part → List Found
 found_in_parts p n parts = flat_map (found_in_part p n) parts
 
@@ -37,6 +41,7 @@ abbrev pub with_found : Found → List Marked → List Marked
 with_found f [] = record { row = f.row; positions = f.position ∷ [] } ∷ []
 with_found f (m ∷ ms) = cond (record_eq f.row m.row) (record { row = f.row; positions = f.position ∷ m.positions } ∷ ms) (record { row = f.row; positions = f.position ∷ [] } ∷ m ∷ ms)
 
+-- equal rows as one, with all views that have it
 abbrev pub joined : List Found → List Marked
 joined [] = []
 joined (f ∷ fs) = with_found f (joined fs)

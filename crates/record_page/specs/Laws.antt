@@ -16,6 +16,7 @@ pub record IsSpelled (bytes : List ℕ) (page : Rows) : Type 0 where
   pub paged : IsPaged page
   pub same : bytes ≡ page_bytes page
 
+-- bytes that are read as a page are its spelling
 abbrev pub ReadLaw : Type 0
 ReadLaw = (bytes : List ℕ) (page : Rows) → AreBytes bytes → page_in bytes ≡ Some page → IsSpelled bytes page
 

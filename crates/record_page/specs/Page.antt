@@ -15,6 +15,7 @@ pub record Rows : Type 0 where
   pub fields : ℕ
   pub records : List Record
 
+-- a record can be written as numbers
 abbrev pub record_code : Coded Record
 record_code = code_by (ℕ × List Value) (coded× coded_ℕ (coded_list coded_value)) (λ r. (r.key, r.fields)) (λ p. record { key = p.0; fields = p.1 }) (λ _. refl)
 
@@ -63,6 +64,7 @@ page_bytes page = padded 0 4096 (page_head page.fields (length page.records) ++ 
 unfoldable pub count_in : List ℕ → ℕ
 count_in bytes = from_le_bytes w16 (take 2 bytes)
 
+-- the number of fields that the bytes tell
 abbrev pub fields_in : List ℕ → ℕ
 fields_in bytes = get_or bytes 2 0
 
@@ -70,6 +72,7 @@ fields_in bytes = get_or bytes 2 0
 abbrev pub rows_in : List ℕ → Rows
 rows_in bytes = record { fields = fields_in bytes; records = records_in (fields_in bytes) (count_in bytes) (drop 16 bytes) }
 
+-- all of them are zeros
 abbrev pub are_zero : List ℕ → Bool
 are_zero [] = true
 are_zero (byte ∷ bytes) = (byte == 0) && are_zero bytes

@@ -13,6 +13,7 @@ use Rattle.db_store.specs.Dataset.{Dataset, branch_at, last_of, first_parent, se
 abbrev pub name_of : Dataset → VersionPlace → VersionName
 name_of d at = record { branch = (branch_at d at.branch).name; position = Some at.position }
 
+-- the name of a place, if there is a place
 abbrev pub name_if : Dataset → Option VersionPlace → Option VersionName
 name_if d None = None
 name_if d (Some at) = Some (name_of d at)
