@@ -6,6 +6,7 @@ ghost use Rattle.db_value.specs.Version.{place_text, version_text};
 ghost use Rattle.reply_text.specs.Piece.{line_end, numbered_text, field_text, record_text, count_text};
 
 use db_value::{Name, Record, VersionName};
+use itoa::Buffer;
 use std::alloc::{AllocError, Global};
 use std::marker::Model;
 
@@ -13,7 +14,6 @@ use std::marker::Model;
 #[derive(Drop)]
 pub struct Writer {
     bytes: Vec<u8>,
-    alloc: Global,
 }
 
 impl Model for Writer {
@@ -31,7 +31,6 @@ impl Writer {
     {
         Writer {
             bytes: Vec::new(alloc),
-            alloc,
         }
     }
 
@@ -39,7 +38,7 @@ impl Writer {
     pub fn into_bytes(self) -> Vec<u8>
         ensures { result.items ≡ self }
     {
-        let Writer { bytes, .. } = self;
+        let Writer { bytes } = self;
         bytes
     }
 
@@ -64,8 +63,8 @@ impl Writer {
     pub fn number(&mut self, n: u64) -> Result<(), AllocError>
         ensures { OnOk result (self.new ≡ self.old ++ decimal n) }
     {
-        let text = n.to_string(self.alloc)?;
-        self.text(text.as_bytes())
+        let mut digits = Buffer::new();
+        self.text(digits.format(n).as_bytes())
     }
 
     /// A name, and a number behind a space.
@@ -101,9 +100,9 @@ impl Writer {
     fn field(&mut self, value: i64) -> Result<(), AllocError>
         ensures { OnOk result (self.new ≡ self.old ++ field_text value) }
     {
+        let mut digits = Buffer::new();
         self.text(b" ")?;
-        let text = value.to_string(self.alloc)?;
-        self.text(text.as_bytes())
+        self.text(digits.format(value).as_bytes())
     }
 
     pub fn fields(&mut self, values: &[i64]) -> Result<(), AllocError>
