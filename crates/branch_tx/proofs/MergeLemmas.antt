@@ -1,5 +1,5 @@
 -- What a granted transaction answers to a merge, by what its working table answers to the changes.
-use Rattle.std.proofs.Common.{◌≡◌, ◌⊎◌, ⊎_elim, ℕ, ◌+◌, ◌<◌, nat_le, Bool, true, false, cond, List, [], ◌∷◌, length, Option, Some, None, refl, ap, sym, ◌∙◌, arith}
+use Rattle.std.proofs.Common.{◌≡◌, ℕ, ◌+◌, ◌<◌, nat_le, Bool, true, false, cond, List, [], ◌∷◌, length, Option, Some, None, refl, ap, sym, ◌∙◌, arith}
 use Rattle.std.specs.FinMap as finite
 use Rattle.db_value.specs.declared.schema.Relation.{Relation}
 use Rattle.db_value.specs.declared.condition.Prefer.{Prefer}
@@ -8,7 +8,7 @@ use Rattle.db_value.specs.declared.version.VersionPlace.{VersionPlace}
 use Rattle.db_value.specs.declared.reply.Refusal.{Refusal}
 use Rattle.db_value.specs.declared.reply.Refusal.TheVariants.{TableFull as RefusedFull, Room as RefusedRoom}
 use Rattle.db_store.specs.declared.work.WorkStop.{WorkStop}
-use Rattle.db_store.specs.declared.work.WorkStop.TheVariants.{TableFull, Room, Memory}
+use Rattle.db_store.specs.declared.work.WorkStop.TheVariants.{TableFull, Room}
 use Rattle.db_store.specs.Table.{Table, with_changes}
 use Rattle.db_store.specs.Fits.{most_keys}
 use Rattle.db_store.specs.Overlay.{Overlay, untouched, laid}
@@ -59,10 +59,6 @@ full_within n (m ∷ ms) r e = by (nat_le (finite.len m) most_keys) (λ q. full_
     by : (q : Bool) → (full_from (n + 1) ms ≡ Some r → r < n + 1 + length ms) → cond q (full_from (n + 1) ms) (Some n) ≡ Some r → r < n + length (m ∷ ms)
     by true rest e = let h = rest e in omega (arith, h)
     by false rest e = let same : n ≡ r = cc in omega (arith, same)
-
--- a stop that isn't want of memory is told by the changes
-pub told_stop : (o : Option WorkStop) (s w : WorkStop) → w ≡ s → (s ≡ Memory → ⊥) → (w ≡ Memory) ⊎ (o ≡ Some w) → o ≡ Some s
-told_stop o s w e n h = ⊎_elim (λ (m : w ≡ Memory). absurd (n (sym e ∙ m))) (λ (q : o ≡ Some w). q ∙ ap Some e) h
 
 -- ---- a transaction that has touched nothing
 

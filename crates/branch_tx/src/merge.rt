@@ -62,7 +62,7 @@ impl<St: Store> Tx<St> {
             Err(WorkStop::Room) => Ok(refused(Refusal::Room {
                 room: self.work.room(),
             })),
-            Err(_) => Err(AllocError),
+            Err(_) => unreachable!(),
         }
     }
 

@@ -1,10 +1,9 @@
 //! Refusals of statements.
-ghost use Rattle.std.specs.Prelude.{◌≡◌, IfOk, OnErr, IsErr};
+ghost use Rattle.std.specs.Prelude.{◌≡◌};
 ghost use Rattle.branch_tx.specs.Stops.{refusal_of};
 
 use db_store::WorkStop;
 use db_value::{Name, Refusal, Reply};
-use std::alloc::AllocError;
 
 /// The reply that refuses a statement.
 pub fn refused(why: Refusal) -> Reply
@@ -41,23 +40,14 @@ pub fn value_count(relation: Name, columns: u32) -> Reply
     refused(Refusal::ValueCount { relation, columns })
 }
 
-/// Why a working table didn't take a change of a key, with room for so many touched keys. Want of
-/// memory is no refusal.
-pub fn refusal_of(
-    stop: WorkStop,
-    relation: Name,
-    key: u64,
-    room: u32,
-) -> Result<Refusal, AllocError>
-    ensures why { IfOk result (λ why. why ≡ refusal_of relation key room stop) }
-    ensures memory { stop ≡ WorkStop.Memory → IsErr result }
-    ensures cause { OnErr result (stop ≡ WorkStop.Memory) }
+/// Why a working table didn't take a change of a key, with room for so many touched keys.
+pub fn refusal_of(stop: WorkStop, relation: Name, key: u64, room: u32) -> Refusal
+    ensures { result ≡ refusal_of relation key room stop }
 {
     match stop {
-        WorkStop::KeyThere => Ok(Refusal::KeyThere { relation, key }),
-        WorkStop::KeyMissing => Ok(Refusal::KeyMissing { relation, key }),
-        WorkStop::TableFull { .. } => Ok(Refusal::TableFull { relation }),
-        WorkStop::Room => Ok(Refusal::Room { room }),
-        WorkStop::Memory => Err(AllocError),
+        WorkStop::KeyThere => Refusal::KeyThere { relation, key },
+        WorkStop::KeyMissing => Refusal::KeyMissing { relation, key },
+        WorkStop::TableFull { .. } => Refusal::TableFull { relation },
+        WorkStop::Room => Refusal::Room { room },
     }
 }

@@ -239,7 +239,7 @@ impl<St: Store> Tx<St> {
         match self.work.insert(relation, row) {
             Ok(()) => Ok(Reply::Done),
             Err(stop) => {
-                let why = refusal_of(stop, name, row.key, self.work.room())?;
+                let why = refusal_of(stop, name, row.key, self.work.room());
                 Ok(refused(why))
             }
         }
@@ -298,7 +298,7 @@ impl<St: Store> Tx<St> {
         match self.work.update(relation, key, sets) {
             Ok(()) => Ok(Reply::Done),
             Err(stop) => {
-                let why = refusal_of(stop, name, key, self.work.room())?;
+                let why = refusal_of(stop, name, key, self.work.room());
                 Ok(refused(why))
             }
         }
@@ -365,7 +365,7 @@ impl<St: Store> Tx<St> {
         match self.work.delete(relation, key) {
             Ok(()) => Ok(Reply::Done),
             Err(stop) => {
-                let why = refusal_of(stop, name, key, self.work.room())?;
+                let why = refusal_of(stop, name, key, self.work.room());
                 Ok(refused(why))
             }
         }

@@ -9,7 +9,7 @@ use Rattle.branch_tx.specs.Merging.{relation_name, merged_to}
 use Rattle.branch_tx.specs.Granted.{Granted, tx_in, with_merge}
 use Rattle.branch_tx.specs.TxState.{held_of}
 use Rattle.branch_tx.proofs.Fitting.{put_all_is}
-use Rattle.branch_tx.proofs.MergeLemmas.{told_stop, stop_in, taken, filled, filled_within, crowded}
+use Rattle.branch_tx.proofs.MergeLemmas.{stop_in, taken, filled, filled_within, crowded}
 use Rattle.branch_tx.proofs.tx.Tx.adopt.Goals as goal
 
 pub relation_name-requires : goal.relation_name-requires
@@ -17,7 +17,7 @@ relation_name-requires g c =
     let old : Granted = c.args.self.now in
     let cs = c.args.changes.now in
     let r = c.in-Err-TableFull.relation in
-    let stop : stop_in old cs ≡ Some (TableFull r) = ap (λ (x : Granted). stop_in x cs) (sym c.self.view_is) ∙ told_stop _ (TableFull r) c.in-Err-TableFull.field-0 c.in-Err-TableFull.field-0-is (λ q. absurd cc) (c.adopt.ensures.stop c.in-Err-TableFull.field-0 c.in-Err-TableFull.is) in
+    let stop : stop_in old cs ≡ Some (TableFull r) = ap (λ (x : Granted). stop_in x cs) (sym c.self.view_is) ∙ c.adopt.ensures.stop c.in-Err-TableFull.field-0 c.in-Err-TableFull.is ∙ ap Some c.in-Err-TableFull.field-0-is in
     let within = filled_within old c.requires.untouched cs r stop in
     let head = ap (λ (x : Granted). length x.head) c.self.view_is in
     omega (arith, within, head, c.self.invariant.0, c.in-Err-TableFull.relation-is)
@@ -38,9 +38,9 @@ returns-in-Ok-clause-left g c =
       schema = c.self.inside.schema;
       name = c.self.inside.current;
       held = held_of c.self.inside.held;
-      head = g.St.View.View.table (c.in-Ok.ensures.under i);
+      head = g.St.View.View.table (c.in-Ok.ensures.stays.under i);
       overlays = c.in-Ok.ensures.changed i;
-      room = c.in-Ok.ensures.room i;
+      room = c.in-Ok.ensures.stays.room i;
       second = Some c.args.from;
       lent = c.self.inside.lent;
       heads = c.self.inside.heads;
@@ -54,7 +54,7 @@ returns-in-Err-TableFull-clause-reply g c =
     let old : Granted = c.args.self.now in
     let cs = c.args.changes.now in
     let r = c.in-Err-TableFull.relation in
-    let stop : stop_in old cs ≡ Some (TableFull r) = ap (λ (x : Granted). stop_in x cs) (sym c.self.view_is) ∙ told_stop _ (TableFull r) c.in-Err-TableFull.field-0 c.in-Err-TableFull.field-0-is (λ q. absurd cc) (c.adopt.ensures.stop c.in-Err-TableFull.field-0 c.in-Err-TableFull.is) in
+    let stop : stop_in old cs ≡ Some (TableFull r) = ap (λ (x : Granted). stop_in x cs) (sym c.self.view_is) ∙ c.adopt.ensures.stop c.in-Err-TableFull.field-0 c.in-Err-TableFull.is ∙ ap Some c.in-Err-TableFull.field-0-is in
     c.refused.ensures
     ∙ ap (λ n. Refused (RefusedFull n)) (c.relation_name.ensures ∙ ap (relation_name c.self.inside.schema) c.in-Err-TableFull.relation-is ∙ ap (λ (x : Granted). relation_name x.schema r) c.self.view_is)
     ∙ ap (λ (o : Option Refusal). (merged_to (over_table old.head) (tx_in old) c.args.from cs o).reply) (sym (filled old c.requires.untouched cs r stop))
@@ -64,14 +64,14 @@ returns-in-Err-TableFull-clause-left g c =
     let old : Granted = c.args.self.now in
     let cs = c.args.changes.now in
     let r = c.in-Err-TableFull.relation in
-    let stop : stop_in old cs ≡ Some (TableFull r) = ap (λ (x : Granted). stop_in x cs) (sym c.self.view_is) ∙ told_stop _ (TableFull r) c.in-Err-TableFull.field-0 c.in-Err-TableFull.field-0-is (λ q. absurd cc) (c.adopt.ensures.stop c.in-Err-TableFull.field-0 c.in-Err-TableFull.is) in
+    let stop : stop_in old cs ≡ Some (TableFull r) = ap (λ (x : Granted). stop_in x cs) (sym c.self.view_is) ∙ c.adopt.ensures.stop c.in-Err-TableFull.field-0 c.in-Err-TableFull.is ∙ ap Some c.in-Err-TableFull.field-0-is in
     (λ i. record {
       schema = c.self.inside.schema;
       name = c.self.inside.current;
       held = held_of c.self.inside.held;
-      head = g.St.View.View.table (c.in-Err-TableFull.ensures.under i);
+      head = g.St.View.View.table (c.in-Err-TableFull.ensures.stays.under i);
       overlays = c.in-Err-TableFull.ensures.err i;
-      room = c.in-Err-TableFull.ensures.room i;
+      room = c.in-Err-TableFull.ensures.stays.room i;
       second = c.self.inside.second;
       lent = c.self.inside.lent;
       heads = c.self.inside.heads;
@@ -83,7 +83,7 @@ pub returns-in-Err-Room-clause-reply : goal.returns-in-Err-Room-clause-reply
 returns-in-Err-Room-clause-reply g c =
     let old : Granted = c.args.self.now in
     let cs = c.args.changes.now in
-    let stop : stop_in old cs ≡ Some Room = ap (λ (x : Granted). stop_in x cs) (sym c.self.view_is) ∙ told_stop _ Room c.in-Err-Room.field-0 c.in-Err-Room.field-0-is (λ q. absurd cc) (c.adopt.ensures.stop c.in-Err-Room.field-0 c.in-Err-Room.is) in
+    let stop : stop_in old cs ≡ Some Room = ap (λ (x : Granted). stop_in x cs) (sym c.self.view_is) ∙ c.adopt.ensures.stop c.in-Err-Room.field-0 c.in-Err-Room.is ∙ ap Some c.in-Err-Room.field-0-is in
     c.refused-in-Err-Room.ensures
-    ∙ ap (λ n. Refused (RefusedRoom n)) (c.room.ensures ∙ c.in-Err-Room.ensures.room ∙ ap (λ (x : Granted). x.room) c.self.view_is)
+    ∙ ap (λ n. Refused (RefusedRoom n)) (c.room.ensures ∙ c.in-Err-Room.ensures.stays.room ∙ ap (λ (x : Granted). x.room) c.self.view_is)
     ∙ ap (λ (o : Option Refusal). (merged_to (over_table old.head) (tx_in old) c.args.from cs o).reply) (sym (crowded old c.requires.untouched cs stop))
