@@ -1,15 +1,15 @@
 -- What is kept of touched keys after a frame was set or handed out.
-use Rattle.std.proofs.Common.{◌≡◌, ℕ, zero, suc, ◌+◌, ◌-◌, ◌==◌, ◌&&◌, ◌||◌, ◌<◌, Bool, true, false, cond, not, is_some, List, [], ◌∷◌, ◌++◌, length, map, set, get_or, Option, Some, None, Ordering, Less, Equal, Greater, if◌then◌else◌, refl, ap, sym, ◌∙◌, arith}
+use Rattle.std.proofs.Common.{◌≡◌, ℕ, zero, suc, ◌+◌, ◌-◌, ◌==◌, ◌&&◌, ◌||◌, ◌<◌, Bool, true, false, cond, not, is_some, List, [], ◌∷◌, ◌++◌, length, set, get_or, Option, Some, None, Ordering, Less, Equal, Greater, if◌then◌else◌, refl, ap, sym, ◌∙◌, arith}
 use Rattle.std.specs.Ordering.{nat_cmp, ordering_then, is_eq, eq_by_cmp}
 use Rattle.std.specs.Cmp.{IsTotalOrder}
 use Rattle.std.specs.List.{list_all, list_any}
 use Rattle.std.proofs.lemmas.Cmp.{nat_cmp_total, on_total, then_total}
-use Rattle.std.proofs.lemmas.Bool.{eqb-true, eqb-false, eq-eqb, ne_eqb, or_parts, cases_eq, false≢true}
+use Rattle.std.proofs.lemmas.Bool.{eqb-true, eq-eqb, or_parts, false≢true}
 use Rattle.std.specs.FinMap as finite
 use Rattle.work_region.specs.Frames.{Frames, with_item}
 use Rattle.key_index.specs.Overlaid.{Overlaid, touch_cmp, touched}
 use Rattle.db_store.specs.declared.touch.Touch.{Touch}
-use Rattle.db_store.specs.Touched.{no_touch, is_of, place_of, put_touch}
+use Rattle.db_store.specs.Touched.{is_of}
 use Rattle.db_store.specs.TouchRules.{same_key, turned}
 use Rattle.db_store.specs.LayerRules.{two_parts}
 use Rattle.db_store.specs.Kept.{held, touch_in, touches_in, is_out, differ}

@@ -1,5 +1,5 @@
 -- Where a transaction keeps its touched keys: each in a frame of a region, with its place in a map.
-use Rattle.std.specs.Prelude.{◌≡◌, ℕ, ◌+◌, ◌≤◌, ◌==◌, ◌&&◌, not, is_some, Bool, true, List, [], ◌∷◌, length, map, Option, Some, None}
+use Rattle.std.specs.Prelude.{◌≡◌, ℕ, ◌+◌, ◌==◌, ◌&&◌, not, is_some, Bool, true, List, [], ◌∷◌, length, map, Option, Some, None}
 use Rattle.std.specs.List.{list_all, list_any}
 use Rattle.std.specs.FinMap as finite
 use Rattle.work_region.specs.Frames.{Frames}
