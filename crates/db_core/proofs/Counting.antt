@@ -11,13 +11,15 @@ use Rattle.branch_tx.specs.Act.{Tx, Outcome}
 use Rattle.branch_tx.specs.Granted.{Granted, tx_in, has_done, acted, left}
 use Rattle.branch_tx.specs.Covers.{covers}
 use Rattle.line_needs.specs.Needs.{needs}
-use Rattle.db_core.specs.Order.{World, opening, said_of, tagged, after}
+use Rattle.db_core.specs.Order.{World, opening, said_of, after}
+use Rattle.store_tx.specs.Keeps.{tagged, AllGranted, Keeps, IsMore}
 use Rattle.db_core.specs.Kept.{Kept, Stands, step_of, world_of, saids}
 use Rattle.db_core.specs.Desk.{AtDesk, Agrees}
-use Rattle.db_core.specs.Sits.{AllGranted, Keeps, IsMore, Sits, heard, told_now, step_over}
-use Rattle.db_core.proofs.Rows.{tagged_new}
+use Rattle.db_core.specs.Sits.{Sits, heard, told_now}
+use Rattle.branch_tx.specs.Frame.{step_over}
+use Rattle.store_tx.proofs.Tagged.{tagged_new}
 use Rattle.db_core.proofs.Seating.{ok_led}
-use Rattle.db_core.proofs.Granting.{left_is, more_tx}
+use Rattle.store_tx.proofs.KeepsLemmas.{left_is, more_tx}
 use Rattle.db_core.proofs.Answering.{there, keeps_tagged, reply_free, after_stay}
 use Rattle.db_core.proofs.Standing.{seated_of, roomy_line, agrees_bare}
 use Rattle.db_core.proofs.Serving.{stands_then, sits_then}

@@ -1,14 +1,10 @@
 pub mod Rows
-pub mod Lends
-pub mod Granting
-pub mod Storing
 pub mod Runs
 pub mod Worlds
 pub mod Until
 pub mod Older
 pub mod Boards
 pub mod Low
-pub mod OwnLines
 pub mod Seating
 pub mod Answering
 pub mod Others
@@ -27,4 +23,3 @@ pub mod Counting
 pub mod Desks
 pub mod OtherDesks
 pub mod LocalLines
-pub mod Merges

@@ -7,7 +7,7 @@ use Rattle.db_store.specs.Dataset.{Dataset}
 use Rattle.db_store.specs.State.{dataset_of}
 use Rattle.lock_table.specs.Rows.{holder}
 use Rattle.stmt_text.specs.declared.stmt.Stmt.{Stmt}
-use Rattle.db_core.specs.Ends.{is_open, ends}
+use Rattle.store_tx.specs.Ends.{is_open, ends}
 use Rattle.db_core.specs.Order.{World, Fate, Fails, fate, fate_of, fate_with, needs_of, next_by, next_with, replied, reply_at, replies_alone, until, all_lines}
 use Rattle.db_core.specs.Marks.{entry_by, entry_with, FailedLaw, RefusedLaw}
 

@@ -3,12 +3,12 @@ use Rattle.std.specs.Prelude.{◌≡◌, ℕ, Bool, false, List, [], ◌∷◌, 
 use Rattle.db_value.specs.declared.entry.Entry.{Entry}
 use Rattle.db_value.specs.declared.reply.Reply.{Reply}
 use Rattle.lock_table.specs.Grants.{without}
-use Rattle.db_core.specs.Ends.{grown}
+use Rattle.store_tx.specs.Ends.{grown}
 use Rattle.db_core.specs.Order.{Said, said_of, reply_in}
 use Rattle.db_core.specs.Laws.{AllHaveRoom}
 use Rattle.db_core.specs.Marks.{entry_with}
 use Rattle.db_core.specs.Kept.{Kept, step_of, world_of}
-use Rattle.db_core.specs.Stored.{stored_if}
+use Rattle.store_tx.specs.Stored.{stored_if}
 
 -- The board has the line behind the others, with its mark and its reply, and nothing else changed but the state and the granted needs. The reply is that of its whole
 -- transaction, whatever lines come later.

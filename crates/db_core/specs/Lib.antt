@@ -1,11 +1,9 @@
-pub mod Ends
 pub mod Marks
 pub mod Order
 pub mod Board
 pub mod Laws
 pub mod Kept
 pub mod Sits
-pub mod Stored
 pub mod Answered
 pub mod Desk
 pub mod Local

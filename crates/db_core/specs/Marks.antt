@@ -8,7 +8,7 @@ use Rattle.db_store.specs.State.{dataset_of}
 use Rattle.stmt_text.specs.declared.stmt.Stmt.{Stmt}
 use Rattle.branch_tx.specs.Keeping.{privately}
 use Rattle.branch_tx.specs.Alone.{alone}
-use Rattle.db_core.specs.Ends.{entry_at}
+use Rattle.store_tx.specs.Ends.{entry_at}
 use Rattle.db_core.specs.Order.{Said, World, Desk, Fate, Fails, Ends, fate, fate_with, next, reply_in}
 
 -- the entry of the transaction that a statement of this fate ends, if it has one

@@ -7,14 +7,12 @@ ghost use Rattle.reply_text.specs.Reply.{NamesItsRows};
 ghost use Rattle.db_core.specs.Order.{said_of};
 ghost use Rattle.db_core.specs.Kept.{Stands, world_of, new_kept};
 ghost use Rattle.db_core.specs.Answered.{IsAnswered, entry_of, ended_by};
-ghost use Rattle.db_core.specs.Stored.{Stores};
+ghost use Rattle.store_tx.specs.Stored.{Stores};
 ghost use Rattle.db_core.specs.Sits.{Sits, heard, unheard};
 
 use crate::desk::Desk;
-use crate::outside::branch_of;
+use crate::local::why_bad;
 use crate::session::{Grant, Session, answer, ask, close, finish};
-use crate::stored::{Answer, carry_out};
-use crate::twice::{refusal, why_bad};
 use db_store::Store;
 use db_value::{LineText, Name, Refusal, Reply, Schema, Step, VersionName};
 use entry_codec::Log;
@@ -22,6 +20,7 @@ use lock_table::Locks;
 use std::alloc::{AllocError, Global};
 use std::marker::Model;
 use stmt_text::Stmt;
+use store_tx::{Answer, branch_of, carry_out, refusal};
 
 /// A board is a store of a dataset and its log, the state on which it began, the lines since then
 /// with their replies, the needs that are granted, and how often the log had failed at the beginning.
@@ -196,10 +195,12 @@ impl<St: Store, J: Log<St>> Board<St, J> {
     ghost use Rattle.lock_table.specs.Rows.{Row, holder};
     ghost use Rattle.line_needs.specs.Needs.{needs};
     ghost use Rattle.db_core.specs.Desk.{Agrees, IsLeft, entered, cleared, grant_of, rows_by, IsMoreIf, IsReadyIf, KeepsIf};
-    ghost use Rattle.db_core.specs.Laws.{HasName};
-    ghost use Rattle.db_core.specs.Sits.{AllGranted, done_in, step_over, tx_of, entry_over, branch_out, branch_entry};
-    ghost use Rattle.db_core.specs.Stored.{told_if, stored_if};
-    ghost use Rattle.db_core.specs.Ends.{grown};
+    ghost use Rattle.store_tx.specs.Statements.{HasName, entry_over, branch_out, branch_entry};
+    ghost use Rattle.db_core.specs.Sits.{done_in, tx_of};
+    ghost use Rattle.store_tx.specs.Keeps.{AllGranted};
+    ghost use Rattle.branch_tx.specs.Frame.{step_over};
+    ghost use Rattle.store_tx.specs.Stored.{told_if, stored_if};
+    ghost use Rattle.store_tx.specs.Ends.{grown};
     ghost use Rattle.lock_table.specs.Grants.{without};
 
     /// Moves the desk's lines into the list. Want of memory leaves both as before.

@@ -4,9 +4,9 @@ use Rattle.db_store.specs.State.{State, dataset_of}
 use Rattle.lock_table.specs.Grants.{without}
 use Rattle.db_core.specs.Kept.{Kept, Logged}
 use Rattle.db_core.specs.Desk.{AtDesk}
-use Rattle.db_core.specs.Ends.{grown}
-use Rattle.db_core.specs.Sits.{branch_out, branch_entry}
-use Rattle.db_core.specs.Stored.{Stores, told_if, stored_if}
+use Rattle.store_tx.specs.Ends.{grown}
+use Rattle.store_tx.specs.Statements.{branch_out, branch_entry}
+use Rattle.store_tx.specs.Stored.{Stores, told_if, stored_if}
 use Rattle.db_core.proofs.board.Board.branch.Goals as goal
 
 pub carry_out-requires-clause-fits : goal.carry_out-requires-clause-fits

@@ -7,7 +7,7 @@ use Rattle.db_core.specs.Order.{said_of, opening, after, reply_in}
 use Rattle.db_core.specs.Marks.{entry_with}
 use Rattle.db_core.specs.Kept.{Kept, Stands, step_of, world_of, saids}
 use Rattle.db_core.specs.Sits.{Sits}
-use Rattle.db_core.specs.Stored.{Stores}
+use Rattle.store_tx.specs.Stored.{Stores}
 use Rattle.db_core.proofs.Logging.{kept_is}
 use Rattle.db_core.proofs.Rooms.{named_line}
 use Rattle.db_core.proofs.Standing.{seated_of, roomy_line, stands_kept, stands_steps, sits_world}

@@ -7,7 +7,7 @@ use Rattle.db_store.specs.State.{dataset_of}
 use Rattle.db_core.specs.Order.{opening, said_of, after}
 use Rattle.db_core.specs.Kept.{Kept, Logged, world_of, saids}
 use Rattle.db_core.specs.Desk.{AtDesk, entered}
-use Rattle.db_core.specs.Stored.{Stores}
+use Rattle.store_tx.specs.Stored.{Stores}
 use Rattle.db_core.specs.Answered.{IsAnswered, entry_of}
 use Rattle.db_core.proofs.Logging.{kept_is}
 use Rattle.db_core.proofs.Rooms.{room_law}

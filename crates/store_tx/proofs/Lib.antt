@@ -1,0 +1,6 @@
+pub mod Tagged
+pub mod Lends
+pub mod KeepsLemmas
+pub mod Storing
+pub mod OwnLines
+pub mod Merges

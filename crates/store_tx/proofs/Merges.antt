@@ -1,0 +1,72 @@
+-- A merge in an open transaction does what it does over the head.
+use Rattle.std.proofs.Common.{◌≡◌, ℕ, Bool, true, false, cond, List, [], Option, Some, None, inl, refl, ap, sym, ◌∙◌, subst}
+use Rattle.std.specs.Prelude.{is_some}
+use Rattle.db_value.specs.declared.schema.Relation.{Relation}
+use Rattle.db_value.specs.declared.condition.Prefer.{Prefer}
+use Rattle.db_value.specs.declared.entry.Change.{Change}
+use Rattle.db_value.specs.declared.reply.Refusal.{Refusal}
+use Rattle.db_value.specs.declared.reply.Refusal.TheVariants.{VersionsFull}
+use Rattle.db_value.specs.declared.version.VersionPlace.{VersionPlace}
+use Rattle.db_store.specs.Table.{Table}
+use Rattle.db_store.specs.Overlay.{Overlay}
+use Rattle.db_store.specs.Dataset.{Dataset, branch_named, head_of, head_place, table_at}
+use Rattle.db_store.specs.Order.{common}
+use Rattle.db_store.specs.Counted.{IsTable}
+use Rattle.lock_table.specs.Rows.{Row}
+use Rattle.lock_table.specs.Grants.{Has, row}
+use Rattle.stmt_text.specs.declared.stmt.Stmt.TheVariants.{Merge}
+use Rattle.branch_tx.specs.Keeping.{over_table}
+use Rattle.branch_tx.specs.Act.{Outcome, refused}
+use Rattle.field_merge.specs.Merge.{table_changes}
+use Rattle.branch_tx.specs.Merging.{refusal_of_merge, merged_to, merge_in}
+use Rattle.branch_tx.specs.Alone.{ground_of, common_table, merge_named}
+use Rattle.branch_tx.specs.Granted.{Granted, ground_in, tx_in, merged, with_merge}
+use Rattle.line_needs.specs.Early.{first_refusal}
+use Rattle.line_needs.specs.Needs.{lock_of, exclusive, merge_needs, needs}
+use Rattle.store_tx.specs.Keeps.{AllGranted, Keeps, IsMore}
+use Rattle.store_tx.proofs.KeepsLemmas.{head_by, more_tx}
+
+-- the transaction after a merge
+merged_to_is : (g : Granted) (from : VersionPlace) (cs : List Change) (o : Option Refusal) → tx_in (with_merge g (merged_to (over_table g.head) (tx_in g) from cs o)) ≡ (merged_to (over_table g.head) (tx_in g) from cs o).tx
+merged_to_is g from cs (Some why) = refl
+merged_to_is g from cs None = refl
+
+unless_is : (g : Granted) (q : Bool) (why : Refusal) (o : Outcome (List Overlay)) → tx_in (with_merge g o) ≡ o.tx → tx_in (with_merge g (cond q (refused (tx_in g) why) o)) ≡ (cond q (refused (tx_in g) why) o).tx
+unless_is g true why o e = refl
+unless_is g false why o e = e
+
+pub merged_is : (g : Granted) (from : VersionPlace) (prefer : Prefer) (base right : Table) → tx_in (with_merge g (merged g from prefer base right)) ≡ (merged g from prefer base right).tx
+merged_is g from prefer base right =
+    let cs = table_changes prefer base g.head right in
+    let why = refusal_of_merge g.schema g.room prefer base g.head right in
+    unless_is g (ground_in g).full (VersionsFull g.name) (merged_to (over_table g.head) (tx_in g) from cs why) (merged_to_is g from cs why)
+
+module _ (d : Dataset) (rows : List Row) (s b : ℕ) (old g : Granted) (k : Keeps d rows s b g) (held : is_some g.held ≡ true) (more : IsMore old g) where
+  -- its branch is held, so that it is over the head
+  over_head : (from : VersionPlace) (prefer : Prefer) (base right : Table) → merged g from prefer base right ≡ merge_in (over_table (head_of d b)) (ground_of d b) (tx_in old) from prefer base (head_of d b) right
+  over_head from prefer base right =
+      let two = head_by d rows s b g k g.held k.held held in
+      let same = more_tx old g more in
+      λ i. merge_in (over_table (two.0 i)) (record { schema = k.schema i; name = k.name i; full = two.1 i }) (same i) from prefer base (two.0 i) right
+
+  pub held_table : IsTable d.schema (head_of d b) → IsTable g.schema g.head
+  held_table t =
+      let two = head_by d rows s b g k g.held k.held held in
+      subst (λ (p : List Relation × Table). IsTable p.0 p.1) (λ i. (sym k.schema i, sym two.0 i)) t
+
+  -- with the head of another branch, over their common ancestor
+  pub head_merged : (c : ℕ) (from own at : VersionPlace) (prefer : Prefer) (base right : Table) → from ≡ head_place d c → own ≡ head_place d b → at ≡ common d own from → base ≡ table_at d at → right ≡ table_at d from
+      → merged g from prefer base right ≡ merge_named (over_table (head_of d b)) d b (tx_in old) [] prefer (Some c)
+  head_merged c from own at prefer base right f o a bs r =
+      let place : at ≡ common d (head_place d b) (head_place d c) = a ∙ (λ i. common d (o i) (f i)) in
+      let ancestor : base ≡ common_table d b c = bs ∙ ap (table_at d) place in
+      let other : right ≡ head_of d c = r ∙ ap (table_at d) f in
+      over_head from prefer base right
+      ∙ (λ i. merge_in (over_table (head_of d b)) (ground_of d b) (tx_in old) (f i) prefer (ancestor i) (head_of d b) (other i))
+
+-- ---- what a merge needs
+
+pub merge_needed : (d : Dataset) (rows : List Row) (s b : ℕ) (changed : Bool) (name : List ℕ) (prefer : Prefer) (c : ℕ) → changed ≡ false → branch_named d name ≡ Some c → AllGranted rows s (needs d b true changed (Merge name prefer)) → Has rows (row s (exclusive (lock_of b)))
+merge_needed d rows s b changed name prefer c e f a = a (exclusive (lock_of b))
+    (subst (λ (q : Bool). Has (cond q [] (merge_needs b (branch_named d name))) (exclusive (lock_of b))) (sym (ap (λ (q : Bool). is_some (first_refusal q)) e))
+    (subst (λ (o : Option ℕ). Has (merge_needs b o) (exclusive (lock_of b))) (sym f) (inl refl)))

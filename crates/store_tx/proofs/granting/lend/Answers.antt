@@ -1,0 +1,28 @@
+use Rattle.std.proofs.Common.{◌≡◌, ◌∙◌, ap, sym, subst, true}
+use Rattle.db_store.specs.Table.{Table}
+use Rattle.db_store.specs.Dataset.{table_at}
+use Rattle.db_store.specs.State.{dataset_of}
+use Rattle.branch_tx.specs.Granted.{Granted}
+use Rattle.branch_tx.specs.Covers.{has_version}
+use Rattle.store_tx.specs.Keeps.{Keeps}
+use Rattle.store_tx.proofs.Lends.{other_source}
+use Rattle.store_tx.proofs.KeepsLemmas.{with_lent, lent_keeps, lent_has}
+use Rattle.store_tx.proofs.granting.lend.Goals as goal
+
+pub returns-in_ok-lend-in-Ok-clause-keeps : goal.returns-in_ok-lend-in-Ok-clause-keeps
+returns-in_ok-lend-in-Ok-clause-keeps g c = λ rows s k n.
+    let d = dataset_of (g.St.Store.state c.args.store.now) in
+    let b = c.args.branch in
+    let v = c.args.version.now in
+    let tx : Granted = c.args.tx.now in
+    let t : Table = table_at d c.in-Ok.at in
+    let other = other_source d b tx v c.in-Ok.at t k.name c.requires.other c.in-Ok.ensures.found in
+    subst (Keeps d rows s b) (ap (with_lent tx v) (sym c.in_ok-view-in-Ok.ensures.table) ∙ sym c.in_ok-lend-in-Ok.ensures.ok) (lent_keeps d rows s b tx v t k other n)
+
+pub returns-in_ok-lend-in-Ok-clause-granted : goal.returns-in_ok-lend-in-Ok-clause-granted
+returns-in_ok-lend-in-Ok-clause-granted g c = λ e.
+    let d = dataset_of (g.St.Store.state c.args.store.now) in
+    let v = c.args.version.now in
+    let tx : Granted = c.args.tx.now in
+    let t : Table = table_at d c.in-Ok.at in
+    subst (λ (h : Granted). has_version h v ≡ true) (ap (with_lent tx v) (sym c.in_ok-view-in-Ok.ensures.table) ∙ sym c.in_ok-lend-in-Ok.ensures.ok) (lent_has tx v t c.requires.other)

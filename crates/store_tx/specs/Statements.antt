@@ -1,0 +1,114 @@
+-- What statements do over the head of a branch.
+use Rattle.std.specs.Prelude.{ℕ, Bool, List, None, Option, Some, length, map, true, ◌≡◌, ◌⊎◌}
+use Rattle.branch_tx.specs.Act.{Outcome, Tx, act, refused}
+use Rattle.branch_tx.specs.Alone.{alone, branch_as, branch_of, commit_entry, fresh, ground_of, merge_of, on_of}
+use Rattle.branch_tx.specs.Covers.{covers}
+use Rattle.branch_tx.specs.Found.{first_lacking, lacking, source_of}
+use Rattle.branch_tx.specs.Frame.{step_over}
+use Rattle.branch_tx.specs.Granted.{Granted, tx_in}
+use Rattle.branch_tx.specs.Keeping.{over_table}
+use Rattle.store_tx.specs.Ends.{entry_at}
+use Rattle.store_tx.specs.Keeps.{Keeps}
+use Rattle.db_store.specs.Dataset.{Dataset, branch_named, head_of}
+use Rattle.db_store.specs.Found.{branch_names, found, plain}
+use Rattle.db_store.specs.Overlay.{Overlay, untouched}
+use Rattle.db_value.specs.Text.{is_name}
+use Rattle.db_value.specs.declared.entry.Entry.{Entry}
+use Rattle.db_value.specs.declared.entry.Entry.TheVariants.{Branch as BranchEntry}
+use Rattle.db_value.specs.declared.reply.Refusal.{Refusal}
+use Rattle.db_value.specs.declared.version.VersionName.{VersionName}
+use Rattle.db_value.specs.declared.version.VersionPlace.{VersionPlace}
+use Rattle.lock_table.specs.Rows.{Row}
+use Rattle.stmt_text.specs.declared.stmt.ScanOver.{ScanOver}
+use Rattle.stmt_text.specs.declared.stmt.ScanOver.TheVariants.{Current, Heads, Named}
+use Rattle.stmt_text.specs.declared.stmt.Stmt.{Stmt}
+use Rattle.stmt_text.specs.declared.stmt.Stmt.TheVariants.{Abort, Begin, Branch, Commit, Graph, LogOf, Merge, On}
+
+-- a statement that reads or changes records, or merges
+abbrev pub act_over : Dataset → ℕ → Tx (List Overlay) → Stmt → Outcome (List Overlay)
+act_over d b tx (Merge name prefer) = merge_of (over_table (head_of d b)) d b tx name prefer
+act_over d b tx x = act (over_table (head_of d b)) (ground_of d b) (λ v. source_of b (found d v)) (branch_names d) tx x
+
+-- a statement that reads or changes records, or is in no form that is built
+abbrev pub IsAct : Stmt → Type 0
+IsAct (Begin room) = ⊥
+IsAct Commit = ⊥
+IsAct Abort = ⊥
+IsAct (On name) = ⊥
+IsAct (LogOf name) = ⊥
+IsAct Graph = ⊥
+IsAct (Branch name origin) = ⊥
+IsAct (Merge name prefer) = ⊥
+IsAct _ = Unit {0}
+
+-- or it merges
+abbrev pub IsWork : Stmt → Type 0
+IsWork (Merge name prefer) = Unit {0}
+IsWork x = IsAct x
+
+-- the entry of changes over the head as a commit, and of the transaction whose last line is x
+abbrev pub commit_over : Dataset → ℕ → Tx (List Overlay) → Option Entry
+commit_over d b tx = commit_entry (over_table (head_of d b)) b tx
+
+abbrev pub entry_over : Dataset → ℕ → Stmt → Tx (List Overlay) → Option Entry
+entry_over d b x tx = entry_at (over_table (head_of d b)) x b tx
+
+-- a statement inside an open transaction
+abbrev pub step_in : Dataset → ℕ → Granted → Stmt → Outcome (List Overlay)
+step_in d b g x = step_over d b (tx_in g) x
+
+-- a statement that is a transaction of its own, or begins one
+abbrev pub step_out : Dataset → ℕ → Stmt → Outcome (List Overlay)
+step_out d b x = step_over d b (fresh untouched) x
+
+-- a transaction that was begun and has done nothing
+abbrev pub begun_tx : ℕ → Tx (List Overlay)
+begun_tx room = record { begun = true; room = room; work = untouched; second = None; made = None; moved = None }
+
+-- a transaction on branch b has been opened
+abbrev pub IsBegun : Dataset → ℕ → ℕ → Option Granted → Type 0
+IsBegun d b room None = ⊥
+IsBegun d b room (Some g) = ((rows : List Row) (s : ℕ) → Keeps d rows s b g) × (tx_in g ≡ begun_tx room)
+
+-- a transaction under which the head of its branch was put
+abbrev pub held_by : Dataset → ℕ → Bool → Granted → Granted
+held_by d b alone g = record g { held = Some (alone, (ground_of d b).full); head = head_of d b }
+
+-- why the version that a look-up names stands for nothing, if it does
+abbrev pub lacking_at : Dataset → ℕ → Option VersionName → Option Refusal
+lacking_at d b None = None
+lacking_at d b (Some v) = lacking (source_of b (found d v))
+
+-- why the first of several versions that isn't there isn't
+abbrev pub lacking_of : Dataset → ℕ → List VersionName → Option Refusal
+lacking_of d b names = first_lacking (map (λ v. source_of b (found d v)) names)
+
+-- and the first that a scan goes over
+abbrev pub lacking_over : Dataset → ℕ → ScanOver → Option Refusal
+lacking_over d b Current = None
+lacking_over d b (Named names) = lacking_of d b names
+lacking_over d b Heads = lacking_of d b (map plain (branch_names d))
+
+-- a transaction answers a statement by itself, or the statement names a version that isn't there
+abbrev pub IsReady : Dataset → ℕ → Stmt → Granted → Type 0
+IsReady d b x g = (covers g x ≡ true) ⊎ ((why : Refusal) × (act_over d b (tx_in g) x ≡ refused (tx_in g) why))
+
+-- a new branch that a statement makes has a name
+abbrev pub HasName : Stmt → Type 0
+HasName (Branch name origin) = is_name name ≡ true
+HasName _ = Unit {0}
+
+-- a new branch of a made place, and of a version that is named
+abbrev pub branched : Dataset → List ℕ → VersionPlace → Outcome (List Overlay)
+branched d name at = branch_as (fresh untouched) name at None (branch_named d name) (length d.branches)
+
+abbrev pub branch_out : Dataset → List ℕ → VersionName → Outcome (List Overlay)
+branch_out d name origin = branch_of d (fresh untouched) name (found d origin)
+
+abbrev pub branch_entry : Option (List ℕ × VersionPlace) → Option Entry
+branch_entry None = None
+branch_entry (Some new) = Some (BranchEntry new.0 new.1)
+
+-- the session moves to the branch with a name
+abbrev pub moved_out : Dataset → List ℕ → Outcome (List Overlay)
+moved_out d name = on_of (fresh untouched) name (branch_named d name)

@@ -1,0 +1,189 @@
+//! Statements that are transactions of their own, and the ends of transactions: what they are to do.
+ghost use Rattle.std.specs.Prelude.{◌≡◌, ◌<◌, Some, None, true, false, length, IfOk};
+ghost use Rattle.db_value.specs.Text.{is_name};
+ghost use Rattle.db_store.specs.Dataset.{head_of, IsMade};
+ghost use Rattle.db_store.specs.State.{dataset_of};
+ghost use Rattle.branch_tx.specs.Keeping.{over_table};
+ghost use Rattle.branch_tx.specs.Alone.{commit_reply};
+ghost use Rattle.branch_tx.specs.Granted.{tx_in};
+ghost use Rattle.branch_tx.proofs.Acts.{is_done};
+ghost use Rattle.store_tx.specs.Ends.{is_begin, is_end};
+ghost use Rattle.store_tx.specs.Statements.{HasName, IsWork, step_in, step_out, entry_over, commit_over, branched, branch_out, branch_entry, moved_out};
+ghost use Rattle.store_tx.specs.Stored.{FitsIf, IsNamedIf};
+
+use crate::granting::open_tx;
+use crate::inside::work_twice;
+use crate::stored::{Plan, plain};
+use crate::twice::{copied, done, made, refused};
+use branch_tx::Tx;
+use db_store::Store;
+use db_value::{Entry, Name, Refusal, Reply, VersionName, VersionPlace};
+use std::alloc::{AllocError, Global};
+use stmt_text::Stmt;
+use version_log::{find_version, graph, log_branch};
+
+/// The room of a transaction for which none is told.
+pub const USUAL_ROOM: u32 = 1024;
+
+/// The most branches of a dataset.
+pub const MOST_BRANCHES: u32 = 1024;
+
+/// Ends a transaction with its entry, if it has one, and tells the version that this makes.
+pub fn commit<St: Store>(store: &St, tx: &Tx<St>, branch: u32) -> Result<Plan, AllocError>
+    requires branch { branch < length (dataset_of (St.state store.now)).branches }
+    ensures reply { IfOk result (λ p. p.told.reply ≡
+        commit_reply (over_table (head_of (dataset_of (St.state store.now)) branch)) (dataset_of (St.state store.now)) branch (tx_in tx.now)) }
+    ensures copy { IfOk result (λ p. p.told.copy ≡ p.told.reply) }
+    ensures entry { IfOk result (λ p. p.entry ≡ commit_over (dataset_of (St.state store.now)) branch (tx_in tx.now)) }
+    ensures named { IfOk result (λ p. IsNamedIf p.entry) }
+    ensures stays { IfOk result (λ p. p.moved ≡ None) }
+{
+    let name = store.branch_name(branch);
+    let position = store.last(branch) + 1;
+    match tx.entry(branch)? {
+        None => Ok(plain(done())),
+        Some(entry) => Ok(Plan {
+            told: made(name, position),
+            entry: Some(entry),
+            moved: None,
+        }),
+    }
+}
+
+/// Ends an open transaction, with its entry unless it is aborted.
+pub fn end<St: Store>(store: &St, tx: &Tx<St>, branch: u32, stmt: &Stmt) -> Result<Plan, AllocError>
+    requires branch { branch < length (dataset_of (St.state store.now)).branches }
+    requires ends { is_end stmt.now ≡ true }
+    ensures reply { IfOk result (λ p. p.told.reply ≡ (step_in (dataset_of (St.state store.now)) branch tx.now stmt.now).reply) }
+    ensures copy { IfOk result (λ p. p.told.copy ≡ p.told.reply) }
+    ensures entry { IfOk result (λ p. p.entry ≡ entry_over (dataset_of (St.state store.now)) branch stmt.now (tx_in tx.now)) }
+    ensures named { IfOk result (λ p. IsNamedIf p.entry) }
+{
+    match stmt {
+        Stmt::Commit => commit(store, tx, branch),
+        _ => Ok(plain(done())),
+    }
+}
+
+fn is_done(reply: &Reply) -> bool
+    ensures { result ≡ is_done reply.now }
+{
+    match reply {
+        Reply::Done => true,
+        _ => false,
+    }
+}
+
+// Answers a statement that reads or changes records, or merges, and is a transaction of its own.
+fn alone<St: Store>(alloc: Global, store: &St, branch: u32, stmt: &Stmt) -> Result<Plan, AllocError>
+    requires branch { branch < length (dataset_of (St.state store.now)).branches }
+    requires works { IsWork stmt.now }
+    ensures reply { IfOk result (λ p. p.told.reply ≡ (step_out (dataset_of (St.state store.now)) branch stmt.now).reply) }
+    ensures copy { IfOk result (λ p. p.told.copy ≡ p.told.reply) }
+    ensures entry { IfOk result (λ p. p.entry ≡
+        entry_over (dataset_of (St.state store.now)) branch stmt.now (step_out (dataset_of (St.state store.now)) branch stmt.now).tx) }
+    ensures named { IfOk result (λ p. IsNamedIf p.entry) }
+    ensures stays { IfOk result (λ p. p.moved ≡ None) }
+{
+    let mut tx = open_tx(alloc, store, branch, USUAL_ROOM)?;
+    let told = work_twice(store, &mut tx, branch, stmt)?;
+    if is_done(&told.reply) {
+        let committed = commit(store, &tx, branch)?;
+        return Ok(committed);
+    }
+    Ok(plain(told))
+}
+
+// Makes a branch of a made place, where there is none of its name and room for one.
+fn branch_at<St: Store>(store: &St, name: &Name, origin: VersionPlace) -> Plan
+    requires { IsMade (dataset_of (St.state store.now)) origin }
+    ensures reply { result.told.reply ≡ (branched (dataset_of (St.state store.now)) name.now origin).reply }
+    ensures copy { result.told.copy ≡ result.told.reply }
+    ensures entry { result.entry ≡ branch_entry (branched (dataset_of (St.state store.now)) name.now origin).tx.made }
+    ensures fits { FitsIf (dataset_of (St.state store.now)) result.entry }
+    ensures named { is_name name.now ≡ true → IsNamedIf result.entry }
+    ensures stays { result.moved ≡ None }
+{
+    if store.branch(name).is_some() {
+        return plain(refused(Refusal::BranchThere { branch: *name }));
+    }
+    if store.branches() >= MOST_BRANCHES {
+        return plain(refused(Refusal::BranchesFull));
+    }
+    Plan {
+        told: made(*name, 0),
+        entry: Some(Entry::Branch {
+            name: *name,
+            origin,
+        }),
+        moved: None,
+    }
+}
+
+/// Makes a branch of a version.
+pub fn branch_of<St: Store>(store: &St, name: &Name, origin: &VersionName) -> Plan
+    ensures reply { result.told.reply ≡ (branch_out (dataset_of (St.state store.now)) name.now origin.now).reply }
+    ensures copy { result.told.copy ≡ result.told.reply }
+    ensures entry { result.entry ≡ branch_entry (branch_out (dataset_of (St.state store.now)) name.now origin.now).tx.made }
+    ensures fits { FitsIf (dataset_of (St.state store.now)) result.entry }
+    ensures named { is_name name.now ≡ true → IsNamedIf result.entry }
+    ensures stays { result.moved ≡ None }
+{
+    match find_version(store, origin) {
+        Err(why) => plain(refused(why)),
+        Ok(at) => branch_at(store, name, at),
+    }
+}
+
+// Makes a branch the current one.
+fn move_to<St: Store>(store: &St, name: &Name) -> Plan
+    ensures reply { result.told.reply ≡ (moved_out (dataset_of (St.state store.now)) name.now).reply }
+    ensures copy { result.told.copy ≡ result.told.reply }
+    ensures entry { result.entry ≡ None }
+    ensures moved { result.moved ≡ (moved_out (dataset_of (St.state store.now)) name.now).tx.moved }
+{
+    match store.branch(name) {
+        None => plain(refused(Refusal::NoBranch { branch: *name })),
+        Some(branch) => Plan {
+            told: done(),
+            entry: None,
+            moved: Some(branch),
+        },
+    }
+}
+
+/// What a statement is to do outside of a transaction, if it doesn't begin one.
+pub fn own<St: Store>(
+    alloc: Global,
+    store: &St,
+    current: u32,
+    stmt: &Stmt,
+) -> Result<Plan, AllocError>
+    requires branch { current < length (dataset_of (St.state store.now)).branches }
+    requires ends { is_begin stmt.now ≡ false }
+    ensures reply { IfOk result (λ p. p.told.reply ≡ (step_out (dataset_of (St.state store.now)) current stmt.now).reply) }
+    ensures copy { IfOk result (λ p. p.told.copy ≡ p.told.reply) }
+    ensures entry { IfOk result (λ p. p.entry ≡
+        entry_over (dataset_of (St.state store.now)) current stmt.now (step_out (dataset_of (St.state store.now)) current stmt.now).tx) }
+    ensures named { IfOk result (λ p. HasName stmt.now → IsNamedIf p.entry) }
+    ensures moved { IfOk result (λ p. p.moved ≡ (step_out (dataset_of (St.state store.now)) current stmt.now).tx.moved) }
+{
+    match stmt {
+        Stmt::Commit => Ok(plain(refused(Refusal::NoTransaction))),
+        Stmt::Abort => Ok(plain(refused(Refusal::NoTransaction))),
+        Stmt::On { branch } => Ok(move_to(store, branch)),
+        Stmt::LogOf { branch } => {
+            let told = copied(log_branch(alloc, store, branch)?)?;
+            Ok(plain(told))
+        }
+        Stmt::Graph => {
+            let told = copied(graph(alloc, store)?)?;
+            Ok(plain(told))
+        }
+        Stmt::Branch { name, origin } => Ok(branch_of(store, name, origin)),
+        _ => {
+            let plan = alone(alloc, store, current, stmt)?;
+            Ok(plan)
+        }
+    }
+}
