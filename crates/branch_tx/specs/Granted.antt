@@ -1,22 +1,26 @@
 -- A granted transaction by itself: what it holds of its branch, what it has changed, and which versions were lent to it.
-use Rattle.std.specs.Prelude.{ℕ, ◌==◌, ◌&&◌, not, is_some, cond, Bool, true, false, List, [], ◌∷◌, Option, Some, None, refl}
+use Rattle.std.specs.Prelude.{ℕ, ◌==◌, ◌&&◌, not, is_some, cond, Bool, true, false, List, [], ◌∷◌, length, take, Option, Some, None, Result, refl}
 use Rattle.std.specs.FinMap as finite
 use Rattle.std.specs.Coded.{Coded, code_by, coded×, coded_ℕ, coded_bool, coded_list, coded_option}
 use Rattle.db_value.specs.Text.{same}
 use Rattle.db_value.specs.declared.schema.Relation.{Relation}
 use Rattle.db_value.specs.declared.record.Record.{Record}
 use Rattle.db_value.specs.declared.condition.Set.{Set}
+use Rattle.db_value.specs.declared.entry.Change.{Change}
+use Rattle.db_value.specs.Value.{Value}
 use Rattle.db_value.specs.declared.version.VersionName.{VersionName}
 use Rattle.db_value.specs.declared.version.VersionPlace.{VersionPlace}
 use Rattle.db_value.specs.declared.condition.Prefer.{Prefer}
 use Rattle.db_value.specs.declared.reply.Refusal.TheVariants.{Line}
-use Rattle.db_store.specs.Table.{Table, table_code, relation_at}
+use Rattle.db_store.specs.Table.{Table, table_code, relation_at, with_changes}
+use Rattle.db_store.specs.Adopt.{full_from}
 use Rattle.db_store.specs.Overlay.{Overlay, overlay_code, laid}
 use Rattle.stmt_text.specs.declared.stmt.Stmt.{Stmt}
+use Rattle.stmt_text.specs.declared.stmt.ScanOver.{ScanOver}
 use Rattle.branch_tx.specs.Keeping.{over_table}
 use Rattle.branch_tx.specs.Found.{Source, Own, Other, Lacking}
-use Rattle.branch_tx.specs.Act.{Tx, Outcome, Ground, act, insert_free, update_free, delete_free, record_with}
-use Rattle.branch_tx.specs.Merging.{merge_in}
+use Rattle.branch_tx.specs.Act.{Tx, Outcome, Ground, act, insert_free, update_free, delete_free, insert_in, update_in, get_from, scan_over, join_in, minus_in, record_with}
+use Rattle.branch_tx.specs.Merging.{merge_in, merged_to, merge_refusal}
 use Rattle.branch_tx.specs.Frame.{is_changed}
 
 pub record Granted : Type 0 where
@@ -123,6 +127,34 @@ merged g from prefer base right = merge_in (over_table g.head) (ground_in g) (tx
 -- it after a merge
 abbrev pub with_merge : Granted → Outcome (List Overlay) → Granted
 with_merge g o = record g { overlays = o.tx.work; second = o.tx.second }
+
+-- what its merge does once the changes of left are found
+abbrev pub adopted : Granted → VersionPlace → List Change → Outcome (List Overlay)
+adopted g from cs = merged_to (over_table g.head) (tx_in g) from cs (merge_refusal g.schema g.room (length cs) None (full_from 0 (with_changes g.head cs)))
+
+-- what an insertion and an update of a relation do
+abbrev pub inserted : Granted → ℕ → List ℕ → ℕ → List Value → Outcome (List Overlay)
+inserted g r name key fields = insert_in (over_table g.head) (ground_in g) (tx_in g) r name key fields
+
+abbrev pub updated_by : Granted → ℕ → List ℕ → ℕ → Result (List Set) (List ℕ) → Outcome (List Overlay)
+updated_by g r name key sets = update_in (over_table g.head) (ground_in g) (tx_in g) r name key sets
+
+-- what a look-up in a relation, a scan, a join and a difference do
+abbrev pub looked_up : Granted → ℕ → ℕ → Source → Outcome (List Overlay)
+looked_up g r key source = get_from (over_table g.head) (tx_in g) r key source
+
+abbrev pub scanned : Granted → ℕ → (Record → Bool) → ScanOver → Outcome (List Overlay)
+scanned g r p over = scan_over (over_table g.head) (source_in g) (names_or_none g.heads) (tx_in g) r p over
+
+abbrev pub joined : Granted → ℕ → ℕ → VersionName → VersionName → (Record → Bool) → Outcome (List Overlay)
+joined g r s v w p = join_in (over_table g.head) (tx_in g) r s (source_in g v) (source_in g w) p
+
+abbrev pub told_apart : Granted → ℕ → VersionName → VersionName → Outcome (List Overlay)
+told_apart g r v w = minus_in (over_table g.head) (tx_in g) r (source_in g v) (source_in g w)
+
+-- it after what it was granted since a mark is taken back
+abbrev pub back_at : Granted → Option (Bool × Bool) × (ℕ × Bool) → Granted
+back_at g mark = record g { held = mark.0; lent = take mark.1.0 g.lent; heads = cond mark.1.1 g.heads None }
 
 -- what an insertion does where the branch isn't full
 abbrev pub placed : Granted → ℕ → List ℕ → Record → Outcome (List Overlay)

@@ -38,9 +38,12 @@ pub fn condition(
     terms: &Terms,
 ) -> Result<Result<Pred, Name>, AllocError>
     requires { relation < length schema.now }
-    ensures holds { IfOk result (λ r. IfOk r (λ p. pred_holds p ≡ holds (columns_at schema.now relation) terms.now)) }
-    ensures known { IfOk result (λ r. OnOk r (first_unknown (columns_at schema.now relation) terms.now ≡ None)) }
-    ensures unknown { IfOk result (λ r. IfErr r (λ column. first_unknown (columns_at schema.now relation) terms.now ≡ Some column)) }
+    ensures holds { IfOk result (λ r.
+        IfOk r (λ p. pred_holds p ≡ holds (columns_at schema.now relation) terms.now)) }
+    ensures known { IfOk result (λ r.
+        OnOk r (first_unknown (columns_at schema.now relation) terms.now ≡ None)) }
+    ensures unknown { IfOk result (λ r. IfErr r (λ column.
+        first_unknown (columns_at schema.now relation) terms.now ≡ Some column)) }
 {
     match Pred::resolve(alloc, schema, relation, terms) {
         Ok(pred) => Ok(Ok(pred)),
@@ -85,7 +88,8 @@ fn list_counted<V: View, L: Ledger>(
     requires name { blank.name ≡ L.name }
     requires parts { blank.parts ≡ L.parts }
     requires some { 0 < L.parts }
-    ensures { IfOk result (λ rows. rows ≡ map marked (rows_where (pred_holds pred.now) relation (V.table view.now))) }
+    ensures { IfOk result (λ rows.
+        rows ≡ map marked (rows_where (pred_holds pred.now) relation (V.table view.now))) }
 {
     let mut steps = Steps::<L>::open(blank);
     let rows = list(alloc, view, relation, pred, &mut steps)?;
@@ -100,7 +104,8 @@ pub fn list_rows<V: View>(
     pred: &Pred,
 ) -> Result<Rows, AllocError>
     requires { relation < length (V.table view.now) }
-    ensures { IfOk result (λ rows. rows ≡ map marked (rows_where (pred_holds pred.now) relation (V.table view.now))) }
+    ensures { IfOk result (λ rows.
+        rows ≡ map marked (rows_where (pred_holds pred.now) relation (V.table view.now))) }
 {
     list_counted::<V, Brand>(alloc, view, relation, pred, Blank::new(1))
 }
@@ -116,7 +121,8 @@ fn scan_counted<V: View, L: Ledger>(
     requires name { blank.name ≡ L.name }
     requires parts { blank.parts ≡ L.parts }
     requires some { 0 < L.parts }
-    ensures { IfOk result (λ rows. rows ≡ multi (pred_holds pred.now) relation (map V.table views.now)) }
+    ensures { IfOk result (λ rows.
+        rows ≡ multi (pred_holds pred.now) relation (map V.table views.now)) }
 {
     let mut steps = Steps::<L>::open(blank);
     let rows = scan(alloc, views, relation, pred, &mut steps)?;
@@ -132,7 +138,8 @@ pub fn scan_rows<V: View>(
     pred: &Pred,
 ) -> Result<Rows, AllocError>
     requires { All (λ v. relation < length (V.table v)) views.now }
-    ensures { IfOk result (λ rows. rows ≡ multi (pred_holds pred.now) relation (map V.table views.now)) }
+    ensures { IfOk result (λ rows.
+        rows ≡ multi (pred_holds pred.now) relation (map V.table views.now)) }
 {
     scan_counted::<V, Brand>(alloc, views, relation, pred, Blank::new(1))
 }
@@ -151,7 +158,8 @@ fn join_counted<V: View, L: Ledger>(
     requires name { blank.name ≡ L.name }
     requires parts { blank.parts ≡ L.parts }
     requires some { 0 < L.parts }
-    ensures { IfOk result (λ pairs. pairs ≡ join_of (pred_holds pred.now) (V.table left.now) r (V.table right.now) s) }
+    ensures { IfOk result (λ pairs.
+        pairs ≡ join_of (pred_holds pred.now) (V.table left.now) r (V.table right.now) s) }
 {
     let mut steps = Steps::<L>::open(blank);
     let pairs = join(alloc, left, r, pred, right, s, &mut steps)?;
@@ -170,7 +178,8 @@ pub fn join_rows<V: View>(
 ) -> Result<Pairs, AllocError>
     requires left { r < length (V.table left.now) }
     requires right { s < length (V.table right.now) }
-    ensures { IfOk result (λ pairs. pairs ≡ join_of (pred_holds pred.now) (V.table left.now) r (V.table right.now) s) }
+    ensures { IfOk result (λ pairs.
+        pairs ≡ join_of (pred_holds pred.now) (V.table left.now) r (V.table right.now) s) }
 {
     join_counted::<V, Brand>(alloc, left, r, pred, right, s, Blank::new(1))
 }
@@ -187,7 +196,8 @@ fn minus_counted<V: View, L: Ledger>(
     requires name { blank.name ≡ L.name }
     requires parts { blank.parts ≡ L.parts }
     requires some { 0 < L.parts }
-    ensures { IfOk result (λ rows. rows ≡ map marked (minus_of (V.table left.now) (V.table right.now) r)) }
+    ensures { IfOk result (λ rows.
+        rows ≡ map marked (minus_of (V.table left.now) (V.table right.now) r)) }
 {
     let mut steps = Steps::<L>::open(blank);
     let rows = minus(alloc, left, right, r, &mut steps)?;
@@ -198,7 +208,8 @@ fn minus_counted<V: View, L: Ledger>(
 pub fn minus_rows<V: View>(alloc: Global, left: &V, right: &V, r: u8) -> Result<Rows, AllocError>
     requires left { r < length (V.table left.now) }
     requires right { r < length (V.table right.now) }
-    ensures { IfOk result (λ rows. rows ≡ map marked (minus_of (V.table left.now) (V.table right.now) r)) }
+    ensures { IfOk result (λ rows.
+        rows ≡ map marked (minus_of (V.table left.now) (V.table right.now) r)) }
 {
     minus_counted::<V, Brand>(alloc, left, right, r, Blank::new(1))
 }

@@ -47,8 +47,10 @@ fn note(
     name: &VersionName,
     place: usize,
 ) -> Result<(), AllocError>
-    ensures ok { OnOk result ((names : List VersionName) → place ≡ length names → ArePlaces names places.old → ArePlaces (names ++ name.now ∷ []) places.new) }
-    ensures err { OnErr result ((names : List VersionName) → ArePlaces names places.old → ArePlaces names places.new) }
+    ensures ok { OnOk result ((names : List VersionName) → place ≡ length names
+        → ArePlaces names places.old → ArePlaces (names ++ name.now ∷ []) places.new) }
+    ensures err { OnErr result ((names : List VersionName) → ArePlaces names places.old
+        → ArePlaces names places.new) }
 {
     let key = NameKey::of(name);
     if places.contains_key(&key) {
@@ -62,7 +64,8 @@ fn note(
 
 // Forgets the place of a name behind others, unless one of them is the same.
 fn forget(places: &mut BTreeMap<NameKey, usize>, name: &VersionName, place: usize)
-    ensures { (names : List VersionName) → place ≡ length names → ArePlaces (names ++ name.now ∷ []) places.old → ArePlaces names places.new }
+    ensures { (names : List VersionName) → place ≡ length names
+        → ArePlaces (names ++ name.now ∷ []) places.old → ArePlaces names places.new }
 {
     let key = NameKey::of(name);
     if places.get(&key).copied() == Some(place) {

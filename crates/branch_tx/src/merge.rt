@@ -2,14 +2,12 @@
 ghost use Rattle.std.specs.Prelude.{◌≡◌, ◌<◌, None, true, nat_lt, length, IfOk, OnOk, OnErr};
 ghost use Rattle.std.specs.List.{list_all};
 ghost use Rattle.db_value.specs.Relations.{columns_at};
-ghost use Rattle.db_store.specs.Adopt.{keys_differ, full_from};
+ghost use Rattle.db_store.specs.Adopt.{keys_differ};
 ghost use Rattle.db_store.specs.Counted.{IsTable};
 ghost use Rattle.db_store.specs.Overlay.{untouched};
-ghost use Rattle.db_store.specs.Table.{with_changes};
 ghost use Rattle.field_merge.specs.Named.{IsFieldOf};
-ghost use Rattle.branch_tx.specs.Merging.{relation_name, field_name, merge_refusal, merged_to};
-ghost use Rattle.branch_tx.specs.Keeping.{over_table};
-ghost use Rattle.branch_tx.specs.Granted.{tx_in, merged, with_merge};
+ghost use Rattle.branch_tx.specs.Merging.{relation_name, field_name};
+ghost use Rattle.branch_tx.specs.Granted.{merged, adopted, with_merge};
 
 use crate::refuse::{refused, versions_full};
 use crate::tx::Tx;
@@ -45,10 +43,12 @@ impl<St: Store> Tx<St> {
     // Takes the changes of a merge that has no conflict.
     fn adopt(&mut self, from: VersionPlace, changes: &Changes) -> Result<Reply, AllocError>
         requires untouched { self.old.overlays ≡ untouched }
-        requires relations { list_all (λ c. nat_lt c.relation (length self.old.head)) changes.now ≡ true }
+        requires relations { list_all (λ c.
+            nat_lt c.relation (length self.old.head)) changes.now ≡ true }
         requires differ { keys_differ changes.now ≡ true }
-        ensures reply { IfOk result (λ r. r ≡ (merged_to (over_table self.old.head) (tx_in self.old) from changes.now (merge_refusal self.old.schema self.old.room (length changes.now) None (full_from 0 (with_changes self.old.head changes.now)))).reply) }
-        ensures left { OnOk result (self.new ≡ with_merge self.old (merged_to (over_table self.old.head) (tx_in self.old) from changes.now (merge_refusal self.old.schema self.old.room (length changes.now) None (full_from 0 (with_changes self.old.head changes.now))))) }
+        ensures reply { IfOk result (λ r. r ≡ (adopted self.old from changes.now).reply) }
+        ensures left { OnOk result (self.new ≡ with_merge self.old
+            (adopted self.old from changes.now)) }
         ensures err { OnErr result (self.new ≡ self.old) }
     {
         match self.work.adopt(changes) {
@@ -80,8 +80,10 @@ impl<St: Store> Tx<St> {
         requires left { IsTable self.old.schema self.old.head }
         requires base { IsTable self.old.schema (St.View.table base.now) }
         requires right { IsTable self.old.schema (St.View.table right.now) }
-        ensures reply { IfOk result (λ r. r ≡ (merged self.old from prefer (St.View.table base.now) (St.View.table right.now)).reply) }
-        ensures left { OnOk result (self.new ≡ with_merge self.old (merged self.old from prefer (St.View.table base.now) (St.View.table right.now))) }
+        ensures reply { IfOk result (λ r. r ≡ (merged self.old from prefer (St.View.table base.now)
+            (St.View.table right.now)).reply) }
+        ensures left { OnOk result (self.new ≡ with_merge self.old
+            (merged self.old from prefer (St.View.table base.now) (St.View.table right.now))) }
         ensures err { OnErr result (self.new ≡ self.old) }
     {
         if self.is_full() {

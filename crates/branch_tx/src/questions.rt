@@ -20,15 +20,17 @@ impl<St: Store> Tx<St> {
     ghost use Rattle.db_store.specs.SeenState.{seen_table};
     ghost use Rattle.db_store.specs.Found.{plain};
     ghost use Rattle.branch_tx.specs.Found.{lacking, first_lacking};
-    ghost use Rattle.branch_tx.specs.Act.{scan_versions, scan_over, join_in, minus_in};
-    ghost use Rattle.branch_tx.specs.Granted.{source_in, names_or_none, table_from};
+    ghost use Rattle.branch_tx.specs.Act.{scan_versions};
+    ghost use Rattle.branch_tx.specs.Granted.{source_in, names_or_none, table_from, scanned, joined, told_apart};
 
     // What it sees under a name: its working table, or a version that was lent.
     #[tactic(auto, using(db_store::proofs::OverlayLemmas::length_laid))]
     fn see<'a>(&'a self, version: &VersionName) -> Option<Seen<'a, St::View>>
-        ensures none { IfNone result (lacking (source_in self.now version.now) ≡ Some Refusal.Line) }
+        ensures none { IfNone result (lacking (source_in self.now version.now)
+            ≡ Some Refusal.Line) }
         ensures some { IfSome result (λ s. lacking (source_in self.now version.now) ≡ None) }
-        ensures table { IfSome result (λ s. seen_table s ≡ table_from self.now (source_in self.now version.now)) }
+        ensures table { IfSome result (λ s.
+            seen_table s ≡ table_from self.now (source_in self.now version.now)) }
         ensures wide { IfSome result (λ s. length (seen_table s) ≡ length self.now.schema) }
     {
         if self.is_current(version) {
@@ -45,10 +47,14 @@ impl<St: Store> Tx<St> {
         &'a self,
         names: &[VersionName],
     ) -> Result<Option<Vec<Seen<'a, St::View>>>, AllocError>
-        ensures none { IfOk result (λ o. IfNone o (first_lacking (map (source_in self.now) names.now) ≡ Some Refusal.Line)) }
-        ensures some { IfOk result (λ o. IfSome o (λ v. first_lacking (map (source_in self.now) names.now) ≡ None)) }
-        ensures tables { IfOk result (λ o. IfSome o (λ v. map seen_table v.items ≡ map (λ n. table_from self.now (source_in self.now n)) names.now)) }
-        ensures wide { IfOk result (λ o. IfSome o (λ v. All (λ s. length (seen_table s) ≡ length self.now.schema) v.items)) }
+        ensures none { IfOk result (λ o.
+            IfNone o (first_lacking (map (source_in self.now) names.now) ≡ Some Refusal.Line)) }
+        ensures some { IfOk result (λ o.
+            IfSome o (λ v. first_lacking (map (source_in self.now) names.now) ≡ None)) }
+        ensures tables { IfOk result (λ o. IfSome o (λ v. map seen_table v.items ≡ map (λ n.
+            table_from self.now (source_in self.now n)) names.now)) }
+        ensures wide { IfOk result (λ o.
+            IfSome o (λ v. All (λ s. length (seen_table s) ≡ length self.now.schema) v.items)) }
     {
         let mut all = Vec::new(*self.lent.allocator());
         for name in names {
@@ -63,9 +69,12 @@ impl<St: Store> Tx<St> {
     // A condition on a relation, or the first column that the relation hasn't.
     fn condition(&self, relation: u8, terms: &Terms) -> Result<Result<Pred, Name>, AllocError>
         requires { relation < length self.now.schema }
-        ensures holds { IfOk result (λ r. IfOk r (λ p. pred_holds p ≡ holds (columns_at self.now.schema relation) terms.now)) }
-        ensures known { IfOk result (λ r. OnOk r (first_unknown (columns_at self.now.schema relation) terms.now ≡ None)) }
-        ensures unknown { IfOk result (λ r. IfErr r (λ column. first_unknown (columns_at self.now.schema relation) terms.now ≡ Some column)) }
+        ensures holds { IfOk result (λ r.
+            IfOk r (λ p. pred_holds p ≡ holds (columns_at self.now.schema relation) terms.now)) }
+        ensures known { IfOk result (λ r.
+            OnOk r (first_unknown (columns_at self.now.schema relation) terms.now ≡ None)) }
+        ensures unknown { IfOk result (λ r. IfErr r (λ column.
+            first_unknown (columns_at self.now.schema relation) terms.now ≡ Some column)) }
     {
         condition(*self.lent.allocator(), &self.schema, relation, terms)
     }
@@ -89,7 +98,8 @@ impl<St: Store> Tx<St> {
         names: VersionNames,
     ) -> Result<Reply, AllocError>
         requires { relation < length self.now.schema }
-        ensures { IfOk result (λ r. r ≡ (scan_versions (over_table self.now.head) (source_in self.now) (tx_in self.now) relation (pred_holds pred.now) names).reply) }
+        ensures { IfOk result (λ r. r ≡ (scan_versions (over_table self.now.head)
+            (source_in self.now) (tx_in self.now) relation (pred_holds pred.now) names).reply) }
     {
         match self.see_all(names.as_slice())? {
             None => Ok(refused(Refusal::Line)),
@@ -104,7 +114,8 @@ impl<St: Store> Tx<St> {
     #[tactic(auto, using(db_store::proofs::OverlayLemmas::length_laid))]
     fn scan_own(&self, relation: u8, pred: &Pred) -> Result<Reply, AllocError>
         requires { relation < length self.now.schema }
-        ensures { IfOk result (λ r. r ≡ (scan_over (over_table self.now.head) (source_in self.now) (names_or_none self.now.heads) (tx_in self.now) relation (pred_holds pred.now) ScanOver.Current).reply) }
+        ensures { IfOk result (λ r.
+            r ≡ (scanned self.now relation (pred_holds pred.now) ScanOver.Current).reply) }
     {
         let rows = list_rows(*self.lent.allocator(), &self.work, relation, pred)?;
         let names = ListOf::of(Vec::new(*self.lent.allocator()));
@@ -113,7 +124,8 @@ impl<St: Store> Tx<St> {
 
     fn scan_over(&self, relation: u8, pred: &Pred, over: &ScanOver) -> Result<Reply, AllocError>
         requires { relation < length self.now.schema }
-        ensures { IfOk result (λ r. r ≡ (scan_over (over_table self.now.head) (source_in self.now) (names_or_none self.now.heads) (tx_in self.now) relation (pred_holds pred.now) over.now).reply) }
+        ensures { IfOk result (λ r.
+            r ≡ (scanned self.now relation (pred_holds pred.now) over.now).reply) }
     {
         match over {
             ScanOver::Current => self.scan_own(relation, pred),
@@ -134,7 +146,8 @@ impl<St: Store> Tx<St> {
         over: &ScanOver,
         terms: &Terms,
     ) -> Result<Reply, AllocError>
-        ensures { IfOk result (λ r. r ≡ (acted self.now (Stmt.Scan name.now over.now terms.now)).reply) }
+        ensures { IfOk result (λ r.
+            r ≡ (acted self.now (Stmt.Scan name.now over.now terms.now)).reply) }
     {
         let Some(relation) = self.relation_of(name) else {
             return Ok(no_relation(*name));
@@ -156,7 +169,8 @@ impl<St: Store> Tx<St> {
     ) -> Result<Reply, AllocError>
         requires left { r < length self.now.schema }
         requires right { s < length self.now.schema }
-        ensures { IfOk result (λ p. p ≡ (join_in (over_table self.now.head) (tx_in self.now) r s (source_in self.now first.now) (source_in self.now second.now) (pred_holds pred.now)).reply) }
+        ensures { IfOk result (λ p.
+            p ≡ (joined self.now r s first.now second.now (pred_holds pred.now)).reply) }
     {
         let Some(left) = self.see(first) else {
             return Ok(refused(Refusal::Line));
@@ -176,7 +190,8 @@ impl<St: Store> Tx<St> {
         second: &VersionName,
         terms: &Terms,
     ) -> Result<Reply, AllocError>
-        ensures { IfOk result (λ r. r ≡ (acted self.now (Stmt.Join left.now right.now first.now second.now terms.now)).reply) }
+        ensures { IfOk result (λ r. r ≡ (acted self.now
+            (Stmt.Join left.now right.now first.now second.now terms.now)).reply) }
     {
         let Some(r) = self.relation_of(left) else {
             return Ok(no_relation(*left));
@@ -198,7 +213,7 @@ impl<St: Store> Tx<St> {
         second: &VersionName,
     ) -> Result<Reply, AllocError>
         requires { relation < length self.now.schema }
-        ensures { IfOk result (λ r. r ≡ (minus_in (over_table self.now.head) (tx_in self.now) relation (source_in self.now first.now) (source_in self.now second.now)).reply) }
+        ensures { IfOk result (λ r. r ≡ (told_apart self.now relation first.now second.now).reply) }
     {
         let Some(left) = self.see(first) else {
             return Ok(refused(Refusal::Line));
@@ -217,7 +232,8 @@ impl<St: Store> Tx<St> {
         first: &VersionName,
         second: &VersionName,
     ) -> Result<Reply, AllocError>
-        ensures { IfOk result (λ r. r ≡ (acted self.now (Stmt.Minus name.now first.now second.now)).reply) }
+        ensures { IfOk result (λ r.
+            r ≡ (acted self.now (Stmt.Minus name.now first.now second.now)).reply) }
     {
         match self.relation_of(name) {
             None => Ok(no_relation(*name)),

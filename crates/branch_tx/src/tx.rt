@@ -82,9 +82,9 @@ impl<St: Store> Model for Tx<St> {
 }
 
 impl<St: Store> Tx<St> {
-    ghost use Rattle.std.specs.Prelude.{◌<◌, ◌≤◌, Ok, Err, IfSome, is_some, cond, take};
-    ghost use Rattle.branch_tx.specs.Act.{insert_in, update_in, get_from, source_at};
-    ghost use Rattle.branch_tx.specs.Granted.{ground_in, source_in, with_work, placed, renewed, removed, is_current, record_in};
+    ghost use Rattle.std.specs.Prelude.{◌<◌, ◌≤◌, Ok, Err, IfSome, is_some, cond};
+    ghost use Rattle.branch_tx.specs.Act.{source_at};
+    ghost use Rattle.branch_tx.specs.Granted.{ground_in, source_in, with_work, inserted, updated_by, looked_up, back_at, placed, renewed, removed, is_current, record_in};
     ghost use Rattle.std.specs.FinMap as finite;
     ghost use Rattle.db_store.specs.Table.{relation_at};
     ghost use Rattle.db_store.specs.Overlay.{laid};
@@ -101,7 +101,8 @@ impl<St: Store> Tx<St> {
         current: Name,
     ) -> Result<Tx<St>, AllocError>
         requires { length (St.View.table (under_of work)) ≡ length schema.now }
-        ensures { IfOk result (λ t. t ≡ ungranted schema.now current (St.View.table (under_of work)) (overlays_of work) (room_of work)) }
+        ensures { IfOk result (λ t. t ≡ ungranted schema.now current (St.View.table (under_of work))
+            (overlays_of work) (room_of work)) }
     {
         let schema = schema.duplicate()?;
         let lent = Lending::new(alloc);
@@ -122,7 +123,8 @@ impl<St: Store> Tx<St> {
         requires untouched { self.old.overlays ≡ untouched }
         requires viewable { IsViewable (St.View.table view) (St.View.parts_of view) }
         requires wide { length (St.View.table view) ≡ length self.old.schema }
-        ensures { self.new ≡ record self.old { held = Some (exclusive, full); head = St.View.table view } }
+        ensures { self.new ≡ record self.old { held = Some
+            (exclusive, full); head = St.View.table view } }
     {
         self.work.rest_on(view);
         self.held = Some(Held { exclusive, full });
@@ -131,7 +133,8 @@ impl<St: Store> Tx<St> {
     /// Lends it the view of a version under its name.
     pub fn lend(&mut self, name: VersionName, view: St::View) -> Result<(), AllocError>
         requires { length (St.View.table view) ≡ length self.old.schema }
-        ensures ok { OnOk result (self.new ≡ record self.old { lent = self.old.lent ++ (name, St.View.table view) ∷ [] }) }
+        ensures ok { OnOk result (self.new ≡ record self.old { lent = self.old.lent
+            ++ (name, St.View.table view) ∷ [] }) }
         ensures err { OnErr result (self.new ≡ self.old) }
     {
         self.lent.push(name, view)?;
@@ -169,7 +172,8 @@ impl<St: Store> Tx<St> {
 
     /// The entry of its changes as a commit on a branch, if there are any or it merged.
     pub fn entry(&self, branch: u32) -> Result<Option<Entry>, AllocError>
-        ensures { IfOk result (λ e. e ≡ commit_entry (over_table self.now.head) branch (tx_in self.now)) }
+        ensures { IfOk result (λ e.
+            e ≡ commit_entry (over_table self.now.head) branch (tx_in self.now)) }
     {
         if !self.has_done() {
             return Ok(None);
@@ -204,7 +208,7 @@ impl<St: Store> Tx<St> {
 
     /// Takes back what it was granted since a mark. It takes no memory.
     pub fn back_to(&mut self, mark: Mark)
-        ensures { self.new ≡ record self.old { held = mark.0; lent = take mark.1.0 self.old.lent; heads = cond mark.1.1 self.old.heads None } }
+        ensures { self.new ≡ back_at self.old mark }
     {
         self.forget_heads(mark.noted);
         self.held = mark.held;
@@ -233,7 +237,8 @@ impl<St: Store> Tx<St> {
     fn place(&mut self, relation: u8, name: Name, row: &Record) -> Result<Reply, AllocError>
         requires { relation < length self.old.schema }
         ensures reply { IfOk result (λ r. r ≡ (placed self.old relation name row.now).reply) }
-        ensures left { OnOk result (self.new ≡ with_work self.old (placed self.old relation name row.now)) }
+        ensures left { OnOk result (self.new ≡ with_work self.old
+            (placed self.old relation name row.now)) }
         ensures err { OnErr result (self.new ≡ self.old) }
     {
         match self.work.insert(relation, row) {
@@ -254,8 +259,10 @@ impl<St: Store> Tx<St> {
         fields: &Fields,
     ) -> Result<Reply, AllocError>
         requires { relation < length self.old.schema }
-        ensures reply { IfOk result (λ r. r ≡ (insert_in (over_table self.old.head) (ground_in self.old) (tx_in self.old) relation name key fields.now).reply) }
-        ensures left { OnOk result (self.new ≡ with_work self.old (insert_in (over_table self.old.head) (ground_in self.old) (tx_in self.old) relation name key fields.now)) }
+        ensures reply { IfOk result (λ r.
+            r ≡ (inserted self.old relation name key fields.now).reply) }
+        ensures left { OnOk result (self.new ≡ with_work self.old
+            (inserted self.old relation name key fields.now)) }
         ensures err { OnErr result (self.new ≡ self.old) }
     {
         if self.is_full() {
@@ -267,8 +274,10 @@ impl<St: Store> Tx<St> {
     }
 
     fn insert(&mut self, name: &Name, key: u64, fields: &Fields) -> Result<Reply, AllocError>
-        ensures reply { IfOk result (λ r. r ≡ (acted self.old (Stmt.Insert name.now key fields.now)).reply) }
-        ensures left { OnOk result (self.new ≡ left self.old (Stmt.Insert name.now key fields.now)) }
+        ensures reply { IfOk result (λ r.
+            r ≡ (acted self.old (Stmt.Insert name.now key fields.now)).reply) }
+        ensures left { OnOk result (self.new ≡ left self.old
+            (Stmt.Insert name.now key fields.now)) }
         ensures err { OnErr result (self.new ≡ self.old) }
     {
         let Some(relation) = self.relation_of(name) else {
@@ -292,7 +301,8 @@ impl<St: Store> Tx<St> {
     ) -> Result<Reply, AllocError>
         requires { relation < length self.old.schema }
         ensures reply { IfOk result (λ r. r ≡ (renewed self.old relation name key sets.now).reply) }
-        ensures left { OnOk result (self.new ≡ with_work self.old (renewed self.old relation name key sets.now)) }
+        ensures left { OnOk result (self.new ≡ with_work self.old
+            (renewed self.old relation name key sets.now)) }
         ensures err { OnErr result (self.new ≡ self.old) }
     {
         match self.work.update(relation, key, sets) {
@@ -313,8 +323,10 @@ impl<St: Store> Tx<St> {
         sets: &Result<Sets, Name>,
     ) -> Result<Reply, AllocError>
         requires { relation < length self.old.schema }
-        ensures reply { IfOk result (λ r. r ≡ (update_in (over_table self.old.head) (ground_in self.old) (tx_in self.old) relation name key sets.now).reply) }
-        ensures left { OnOk result (self.new ≡ with_work self.old (update_in (over_table self.old.head) (ground_in self.old) (tx_in self.old) relation name key sets.now)) }
+        ensures reply { IfOk result (λ r.
+            r ≡ (updated_by self.old relation name key sets.now).reply) }
+        ensures left { OnOk result (self.new ≡ with_work self.old
+            (updated_by self.old relation name key sets.now)) }
         ensures err { OnErr result (self.new ≡ self.old) }
     {
         match sets {
@@ -330,7 +342,8 @@ impl<St: Store> Tx<St> {
     }
 
     fn update(&mut self, name: &Name, key: u64, sets: &NamedSets) -> Result<Reply, AllocError>
-        ensures reply { IfOk result (λ r. r ≡ (acted self.old (Stmt.Update name.now key sets.now)).reply) }
+        ensures reply { IfOk result (λ r.
+            r ≡ (acted self.old (Stmt.Update name.now key sets.now)).reply) }
         ensures left { OnOk result (self.new ≡ left self.old (Stmt.Update name.now key sets.now)) }
         ensures err { OnErr result (self.new ≡ self.old) }
     {
@@ -359,7 +372,8 @@ impl<St: Store> Tx<St> {
     fn remove(&mut self, relation: u8, name: Name, key: u64) -> Result<Reply, AllocError>
         requires { relation < length self.old.schema }
         ensures reply { IfOk result (λ r. r ≡ (removed self.old relation name key).reply) }
-        ensures left { OnOk result (self.new ≡ with_work self.old (removed self.old relation name key)) }
+        ensures left { OnOk result (self.new ≡ with_work self.old
+            (removed self.old relation name key)) }
         ensures err { OnErr result (self.new ≡ self.old) }
     {
         match self.work.delete(relation, key) {
@@ -390,7 +404,8 @@ impl<St: Store> Tx<St> {
     #[tactic(auto, using(db_store::proofs::OverlayLemmas::length_laid))]
     fn get_own(&self, relation: u8, key: u64) -> Option<Record>
         requires { relation < length self.now.schema }
-        ensures { result ≡ record_with key (finite.get (relation_at (laid self.now.head self.now.overlays) relation) key) }
+        ensures { result ≡ record_with key (finite.get
+            (relation_at (laid self.now.head self.now.overlays) relation) key) }
     {
         find_record(&self.work, relation, key)
     }
@@ -423,7 +438,8 @@ impl<St: Store> Tx<St> {
     // The record with a key in a version that is named.
     fn get_named(&self, relation: u8, key: u64, version: &VersionName) -> Reply
         requires { relation < length self.now.schema }
-        ensures { result ≡ (get_from (over_table self.now.head) (tx_in self.now) relation key (source_in self.now version.now)).reply }
+        ensures { result ≡ (looked_up self.now relation key
+            (source_in self.now version.now)).reply }
     {
         if self.is_current(version) {
             let row = self.get_own(relation, key);
@@ -438,7 +454,8 @@ impl<St: Store> Tx<St> {
     // The record with a key, in a version where one is named.
     fn get_at(&self, relation: u8, key: u64, at: &Option<VersionName>) -> Reply
         requires { relation < length self.now.schema }
-        ensures { result ≡ (get_from (over_table self.now.head) (tx_in self.now) relation key (source_at (over_table self.now.head) (source_in self.now) at.now)).reply }
+        ensures { result ≡ (looked_up self.now relation key
+            (source_at (over_table self.now.head) (source_in self.now) at.now)).reply }
     {
         match at {
             None => {

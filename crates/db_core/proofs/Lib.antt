@@ -5,6 +5,7 @@ pub mod Until
 pub mod Older
 pub mod Boards
 pub mod Low
+pub mod Grants
 pub mod Seating
 pub mod Answering
 pub mod Others

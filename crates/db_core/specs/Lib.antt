@@ -6,4 +6,5 @@ pub mod Kept
 pub mod Sits
 pub mod Answered
 pub mod Desk
+pub mod Sessions
 pub mod Local

@@ -1,18 +1,18 @@
 //! The board: a dataset, and the lines that were run on it.
-ghost use Rattle.std.specs.Prelude.{◌≡◌, [], None, false, Bool, IfOk, IfErr, OnOk, OnErr};
+ghost use Rattle.std.specs.Prelude.{◌≡◌, [], None, false, IfOk, IfErr, OnOk, OnErr};
 ghost use Rattle.db_store.specs.State.{dataset_of};
 ghost use Rattle.stmt_text.specs.declared.stmt.Stmt.{Stmt};
 ghost use Rattle.db_outside.specs.Count.{counted};
 ghost use Rattle.reply_text.specs.Reply.{NamesItsRows};
 ghost use Rattle.db_core.specs.Order.{said_of};
 ghost use Rattle.db_core.specs.Kept.{Stands, world_of, new_kept};
-ghost use Rattle.db_core.specs.Answered.{IsAnswered, entry_of, ended_by};
-ghost use Rattle.store_tx.specs.Stored.{Stores};
-ghost use Rattle.db_core.specs.Sits.{Sits, heard, unheard};
+ghost use Rattle.db_core.specs.Answered.{IsAnswered, Ran, Ended};
+ghost use Rattle.db_core.specs.Sits.{heard, unheard};
+ghost use Rattle.db_core.specs.Sessions.{SitsOn};
 
 use crate::desk::Desk;
-use crate::local::why_bad;
 use crate::session::{Grant, Session, answer, ask, close, finish};
+use crate::local::why_bad;
 use db_store::Store;
 use db_value::{LineText, Name, Refusal, Reply, Schema, Step, VersionName};
 use entry_codec::Log;
@@ -128,14 +128,12 @@ impl<St: Store, J: Log<St>> Board<St, J> {
         text: &LineText,
         stmt: &Stmt,
     ) -> Result<Reply, AllocError>
-        requires stands { Stands self.old.kept }
-        requires sits { Sits (world_of self.old.kept) session.old.number session.old.current session.old.skipping session.old.tx }
+        requires sits { SitsOn self.old.kept session.old }
         requires line { said_of text.now false ≡ heard session.old.number stmt.now }
-        ensures answered { IfOk result (λ r. (failed : Bool) × IsAnswered self.old.kept self.new.kept text.now failed r
-            × Stores J.faults J.Keeps J.generation J.moment J.opens_since J.Quiet self.old.kept.now failed (entry_of self.old.kept text.now) self.old.log self.new.log) }
+        ensures answered { IfOk result (Ran J.faults J.Keeps J.generation J.moment J.opens_since
+            J.Quiet self.old self.new text.now) }
         ensures named { IfOk result NamesItsRows }
-        ensures stands { Stands self.new.kept }
-        ensures sits { Sits (world_of self.new.kept) session.new.number session.new.current session.new.skipping session.new.tx }
+        ensures sits { SitsOn self.new.kept session.new }
         ensures number { session.new.number ≡ session.old.number }
         ensures err { OnErr result (self.new ≡ self.old) }
     {
@@ -149,11 +147,8 @@ impl<St: Store, J: Log<St>> Board<St, J> {
             session,
             stmt,
         )?;
-        let Answer {
-            reply,
-            copy,
-            failed,
-        } = answered;
+        let Answer { told, failed } = answered;
+        let (reply, copy) = told.into_both();
         self.steps.push_reserved(Step {
             line,
             failed,
@@ -169,10 +164,10 @@ impl<St: Store, J: Log<St>> Board<St, J> {
         session: &Session<St>,
         text: &LineText,
     ) -> Result<Reply, AllocError>
-        requires stands { Stands self.old.kept }
-        requires sits { Sits (world_of self.old.kept) session.now.number session.now.current session.now.skipping session.now.tx }
+        requires sits { SitsOn self.old.kept session.now }
         requires line { said_of text.now false ≡ unheard session.now.number }
-        ensures answered { IfOk result (λ r. IsAnswered self.old.kept self.new.kept text.now false r) }
+        ensures answered { IfOk result (λ r.
+            IsAnswered self.old.kept self.new.kept text.now false r) }
         ensures named { IfOk result NamesItsRows }
         ensures world { world_of self.new.kept ≡ world_of self.old.kept }
         ensures log { self.new.log ≡ self.old.log }
@@ -191,16 +186,11 @@ impl<St: Store, J: Log<St>> Board<St, J> {
 }
 
 impl<St: Store, J: Log<St>> Board<St, J> {
-    ghost use Rattle.std.specs.Prelude.{◌≢◌, List, is_some, Some, true};
-    ghost use Rattle.lock_table.specs.Rows.{Row, holder};
-    ghost use Rattle.line_needs.specs.Needs.{needs};
-    ghost use Rattle.db_core.specs.Desk.{Agrees, IsLeft, entered, cleared, grant_of, rows_by, IsMoreIf, IsReadyIf, KeepsIf};
+    ghost use Rattle.std.specs.Prelude.{◌≢◌, is_some, true};
+    ghost use Rattle.db_core.specs.Desk.{Agrees, IsLeft, GrantsFor, entered, cleared, grant_of, rows_by, needs_for, holder_for};
     ghost use Rattle.store_tx.specs.Statements.{HasName, entry_over, branch_out, branch_entry};
-    ghost use Rattle.db_core.specs.Sits.{done_in, tx_of};
-    ghost use Rattle.store_tx.specs.Keeps.{AllGranted};
+    ghost use Rattle.db_core.specs.Sits.{tx_of};
     ghost use Rattle.branch_tx.specs.Frame.{step_over};
-    ghost use Rattle.store_tx.specs.Stored.{told_if, stored_if};
-    ghost use Rattle.store_tx.specs.Ends.{grown};
     ghost use Rattle.lock_table.specs.Grants.{without};
 
     /// Moves the desk's lines into the list. Want of memory leaves both as before.
@@ -227,15 +217,14 @@ impl<St: Store, J: Log<St>> Board<St, J> {
     ) -> Result<Reply, AllocError>
         requires agree { Agrees self.old.kept desk.old }
         requires line { said_of text.now false ≡ heard desk.old.session stmt.now }
-        ensures answered { IfOk result (λ r. (failed : Bool) × IsAnswered (entered self.old.kept desk.old) self.new.kept text.now failed r
-            × Stores J.faults J.Keeps J.generation J.moment J.opens_since J.Quiet self.old.kept.now failed
-            (entry_of (entered self.old.kept desk.old) text.now) self.old.log self.new.log) }
+        ensures answered { IfOk result (Ran J.faults J.Keeps J.generation J.moment J.opens_since
+            J.Quiet (record self.old { kept = entered self.old.kept desk.old }) self.new text.now) }
         ensures named { IfOk result NamesItsRows }
         ensures agree { Agrees self.new.kept desk.new }
         ensures waiting { OnOk result (desk.new.waiting ≡ []) }
         ensures session { desk.new.session ≡ desk.old.session }
-        ensures err { OnErr result (IsLeft self.old.kept desk.old self.new.kept desk.new) }
-        ensures untouched { OnErr result (self.new.log ≡ self.old.log) }
+        ensures err { OnErr result (IsLeft self.old.kept desk.old self.new.kept desk.new
+            × (self.new.log ≡ self.old.log)) }
     {
         self.enter(desk)?;
         let reply = self.serve(&mut desk.session, text, stmt)?;
@@ -246,7 +235,8 @@ impl<St: Store, J: Log<St>> Board<St, J> {
     /// Releases the needs of the desk's transaction, which ends without an entry. It takes no memory.
     pub fn end(&mut self, desk: &mut Desk<St>)
         ensures log { self.new.log ≡ self.old.log }
-        ensures board { self.new.kept ≡ record self.old.kept { rows = without desk.old.session self.old.kept.rows } }
+        ensures board { self.new.kept
+            ≡ record self.old.kept { rows = without desk.old.session self.old.kept.rows } }
         ensures desk { desk.new ≡ record desk.old { open_tx = None; skipping = false } }
     {
         self.locks.release(desk.session.number);
@@ -262,18 +252,18 @@ impl<St: Store, J: Log<St>> Board<St, J> {
         of: &VersionName,
     ) -> Result<Reply, AllocError>
         requires { HasName (Stmt.Branch name.now of.now) }
-        ensures answered { IfOk result (λ r. (failed : Bool)
-            × (r ≡ told_if failed (branch_out (dataset_of self.old.kept.now) name.now of.now).reply)
-            × (self.new.kept ≡ ended_by failed self.old.kept desk.old.session (branch_entry (branch_out (dataset_of self.old.kept.now) name.now of.now).tx.made))
-            × Stores J.faults J.Keeps J.generation J.moment J.opens_since J.Quiet self.old.kept.now failed
-            (branch_entry (branch_out (dataset_of self.old.kept.now) name.now of.now).tx.made) self.old.log self.new.log) }
+        ensures answered { IfOk result (Ended J.faults J.Keeps J.generation J.moment J.opens_since
+            J.Quiet self.old self.new desk.old.session
+            (branch_entry (branch_out (dataset_of self.old.kept.now) name.now of.now).tx.made)
+            (branch_out (dataset_of self.old.kept.now) name.now of.now).reply) }
         ensures desk { desk.new ≡ desk.old }
         ensures err { OnErr result (self.new ≡ self.old) }
     {
         let plan = branch_of(&self.store, name, of);
         let answer = carry_out(self.alloc, &mut self.store, &mut self.log, plan)?;
         self.locks.release(desk.session.number);
-        Ok(answer.reply)
+        let (reply, _) = answer.told.into_both();
+        Ok(reply)
     }
 
     /// Ends the desk's open transaction with its entry, if it has one, and tells the version that this
@@ -282,12 +272,13 @@ impl<St: Store, J: Log<St>> Board<St, J> {
     pub fn commit(&mut self, desk: &mut Desk<St>) -> Result<Reply, AllocError>
         requires agree { Agrees self.old.kept desk.old }
         requires open { is_some desk.old.open_tx ≡ true }
-        ensures answered { IfOk result (λ r. (failed : Bool)
-            × (r ≡ told_if failed (step_over (dataset_of self.old.kept.now) desk.old.current (tx_of desk.old.open_tx) Stmt.Commit).reply)
-            × (self.new.kept ≡ ended_by failed self.old.kept desk.old.session (entry_over (dataset_of self.old.kept.now) desk.old.current Stmt.Commit (tx_of desk.old.open_tx)))
-            × Stores J.faults J.Keeps J.generation J.moment J.opens_since J.Quiet self.old.kept.now failed
-            (entry_over (dataset_of self.old.kept.now) desk.old.current Stmt.Commit (tx_of desk.old.open_tx)) self.old.log self.new.log) }
-        ensures desk { OnOk result (desk.new ≡ record desk.old { open_tx = None; skipping = false }) }
+        ensures answered { IfOk result (Ended J.faults J.Keeps J.generation J.moment J.opens_since
+            J.Quiet self.old self.new desk.old.session (entry_over (dataset_of self.old.kept.now)
+            desk.old.current Stmt.Commit (tx_of desk.old.open_tx))
+            (step_over (dataset_of self.old.kept.now) desk.old.current (tx_of desk.old.open_tx)
+            Stmt.Commit).reply) }
+        ensures desk { OnOk result (desk.new
+            ≡ record desk.old { open_tx = None; skipping = false }) }
         ensures err { OnErr result (self.new ≡ self.old) }
         ensures kept { OnErr result (desk.new ≡ desk.old) }
     {
@@ -306,7 +297,8 @@ impl<St: Store, J: Log<St>> Board<St, J> {
                 )?;
                 self.locks.release(number);
                 close(&mut desk.session, false);
-                Ok(answer.reply)
+                let (reply, _) = answer.told.into_both();
+                Ok(reply)
             }
         }
     }
@@ -316,16 +308,19 @@ impl<St: Store, J: Log<St>> Board<St, J> {
     /// desk stays. Want of memory leaves the board as before, and the desk in agreement with it.
     pub fn grant(&mut self, desk: &mut Desk<St>, stmt: &Stmt) -> Result<Grant, AllocError>
         requires agree { Agrees self.old.kept desk.old }
-        ensures answer { IfOk result (λ r. r ≡ grant_of (dataset_of self.old.kept.now) (holder desk.old.session (needs (dataset_of self.old.kept.now) desk.old.current (is_some desk.old.open_tx) (done_in desk.old.open_tx) stmt.now) self.old.kept.rows)) }
+        ensures answer { IfOk result (λ r.
+            r ≡ grant_of (dataset_of self.old.kept.now) (holder_for self.old.kept desk.old stmt.now)) }
         ensures log { self.new.log ≡ self.old.log }
-        ensures rows { OnOk result (self.new.kept ≡ record self.old.kept { rows = rows_by (holder desk.old.session (needs (dataset_of self.old.kept.now) desk.old.current (is_some desk.old.open_tx) (done_in desk.old.open_tx) stmt.now) self.old.kept.rows) desk.old.session (needs (dataset_of self.old.kept.now) desk.old.current (is_some desk.old.open_tx) (done_in desk.old.open_tx) stmt.now) self.old.kept.rows }) }
+        ensures rows { OnOk result (self.new.kept ≡ record self.old.kept { rows = rows_by
+            (holder_for self.old.kept desk.old stmt.now) desk.old.session
+            (needs_for self.old.kept desk.old stmt.now) self.old.kept.rows }) }
         ensures desk { desk.new ≡ record desk.old { open_tx = desk.new.open_tx } }
         ensures held { IfOk result (λ r. r ≢ Grant.Granted → desk.new ≡ desk.old) }
-        ensures more { OnOk result (IsMoreIf desk.old.open_tx desk.new.open_tx) }
-        ensures ready { IfOk result (λ r. r ≡ Grant.Granted → IsReadyIf (dataset_of self.old.kept.now) desk.old.current stmt.now desk.new.open_tx) }
-        ensures keeps { OnOk result ((rows : List Row) → KeepsIf (dataset_of self.old.kept.now) rows desk.old.session desk.old.current desk.old.open_tx → AllGranted rows desk.old.session (needs (dataset_of self.old.kept.now) desk.old.current (is_some desk.old.open_tx) (done_in desk.old.open_tx) stmt.now) → KeepsIf (dataset_of self.old.kept.now) rows desk.old.session desk.old.current desk.new.open_tx) }
-        ensures err { OnErr result (self.new.kept ≡ self.old.kept) }
-        ensures kept { OnErr result (Agrees self.new.kept desk.new) }
+        ensures granted { IfOk result (λ r. r ≡ Grant.Granted
+            → GrantsFor self.old.kept.now desk.old.session desk.old.current stmt.now
+            desk.old.open_tx desk.new.open_tx) }
+        ensures err { OnErr result ((self.new.kept ≡ self.old.kept)
+            × Agrees self.new.kept desk.new) }
     {
         let told = ask(
             self.alloc,

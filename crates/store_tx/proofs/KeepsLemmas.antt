@@ -44,7 +44,8 @@ use Rattle.branch_tx.proofs.EarlyLines.{early_why, act_early}
 use Rattle.branch_tx.proofs.SeenLemmas.{scan_left, join_left, minus_left}
 use Rattle.lock_table.proofs.Kept.{has_left, has_right}
 use Rattle.store_tx.specs.Ends.{is_end}
-use Rattle.store_tx.specs.Statements.{IsReady, IsAct, IsWork, lacking_of, act_over, step_in}
+use Rattle.db_store.specs.State.{State, dataset_of}
+use Rattle.store_tx.specs.Statements.{IsReady, IsRefusedFor, IsAct, IsWork, lacking_of, act_over, step_in}
 use Rattle.store_tx.specs.Keeps.{AllGranted, HeldFor, AllLent, HeadsFor, Keeps, IsMore}
 use Rattle.store_tx.proofs.Tagged.{within_granted}
 use Rattle.store_tx.proofs.Lends.{own_source, own_in, lent_is, lent_more, lent_last, lent_front}
@@ -562,6 +563,6 @@ refused_as d b g x y P (Some why) schema e is f h =
     ap (act_over d b (tx_in g)) is ∙ f why (subst (λ (z : Stmt). is_early d.schema true (has_done g) z ≡ false) is (late d g x schema e)) h
 
 -- what was granted suffices, or a version isn't there
-pub ready_of : (d : Dataset) (b : ℕ) (x : Stmt) (g h : Granted) (o : Option Refusal) → IsMore g h → (o ≡ None → covers h x ≡ true) → IfSome o (λ why. act_over d b (tx_in g) x ≡ refused (tx_in g) why) → IsReady d b x h
-ready_of d b x g h None m c l = inl (c refl)
-ready_of d b x g h (Some why) m c l = inr (why, subst (λ (t : Tx (List Overlay)). act_over d b t x ≡ refused t why) (sym (more_tx g h m)) l)
+pub ready_of : (st : State) (b : ℕ) (x : Stmt) (g h : Granted) (o : Option Refusal) → IsMore g h → (o ≡ None → covers h x ≡ true) → IfSome o (IsRefusedFor st b g x) → IsReady st b x h
+ready_of st b x g h None m c l = inl (c refl)
+ready_of st b x g h (Some why) m c l = inr (why, subst (λ (t : Tx (List Overlay)). act_over (dataset_of st) b t x ≡ refused t why) (sym (more_tx g h m)) l)

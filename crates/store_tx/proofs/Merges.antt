@@ -1,6 +1,7 @@
 -- A merge in an open transaction does what it does over the head.
-use Rattle.std.proofs.Common.{◌≡◌, ℕ, Bool, true, false, cond, List, [], Option, Some, None, inl, refl, ap, sym, ◌∙◌, subst}
+use Rattle.std.proofs.Common.{◌≡◌, ℕ, Bool, true, false, cond, List, [], Option, Some, None, inl, inr, ◌∷◌, refl, ap, sym, ◌∙◌, subst}
 use Rattle.std.specs.Prelude.{is_some}
+use Rattle.std.proofs.lemmas.Bool.{false≢true}
 use Rattle.db_value.specs.declared.schema.Relation.{Relation}
 use Rattle.db_value.specs.declared.condition.Prefer.{Prefer}
 use Rattle.db_value.specs.declared.entry.Change.{Change}
@@ -13,6 +14,7 @@ use Rattle.db_store.specs.Dataset.{Dataset, branch_named, head_of, head_place, t
 use Rattle.db_store.specs.Order.{common}
 use Rattle.db_store.specs.Counted.{IsTable}
 use Rattle.lock_table.specs.Rows.{Row}
+use Rattle.lock_table.specs.declared.need.Need.{Need}
 use Rattle.lock_table.specs.Grants.{Has, row}
 use Rattle.stmt_text.specs.declared.stmt.Stmt.TheVariants.{Merge}
 use Rattle.branch_tx.specs.Keeping.{over_table}
@@ -23,7 +25,8 @@ use Rattle.branch_tx.specs.Alone.{ground_of, common_table, merge_named}
 use Rattle.branch_tx.specs.Granted.{Granted, ground_in, tx_in, merged, with_merge}
 use Rattle.line_needs.specs.Early.{first_refusal}
 use Rattle.line_needs.specs.Needs.{lock_of, exclusive, merge_needs, needs}
-use Rattle.store_tx.specs.Keeps.{AllGranted, Keeps, IsMore}
+use Rattle.branch_tx.specs.Covers.{holds_alone}
+use Rattle.store_tx.specs.Keeps.{AllGranted, HeldFor, Keeps, IsMore}
 use Rattle.store_tx.proofs.KeepsLemmas.{head_by, more_tx}
 
 -- the transaction after a merge
@@ -64,9 +67,24 @@ module _ (d : Dataset) (rows : List Row) (s b : ℕ) (old g : Granted) (k : Keep
       over_head from prefer base right
       ∙ (λ i. merge_in (over_table (head_of d b)) (ground_of d b) (tx_in old) (f i) prefer (ancestor i) (head_of d b) (other i))
 
+-- ---- what a merge keeps
+
+held_still : (d : Dataset) (rows : List Row) (s b : ℕ) (g : Granted) (o : Outcome (List Overlay)) (h : Option (Bool × Bool)) → holds_alone h ≡ true → HeldFor d rows s b g h → HeldFor d rows s b (with_merge g o) h
+held_still d rows s b g o None e k = absurd (false≢true e)
+held_still d rows s b g o (Some (false, full)) e k = absurd (false≢true e)
+held_still d rows s b g o (Some (true, full)) e k = (k.0, record { head_is = k.1.head_is; full_is = k.1.full_is; owned = k.1.owned })
+
+pub merged_keeps : (d : Dataset) (rows : List Row) (s b : ℕ) (g : Granted) (o : Outcome (List Overlay)) → holds_alone g.held ≡ true → Keeps d rows s b g → Keeps d rows s b (with_merge g o)
+merged_keeps d rows s b g o e k = record { schema = k.schema; name = k.name; held = held_still d rows s b g o g.held e k.held; lent = k.lent; heads = k.heads }
+
 -- ---- what a merge needs
 
 pub merge_needed : (d : Dataset) (rows : List Row) (s b : ℕ) (changed : Bool) (name : List ℕ) (prefer : Prefer) (c : ℕ) → changed ≡ false → branch_named d name ≡ Some c → AllGranted rows s (needs d b true changed (Merge name prefer)) → Has rows (row s (exclusive (lock_of b)))
 merge_needed d rows s b changed name prefer c e f a = a (exclusive (lock_of b))
     (subst (λ (q : Bool). Has (cond q [] (merge_needs b (branch_named d name))) (exclusive (lock_of b))) (sym (ap (λ (q : Bool). is_some (first_refusal q)) e))
     (subst (λ (o : Option ℕ). Has (merge_needs b o) (exclusive (lock_of b))) (sym f) (inl refl)))
+
+-- one need that is granted
+pub only : (rows : List Row) (s : ℕ) (n : Need) → Has rows (row s n) → AllGranted rows s (n ∷ [])
+only rows s n h m (inl e) = subst (λ (y : Need). Has rows (row s y)) e h
+only rows s n h m (inr a) = absurd a

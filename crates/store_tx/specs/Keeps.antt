@@ -1,15 +1,17 @@
 -- What a transaction keeps of a dataset, and the needs that are granted for it.
-use Rattle.std.specs.Prelude.{ℕ, Bool, List, None, Option, Some, [], false, is_some, length, map, take, true, ◌++◌, ◌∷◌, ◌≡◌}
+use Rattle.std.specs.Prelude.{ℕ, Bool, List, None, Option, Some, [], false, is_some, length, map, take, true, ◌<◌, ◌++◌, ◌∷◌, ◌≡◌}
 use Rattle.branch_tx.specs.Alone.{ground_of}
 use Rattle.branch_tx.specs.Found.{Other, source_of}
 use Rattle.branch_tx.specs.Frame.{Within}
-use Rattle.branch_tx.specs.Granted.{Granted}
+use Rattle.branch_tx.specs.Granted.{Granted, tx_in, has_done}
 use Rattle.db_store.specs.Dataset.{Dataset, branch_at, head_of}
 use Rattle.db_store.specs.Found.{branch_names, found}
 use Rattle.db_store.specs.Overlay.{untouched}
+use Rattle.db_store.specs.State.{State, dataset_of}
+use Rattle.stmt_text.specs.declared.stmt.Stmt.{Stmt}
 use Rattle.db_store.specs.Table.{Table}
 use Rattle.db_value.specs.declared.version.VersionName.{VersionName}
-use Rattle.line_needs.specs.Needs.{catalogue, exclusive, found_needs, lock_of}
+use Rattle.line_needs.specs.Needs.{catalogue, exclusive, found_needs, lock_of, needs}
 use Rattle.lock_table.specs.Grants.{Has, row}
 use Rattle.lock_table.specs.Rows.{Row}
 use Rattle.lock_table.specs.declared.need.Need.{Need}
@@ -59,6 +61,38 @@ pub record Keeps (d : Dataset) (rows : List Row) (s b : ℕ) (g : Granted) : Typ
   pub held : HeldFor d rows s b g g.held
   pub lent : AllLent d rows s b g.lent
   pub heads : HeadsFor d rows s g.heads
+
+-- the branch is there, and for some session the transaction keeps what it was granted
+pub record IsKept (st : State) (b : ℕ) (g : Granted) : Type 0 where
+  pub there : b < length (dataset_of st).branches
+  pub rows : List Row
+  pub session : ℕ
+  pub keeps : Keeps (dataset_of st) rows session b g
+
+-- and that session has these needs
+pub record HasNeeds (st : State) (b : ℕ) (ns : List Need) (g : Granted) : Type 0 where
+  pub kept : IsKept st b g
+  pub granted : AllGranted kept.rows kept.session ns
+
+-- where a session has these needs, the transaction keeps for it what it kept before, and what it was granted since
+abbrev pub KeepsWith : State → ℕ → List Need → Granted → Granted → Type 0
+KeepsWith st b ns g h = (rows : List Row) (s : ℕ) → Keeps (dataset_of st) rows s b g → AllGranted rows s ns → Keeps (dataset_of st) rows s b h
+
+-- the same for one need
+abbrev pub KeepsBy : State → ℕ → Need → Granted → Granted → Type 0
+KeepsBy st b n g h = (rows : List Row) (s : ℕ) → Keeps (dataset_of st) rows s b g → Has rows (row s n) → Keeps (dataset_of st) rows s b h
+
+-- what a transaction needs of its own branch
+abbrev pub head_need : ℕ → Bool → Need
+head_need b alone = record { lock = lock_of b; exclusive = alone }
+
+-- what a statement needs in an open transaction
+abbrev pub needs_in : State → ℕ → Granted → Stmt → List Need
+needs_in st b g x = needs (dataset_of st) b true (has_done g) x
+
+-- A transaction that was taken back: it is what its lines made, and keeps of any dataset whatever it kept.
+abbrev pub IsBack : ℕ → Granted → Granted → Type 0
+IsBack b g h = (tx_in h ≡ tx_in g) × ((d : Dataset) (rows : List Row) (s : ℕ) → Keeps d rows s b g → Keeps d rows s b h)
 
 -- a transaction that was granted more, and changed nothing
 pub record IsMore (g h : Granted) : Type 0 where

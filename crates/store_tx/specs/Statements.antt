@@ -1,21 +1,25 @@
 -- What statements do over the head of a branch.
-use Rattle.std.specs.Prelude.{ℕ, Bool, List, None, Option, Some, length, map, true, ◌≡◌, ◌⊎◌}
+use Rattle.std.specs.Prelude.{ℕ, Bool, List, None, Option, Some, [], false, length, map, true, ◌≡◌, ◌⊎◌}
 use Rattle.branch_tx.specs.Act.{Outcome, Tx, act, refused}
-use Rattle.branch_tx.specs.Alone.{alone, branch_as, branch_of, commit_entry, fresh, ground_of, merge_of, on_of}
+use Rattle.branch_tx.specs.Alone.{branch_as, branch_of, commit_entry, commit_reply, fresh, ground_of, merge_named, merge_of, on_of}
 use Rattle.branch_tx.specs.Covers.{covers}
 use Rattle.branch_tx.specs.Found.{first_lacking, lacking, source_of}
 use Rattle.branch_tx.specs.Frame.{step_over}
-use Rattle.branch_tx.specs.Granted.{Granted, tx_in}
+use Rattle.branch_tx.specs.Granted.{Granted, tx_in, has_done}
 use Rattle.branch_tx.specs.Keeping.{over_table}
 use Rattle.store_tx.specs.Ends.{entry_at}
-use Rattle.store_tx.specs.Keeps.{Keeps}
+use Rattle.store_tx.specs.Keeps.{Keeps, HasNeeds, KeepsWith, needs_in}
 use Rattle.db_store.specs.Dataset.{Dataset, branch_named, head_of}
 use Rattle.db_store.specs.Found.{branch_names, found, plain}
 use Rattle.db_store.specs.Overlay.{Overlay, untouched}
+use Rattle.db_store.specs.State.{State, dataset_of}
+use Rattle.db_value.specs.declared.condition.Prefer.{Prefer}
+use Rattle.lock_table.specs.declared.need.Need.{Need}
 use Rattle.db_value.specs.Text.{is_name}
 use Rattle.db_value.specs.declared.entry.Entry.{Entry}
 use Rattle.db_value.specs.declared.entry.Entry.TheVariants.{Branch as BranchEntry}
 use Rattle.db_value.specs.declared.reply.Refusal.{Refusal}
+use Rattle.db_value.specs.declared.reply.Reply.{Reply}
 use Rattle.db_value.specs.declared.version.VersionName.{VersionName}
 use Rattle.db_value.specs.declared.version.VersionPlace.{VersionPlace}
 use Rattle.lock_table.specs.Rows.{Row}
@@ -61,6 +65,14 @@ step_in d b g x = step_over d b (tx_in g) x
 abbrev pub step_out : Dataset → ℕ → Stmt → Outcome (List Overlay)
 step_out d b x = step_over d b (fresh untouched) x
 
+-- the entry of such a transaction
+abbrev pub entry_out : Dataset → ℕ → Stmt → Option Entry
+entry_out d b x = entry_over d b x (step_out d b x).tx
+
+-- what is told to a commit of changes over the head
+abbrev pub told_over : Dataset → ℕ → Tx (List Overlay) → Reply
+told_over d b tx = commit_reply (over_table (head_of d b)) d b tx
+
 -- a transaction that was begun and has done nothing
 abbrev pub begun_tx : ℕ → Tx (List Overlay)
 begun_tx room = record { begun = true; room = room; work = untouched; second = None; made = None; moved = None }
@@ -89,9 +101,31 @@ lacking_over d b Current = None
 lacking_over d b (Named names) = lacking_of d b names
 lacking_over d b Heads = lacking_of d b (map plain (branch_names d))
 
+-- what a statement that reads or changes records, or merges, does in a transaction on a state
+abbrev pub acted_over : State → ℕ → Granted → Stmt → Outcome (List Overlay)
+acted_over st b g x = act_over (dataset_of st) b (tx_in g) x
+
+-- and what the merge of another branch does
+abbrev pub merged_over : State → ℕ → Granted → Prefer → ℕ → Outcome (List Overlay)
+merged_over st b g prefer other = merge_named (over_table (head_of (dataset_of st) b)) (dataset_of st) b (tx_in g) [] prefer (Some other)
+
+-- a statement that changes nothing is refused for this
+abbrev pub IsRefusedFor : State → ℕ → Granted → Stmt → Refusal → Type 0
+IsRefusedFor st b g x why = acted_over st b g x ≡ refused (tx_in g) why
+
+-- the transaction is what the outcome makes of it, and keeps what it was granted for whoever has these needs
+pub record GoesOn (st : State) (b : ℕ) (ns : List Need) (o : Outcome (List Overlay)) (g h : Granted) : Type 0 where
+  pub tx : tx_in h ≡ o.tx
+  pub keeps : KeepsWith st b ns g h
+
+-- a transaction in which this statement can be done: some session has its needs, and if nothing was done, nothing is touched
+pub record MayWork (st : State) (b : ℕ) (x : Stmt) (g : Granted) : Type 0 where
+  pub needs : HasNeeds st b (needs_in st b g x) g
+  pub clean : has_done g ≡ false → g.overlays ≡ untouched
+
 -- a transaction answers a statement by itself, or the statement names a version that isn't there
-abbrev pub IsReady : Dataset → ℕ → Stmt → Granted → Type 0
-IsReady d b x g = (covers g x ≡ true) ⊎ ((why : Refusal) × (act_over d b (tx_in g) x ≡ refused (tx_in g) why))
+abbrev pub IsReady : State → ℕ → Stmt → Granted → Type 0
+IsReady st b x g = (covers g x ≡ true) ⊎ ((why : Refusal) × IsRefusedFor st b g x why)
 
 -- a new branch that a statement makes has a name
 abbrev pub HasName : Stmt → Type 0

@@ -1,21 +1,19 @@
 //! What an open transaction is granted from the store: its branch, and versions that are named.
 ghost use Rattle.std.specs.Prelude.{◌≡◌, ◌<◌, ℕ, List, [], ◌∷◌, Some, None, true, false, length, is_some, IfOk, IfSome, OnOk, OnErr};
 ghost use Rattle.std.specs.List.{list_all};
-ghost use Rattle.db_store.specs.Dataset.{Dataset, head_of, head_place, IsMade};
+ghost use Rattle.db_store.specs.Dataset.{head_of, head_place, IsMade};
 ghost use Rattle.db_store.specs.Parts.{IsViewable};
 ghost use Rattle.db_store.specs.State.{dataset_of};
 ghost use Rattle.lock_table.specs.Rows.{Row};
-ghost use Rattle.lock_table.specs.Grants.{Has, row};
 ghost use Rattle.db_store.specs.Overlay.{untouched};
-ghost use Rattle.store_tx.specs.Statements.{IsReady, IsAct, begun_tx, held_by, lacking_at, lacking_of, lacking_over, act_over};
+ghost use Rattle.store_tx.specs.Statements.{IsReady, IsAct, IsRefusedFor, begun_tx, held_by, lacking_at, lacking_of, lacking_over};
 ghost use Rattle.db_store.specs.Found.{found, branch_names};
 ghost use Rattle.branch_tx.specs.Found.{Lacking, source_of};
 ghost use Rattle.branch_tx.specs.Alone.{ground_of};
-ghost use Rattle.branch_tx.specs.Granted.{tx_in, has_done, is_current};
-ghost use Rattle.branch_tx.specs.Act.{refused};
+ghost use Rattle.branch_tx.specs.Granted.{tx_in, is_current};
 ghost use Rattle.branch_tx.specs.Covers.{covers, holds_alone, has_version, has_at, has_heads, has_over};
-ghost use Rattle.line_needs.specs.Needs.{lock_of, exclusive, found_needs, source_needs, names_needs, scan_needs, needs};
-ghost use Rattle.store_tx.specs.Keeps.{AllGranted, Keeps, IsMore};
+ghost use Rattle.line_needs.specs.Needs.{found_needs, source_needs, names_needs, scan_needs, needs};
+ghost use Rattle.store_tx.specs.Keeps.{Keeps, IsKept, HasNeeds, KeepsWith, KeepsBy, IsBack, IsMore, head_need, needs_in};
 
 use branch_tx::{Tx, plain_names};
 use db_store::{Store, Work};
@@ -42,8 +40,10 @@ pub fn head_place<St: Store>(store: &St, branch: u32) -> VersionPlace
 // The table of the head of a branch.
 fn head_view<St: Store>(store: &St, branch: u32) -> Result<St::View, AllocError>
     requires { branch < length (dataset_of (St.state store.now)).branches }
-    ensures table { IfOk result (λ v. St.View.table v ≡ head_of (dataset_of (St.state store.now)) branch) }
-    ensures wide { IfOk result (λ v. length (St.View.table v) ≡ length (dataset_of (St.state store.now)).schema) }
+    ensures table { IfOk result (λ v.
+        St.View.table v ≡ head_of (dataset_of (St.state store.now)) branch) }
+    ensures wide { IfOk result (λ v.
+        length (St.View.table v) ≡ length (dataset_of (St.state store.now)).schema) }
     ensures viewable { IfOk result (λ v. IsViewable (St.View.table v) (St.View.parts_of v)) }
 {
     store.view(head_place(store, branch))
@@ -65,7 +65,8 @@ pub fn open_tx<St: Store>(
     room: u32,
 ) -> Result<Tx<St>, AllocError>
     requires { branch < length (dataset_of (St.state store.now)).branches }
-    ensures keeps { IfOk result (λ t. (rows : List Row) (s : ℕ) → Keeps (dataset_of (St.state store.now)) rows s branch t) }
+    ensures keeps { IfOk result (λ t. (rows : List Row) (s : ℕ)
+        → Keeps (dataset_of (St.state store.now)) rows s branch t) }
     ensures tx { IfOk result (λ t. tx_in t ≡ begun_tx room) }
 {
     let below = head_view(store, branch)?;
@@ -79,7 +80,8 @@ fn hold<St: Store>(store: &St, tx: &mut Tx<St>, branch: u32, alone: bool) -> Res
     requires branch { branch < length (dataset_of (St.state store.now)).branches }
     requires schema { tx.old.schema ≡ (dataset_of (St.state store.now)).schema }
     requires untouched { tx.old.overlays ≡ untouched }
-    ensures ok { OnOk result (tx.new ≡ held_by (dataset_of (St.state store.now)) branch alone tx.old) }
+    ensures ok { OnOk result (tx.new
+        ≡ held_by (dataset_of (St.state store.now)) branch alone tx.old) }
     ensures err { OnErr result (tx.new ≡ tx.old) }
 {
     let view = head_view(store, branch)?;
@@ -94,9 +96,9 @@ pub fn grant_head<St: Store>(
     branch: u32,
     alone: bool,
 ) -> Result<(), AllocError>
-    requires branch { branch < length (dataset_of (St.state store.now)).branches }
-    requires keeps { (rows : List Row) × (s : ℕ) × Keeps (dataset_of (St.state store.now)) rows s branch tx.old }
-    ensures keeps { OnOk result ((rows : List Row) (s : ℕ) → Keeps (dataset_of (St.state store.now)) rows s branch tx.old → Has rows (row s (record { lock = lock_of branch; exclusive = alone })) → Keeps (dataset_of (St.state store.now)) rows s branch tx.new) }
+    requires kept { IsKept (St.state store.now) branch tx.old }
+    ensures keeps { OnOk result (KeepsBy (St.state store.now) branch (head_need branch alone)
+        tx.old tx.new) }
     ensures held { OnOk result (is_some tx.new.held ≡ true) }
     ensures alone { OnOk result (alone ≡ true → holds_alone tx.new.held ≡ true) }
     ensures more { IsMore tx.old tx.new }
@@ -117,12 +119,13 @@ fn lend<St: Store>(
     branch: u32,
     version: &VersionName,
 ) -> Result<Option<Refusal>, AllocError>
-    requires branch { branch < length (dataset_of (St.state store.now)).branches }
-    requires keeps { (rows : List Row) × (s : ℕ) × Keeps (dataset_of (St.state store.now)) rows s branch tx.old }
+    requires kept { IsKept (St.state store.now) branch tx.old }
     requires other { is_current tx.old version.now ≡ false }
-    ensures keeps { OnOk result ((rows : List Row) (s : ℕ) → Keeps (dataset_of (St.state store.now)) rows s branch tx.old → AllGranted rows s (found_needs (found (dataset_of (St.state store.now)) version.now)) → Keeps (dataset_of (St.state store.now)) rows s branch tx.new) }
+    ensures keeps { OnOk result (KeepsWith (St.state store.now) branch
+        (found_needs (found (dataset_of (St.state store.now)) version.now)) tx.old tx.new) }
     ensures granted { IfOk result (λ o. o ≡ None → has_version tx.new version.now ≡ true) }
-    ensures lacks { IfOk result (λ o. IfSome o (λ why. source_of branch (found (dataset_of (St.state store.now)) version.now) ≡ Lacking why)) }
+    ensures lacks { IfOk result (λ o. IfSome o (λ why.
+        source_of branch (found (dataset_of (St.state store.now)) version.now) ≡ Lacking why)) }
     ensures more { IsMore tx.old tx.new }
 {
     if tx.has_lent(version) {
@@ -145,11 +148,12 @@ fn grant_version<St: Store>(
     branch: u32,
     version: &VersionName,
 ) -> Result<Option<Refusal>, AllocError>
-    requires branch { branch < length (dataset_of (St.state store.now)).branches }
-    requires keeps { (rows : List Row) × (s : ℕ) × Keeps (dataset_of (St.state store.now)) rows s branch tx.old }
-    ensures keeps { OnOk result ((rows : List Row) (s : ℕ) → Keeps (dataset_of (St.state store.now)) rows s branch tx.old → AllGranted rows s (found_needs (found (dataset_of (St.state store.now)) version.now)) → Keeps (dataset_of (St.state store.now)) rows s branch tx.new) }
+    requires kept { IsKept (St.state store.now) branch tx.old }
+    ensures keeps { OnOk result (KeepsWith (St.state store.now) branch
+        (found_needs (found (dataset_of (St.state store.now)) version.now)) tx.old tx.new) }
     ensures granted { IfOk result (λ o. o ≡ None → has_version tx.new version.now ≡ true) }
-    ensures lacks { IfOk result (λ o. IfSome o (λ why. source_of branch (found (dataset_of (St.state store.now)) version.now) ≡ Lacking why)) }
+    ensures lacks { IfOk result (λ o. IfSome o (λ why.
+        source_of branch (found (dataset_of (St.state store.now)) version.now) ≡ Lacking why)) }
     ensures more { IsMore tx.old tx.new }
 {
     if tx.is_current(version) {
@@ -167,11 +171,12 @@ fn grant_at<St: Store>(
     branch: u32,
     at: &Option<VersionName>,
 ) -> Result<Option<Refusal>, AllocError>
-    requires branch { branch < length (dataset_of (St.state store.now)).branches }
-    requires keeps { (rows : List Row) × (s : ℕ) × Keeps (dataset_of (St.state store.now)) rows s branch tx.old }
-    ensures keeps { OnOk result ((rows : List Row) (s : ℕ) → Keeps (dataset_of (St.state store.now)) rows s branch tx.old → AllGranted rows s (source_needs (dataset_of (St.state store.now)) branch at.now) → Keeps (dataset_of (St.state store.now)) rows s branch tx.new) }
+    requires kept { IsKept (St.state store.now) branch tx.old }
+    ensures keeps { OnOk result (KeepsWith (St.state store.now) branch
+        (source_needs (dataset_of (St.state store.now)) branch at.now) tx.old tx.new) }
     ensures granted { IfOk result (λ o. o ≡ None → has_at tx.new at.now ≡ true) }
-    ensures lacks { IfOk result (λ o. IfSome o (λ why. lacking_at (dataset_of (St.state store.now)) branch at.now ≡ Some why)) }
+    ensures lacks { IfOk result (λ o. IfSome o (λ why.
+        lacking_at (dataset_of (St.state store.now)) branch at.now ≡ Some why)) }
     ensures more { IsMore tx.old tx.new }
 {
     match at {
@@ -193,11 +198,13 @@ fn grant_names<St: Store>(
     branch: u32,
     names: &[VersionName],
 ) -> Result<Option<Refusal>, AllocError>
-    requires branch { branch < length (dataset_of (St.state store.now)).branches }
-    requires keeps { (rows : List Row) × (s : ℕ) × Keeps (dataset_of (St.state store.now)) rows s branch tx.old × AllGranted rows s (names_needs (dataset_of (St.state store.now)) names.now) }
-    ensures keeps { OnOk result ((rows : List Row) (s : ℕ) → Keeps (dataset_of (St.state store.now)) rows s branch tx.old → AllGranted rows s (names_needs (dataset_of (St.state store.now)) names.now) → Keeps (dataset_of (St.state store.now)) rows s branch tx.new) }
+    requires needs { HasNeeds (St.state store.now) branch
+        (names_needs (dataset_of (St.state store.now)) names.now) tx.old }
+    ensures keeps { OnOk result (KeepsWith (St.state store.now) branch
+        (names_needs (dataset_of (St.state store.now)) names.now) tx.old tx.new) }
     ensures granted { IfOk result (λ o. o ≡ None → list_all (has_version tx.new) names.now ≡ true) }
-    ensures lacks { IfOk result (λ o. IfSome o (λ why. lacking_of (dataset_of (St.state store.now)) branch names.now ≡ Some why)) }
+    ensures lacks { IfOk result (λ o. IfSome o (λ why.
+        lacking_of (dataset_of (St.state store.now)) branch names.now ≡ Some why)) }
     ensures more { IsMore tx.old tx.new }
 {
     for name in names {
@@ -217,11 +224,13 @@ fn grant_two<St: Store>(
     first: &VersionName,
     second: &VersionName,
 ) -> Result<Option<Refusal>, AllocError>
-    requires branch { branch < length (dataset_of (St.state store.now)).branches }
-    requires keeps { (rows : List Row) × (s : ℕ) × Keeps (dataset_of (St.state store.now)) rows s branch tx.old × AllGranted rows s (names_needs (dataset_of (St.state store.now)) (first.now ∷ second.now ∷ [])) }
-    ensures keeps { OnOk result ((rows : List Row) (s : ℕ) → Keeps (dataset_of (St.state store.now)) rows s branch tx.old → AllGranted rows s (names_needs (dataset_of (St.state store.now)) (first.now ∷ second.now ∷ [])) → Keeps (dataset_of (St.state store.now)) rows s branch tx.new) }
+    requires needs { HasNeeds (St.state store.now) branch
+        (names_needs (dataset_of (St.state store.now)) (first.now ∷ second.now ∷ [])) tx.old }
+    ensures keeps { OnOk result (KeepsWith (St.state store.now) branch
+        (names_needs (dataset_of (St.state store.now)) (first.now ∷ second.now ∷ [])) tx.old tx.new) }
     ensures granted { IfOk result (λ o. o ≡ None → list_all (has_version tx.new) (first.now ∷ second.now ∷ []) ≡ true) }
-    ensures lacks { IfOk result (λ o. IfSome o (λ why. lacking_of (dataset_of (St.state store.now)) branch (first.now ∷ second.now ∷ []) ≡ Some why)) }
+    ensures lacks { IfOk result (λ o. IfSome o (λ why.
+        lacking_of (dataset_of (St.state store.now)) branch (first.now ∷ second.now ∷ []) ≡ Some why)) }
     ensures more { IsMore tx.old tx.new }
 {
     let names = [*first, *second];
@@ -246,11 +255,13 @@ fn grant_heads<St: Store>(
     tx: &mut Tx<St>,
     branch: u32,
 ) -> Result<Option<Refusal>, AllocError>
-    requires branch { branch < length (dataset_of (St.state store.now)).branches }
-    requires keeps { (rows : List Row) × (s : ℕ) × Keeps (dataset_of (St.state store.now)) rows s branch tx.old × AllGranted rows s (scan_needs (dataset_of (St.state store.now)) branch ScanOver.Heads) }
-    ensures keeps { OnOk result ((rows : List Row) (s : ℕ) → Keeps (dataset_of (St.state store.now)) rows s branch tx.old → AllGranted rows s (scan_needs (dataset_of (St.state store.now)) branch ScanOver.Heads) → Keeps (dataset_of (St.state store.now)) rows s branch tx.new) }
+    requires needs { HasNeeds (St.state store.now) branch
+        (scan_needs (dataset_of (St.state store.now)) branch ScanOver.Heads) tx.old }
+    ensures keeps { OnOk result (KeepsWith (St.state store.now) branch
+        (scan_needs (dataset_of (St.state store.now)) branch ScanOver.Heads) tx.old tx.new) }
     ensures granted { IfOk result (λ o. o ≡ None → has_heads tx.new tx.new.heads ≡ true) }
-    ensures lacks { IfOk result (λ o. IfSome o (λ why. lacking_over (dataset_of (St.state store.now)) branch ScanOver.Heads ≡ Some why)) }
+    ensures lacks { IfOk result (λ o. IfSome o (λ why.
+        lacking_over (dataset_of (St.state store.now)) branch ScanOver.Heads ≡ Some why)) }
     ensures more { IsMore tx.old tx.new }
 {
     let heads = branch_names(tx.allocator(), store)?;
@@ -272,11 +283,13 @@ fn grant_over<St: Store>(
     branch: u32,
     over: &ScanOver,
 ) -> Result<Option<Refusal>, AllocError>
-    requires branch { branch < length (dataset_of (St.state store.now)).branches }
-    requires keeps { (rows : List Row) × (s : ℕ) × Keeps (dataset_of (St.state store.now)) rows s branch tx.old × AllGranted rows s (scan_needs (dataset_of (St.state store.now)) branch over.now) }
-    ensures keeps { OnOk result ((rows : List Row) (s : ℕ) → Keeps (dataset_of (St.state store.now)) rows s branch tx.old → AllGranted rows s (scan_needs (dataset_of (St.state store.now)) branch over.now) → Keeps (dataset_of (St.state store.now)) rows s branch tx.new) }
+    requires needs { HasNeeds (St.state store.now) branch
+        (scan_needs (dataset_of (St.state store.now)) branch over.now) tx.old }
+    ensures keeps { OnOk result (KeepsWith (St.state store.now) branch
+        (scan_needs (dataset_of (St.state store.now)) branch over.now) tx.old tx.new) }
     ensures granted { IfOk result (λ o. o ≡ None → has_over tx.new over.now ≡ true) }
-    ensures lacks { IfOk result (λ o. IfSome o (λ why. lacking_over (dataset_of (St.state store.now)) branch over.now ≡ Some why)) }
+    ensures lacks { IfOk result (λ o. IfSome o (λ why.
+        lacking_over (dataset_of (St.state store.now)) branch over.now ≡ Some why)) }
     ensures more { IsMore tx.old tx.new }
 {
     match over {
@@ -303,13 +316,14 @@ pub fn grant<St: Store>(
     branch: u32,
     stmt: &Stmt,
 ) -> Result<Option<Refusal>, AllocError>
-    requires branch { branch < length (dataset_of (St.state store.now)).branches }
     requires acts { IsAct stmt.now }
-    requires keeps { (rows : List Row) × (s : ℕ) × Keeps (dataset_of (St.state store.now)) rows s branch tx.old × AllGranted rows s (needs (dataset_of (St.state store.now)) branch true (has_done tx.old) stmt.now) }
+    requires needs { HasNeeds (St.state store.now) branch
+        (needs_in (St.state store.now) branch tx.old stmt.now) tx.old }
     requires uncovered { covers tx.old stmt.now ≡ false }
-    ensures keeps { OnOk result ((rows : List Row) (s : ℕ) → Keeps (dataset_of (St.state store.now)) rows s branch tx.old → AllGranted rows s (needs (dataset_of (St.state store.now)) branch true (has_done tx.old) stmt.now) → Keeps (dataset_of (St.state store.now)) rows s branch tx.new) }
+    ensures keeps { OnOk result (KeepsWith (St.state store.now) branch
+        (needs_in (St.state store.now) branch tx.old stmt.now) tx.old tx.new) }
     ensures covered { IfOk result (λ o. o ≡ None → covers tx.new stmt.now ≡ true) }
-    ensures lacks { IfOk result (λ o. IfSome o (λ why. act_over (dataset_of (St.state store.now)) branch (tx_in tx.old) stmt.now ≡ refused (tx_in tx.old) why)) }
+    ensures lacks { IfOk result (λ o. IfSome o (IsRefusedFor (St.state store.now) branch tx.old stmt.now)) }
     ensures more { IsMore tx.old tx.new }
 {
     match stmt {
@@ -353,14 +367,14 @@ pub fn grant_or_back<St: Store>(
     branch: u32,
     stmt: &Stmt,
 ) -> Result<(), AllocError>
-    requires branch { branch < length (dataset_of (St.state store.now)).branches }
     requires acts { IsAct stmt.now }
-    requires keeps { (rows : List Row) × (s : ℕ) × Keeps (dataset_of (St.state store.now)) rows s branch tx.old × AllGranted rows s (needs (dataset_of (St.state store.now)) branch true (has_done tx.old) stmt.now) }
-    ensures ready { OnOk result (IsReady (dataset_of (St.state store.now)) branch stmt.now tx.new) }
-    ensures keeps { OnOk result ((rows : List Row) (s : ℕ) → Keeps (dataset_of (St.state store.now)) rows s branch tx.old → AllGranted rows s (needs (dataset_of (St.state store.now)) branch true (has_done tx.old) stmt.now) → Keeps (dataset_of (St.state store.now)) rows s branch tx.new) }
+    requires needs { HasNeeds (St.state store.now) branch
+        (needs_in (St.state store.now) branch tx.old stmt.now) tx.old }
+    ensures ready { OnOk result (IsReady (St.state store.now) branch stmt.now tx.new) }
+    ensures keeps { OnOk result (KeepsWith (St.state store.now) branch
+        (needs_in (St.state store.now) branch tx.old stmt.now) tx.old tx.new) }
     ensures more { OnOk result (IsMore tx.old tx.new) }
-    ensures kept { OnErr result ((d : Dataset) (rows : List Row) (s : ℕ) → Keeps d rows s branch tx.old → Keeps d rows s branch tx.new) }
-    ensures same { OnErr result (tx_in tx.new ≡ tx_in tx.old) }
+    ensures err { OnErr result (IsBack branch tx.old tx.new) }
 {
     if tx.covers(stmt) {
         return Ok(());

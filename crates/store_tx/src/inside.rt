@@ -1,23 +1,16 @@
 //! Statements that are answered in an open transaction.
-ghost use Rattle.std.specs.Prelude.{◌≡◌, ◌<◌, ℕ, List, [], Some, None, true, false, length, IfOk, OnOk, OnErr};
+ghost use Rattle.std.specs.Prelude.{◌≡◌, ◌<◌, ◌∷◌, [], false, length, IfOk, OnOk, OnErr};
 ghost use Rattle.db_value.specs.Long.{IsLong};
-ghost use Rattle.db_store.specs.Dataset.{head_of, head_place};
 ghost use Rattle.db_store.specs.State.{dataset_of};
-ghost use Rattle.lock_table.specs.Rows.{Row};
-ghost use Rattle.lock_table.specs.Grants.{Has, row};
 ghost use Rattle.db_store.specs.Overlay.{untouched};
 ghost use Rattle.store_tx.specs.Ends.{is_end};
-ghost use Rattle.store_tx.specs.Statements.{IsAct, IsWork, act_over, step_in};
-ghost use Rattle.branch_tx.specs.Keeping.{over_table};
-ghost use Rattle.branch_tx.specs.Alone.{merge_named};
-ghost use Rattle.branch_tx.specs.Granted.{tx_in, has_done};
-ghost use Rattle.branch_tx.specs.Act.{refused};
-ghost use Rattle.branch_tx.specs.Covers.{covers};
+ghost use Rattle.store_tx.specs.Statements.{IsAct, IsWork, MayWork, GoesOn, acted_over, merged_over, step_in};
+ghost use Rattle.branch_tx.specs.Granted.{has_done};
 ghost use Rattle.line_needs.specs.Needs.{lock_of, exclusive, needs};
-ghost use Rattle.store_tx.specs.Keeps.{AllGranted, Keeps, IsMore};
+ghost use Rattle.store_tx.specs.Keeps.{HasNeeds, IsBack, IsMore, needs_in};
 
-use crate::granting::{grant, grant_head, head_place};
 use crate::twice::{Twice, copied, refusal, refused};
+use crate::granting::{grant, grant_head, head_place};
 use branch_tx::Tx;
 use db_store::Store;
 use db_value::{Name, Prefer, Refusal, Reply};
@@ -33,14 +26,14 @@ fn merge_head<St: Store>(
     other: u32,
     prefer: Prefer,
 ) -> Result<Reply, AllocError>
-    requires branch { branch < length (dataset_of (St.state store.now)).branches }
-    requires clean { has_done tx.old ≡ false → tx.old.overlays ≡ untouched }
     requires other { other < length (dataset_of (St.state store.now)).branches }
-    requires keeps { (rows : List Row) × (s : ℕ) × Keeps (dataset_of (St.state store.now)) rows s branch tx.old × Has rows (row s (exclusive (lock_of branch))) }
-    requires first { has_done tx.old ≡ false }
-    ensures reply { IfOk result (λ r. r ≡ (merge_named (over_table (head_of (dataset_of (St.state store.now)) branch)) (dataset_of (St.state store.now)) branch (tx_in tx.old) [] prefer (Some other)).reply) }
-    ensures tx { OnOk result (tx_in tx.new ≡ (merge_named (over_table (head_of (dataset_of (St.state store.now)) branch)) (dataset_of (St.state store.now)) branch (tx_in tx.old) [] prefer (Some other)).tx) }
-    ensures keeps { OnOk result ((rows : List Row) (s : ℕ) → Keeps (dataset_of (St.state store.now)) rows s branch tx.old → Has rows (row s (exclusive (lock_of branch))) → Keeps (dataset_of (St.state store.now)) rows s branch tx.new) }
+    requires needs { HasNeeds (St.state store.now) branch (exclusive (lock_of branch) ∷ []) tx.old }
+    requires first { (has_done tx.old ≡ false) × (tx.old.overlays ≡ untouched) }
+    ensures reply { IfOk result (λ r.
+        r ≡ (merged_over (St.state store.now) branch tx.old prefer other).reply) }
+    ensures tx { OnOk result (GoesOn (St.state store.now) branch
+        (exclusive (lock_of branch) ∷ [])
+        (merged_over (St.state store.now) branch tx.old prefer other) tx.old tx.new) }
     ensures short { IfOk result (λ r. IsLong r → ⊥) }
     ensures err { OnErr result (IsMore tx.old tx.new) }
 {
@@ -62,12 +55,12 @@ fn merge<St: Store>(
     name: &Name,
     prefer: Prefer,
 ) -> Result<Reply, AllocError>
-    requires branch { branch < length (dataset_of (St.state store.now)).branches }
-    requires clean { has_done tx.old ≡ false → tx.old.overlays ≡ untouched }
-    requires keeps { (rows : List Row) × (s : ℕ) × Keeps (dataset_of (St.state store.now)) rows s branch tx.old × AllGranted rows s (needs (dataset_of (St.state store.now)) branch true (has_done tx.old) (Stmt.Merge name.now prefer)) }
-    ensures reply { IfOk result (λ r. r ≡ (act_over (dataset_of (St.state store.now)) branch (tx_in tx.old) (Stmt.Merge name.now prefer)).reply) }
-    ensures tx { OnOk result (tx_in tx.new ≡ (act_over (dataset_of (St.state store.now)) branch (tx_in tx.old) (Stmt.Merge name.now prefer)).tx) }
-    ensures keeps { OnOk result ((rows : List Row) (s : ℕ) → Keeps (dataset_of (St.state store.now)) rows s branch tx.old → AllGranted rows s (needs (dataset_of (St.state store.now)) branch true (has_done tx.old) (Stmt.Merge name.now prefer)) → Keeps (dataset_of (St.state store.now)) rows s branch tx.new) }
+    requires may { MayWork (St.state store.now) branch (Stmt.Merge name.now prefer) tx.old }
+    ensures reply { IfOk result (λ r.
+        r ≡ (acted_over (St.state store.now) branch tx.old (Stmt.Merge name.now prefer)).reply) }
+    ensures tx { OnOk result (GoesOn (St.state store.now) branch
+        (needs_in (St.state store.now) branch tx.old (Stmt.Merge name.now prefer))
+        (acted_over (St.state store.now) branch tx.old (Stmt.Merge name.now prefer)) tx.old tx.new) }
     ensures short { IfOk result (λ r. IsLong r → ⊥) }
     ensures err { OnErr result (IsMore tx.old tx.new) }
 {
@@ -91,12 +84,14 @@ fn act<St: Store>(
     branch: u32,
     stmt: &Stmt,
 ) -> Result<Reply, AllocError>
-    requires branch { branch < length (dataset_of (St.state store.now)).branches }
     requires acts { IsAct stmt.now }
-    requires keeps { (rows : List Row) × (s : ℕ) × Keeps (dataset_of (St.state store.now)) rows s branch tx.old × AllGranted rows s (needs (dataset_of (St.state store.now)) branch true (has_done tx.old) stmt.now) }
-    ensures reply { IfOk result (λ r. r ≡ (act_over (dataset_of (St.state store.now)) branch (tx_in tx.old) stmt.now).reply) }
-    ensures tx { OnOk result (tx_in tx.new ≡ (act_over (dataset_of (St.state store.now)) branch (tx_in tx.old) stmt.now).tx) }
-    ensures keeps { OnOk result ((rows : List Row) (s : ℕ) → Keeps (dataset_of (St.state store.now)) rows s branch tx.old → AllGranted rows s (needs (dataset_of (St.state store.now)) branch true (has_done tx.old) stmt.now) → Keeps (dataset_of (St.state store.now)) rows s branch tx.new) }
+    requires needs { HasNeeds (St.state store.now) branch
+        (needs_in (St.state store.now) branch tx.old stmt.now) tx.old }
+    ensures reply { IfOk result (λ r.
+        r ≡ (acted_over (St.state store.now) branch tx.old stmt.now).reply) }
+    ensures tx { OnOk result (GoesOn (St.state store.now) branch
+        (needs_in (St.state store.now) branch tx.old stmt.now)
+        (acted_over (St.state store.now) branch tx.old stmt.now) tx.old tx.new) }
     ensures long { IfOk result (λ r. IsLong r → IsMore tx.old tx.new) }
     ensures err { OnErr result (IsMore tx.old tx.new) }
 {
@@ -120,13 +115,13 @@ fn work<St: Store>(
     branch: u32,
     stmt: &Stmt,
 ) -> Result<Reply, AllocError>
-    requires branch { branch < length (dataset_of (St.state store.now)).branches }
-    requires clean { has_done tx.old ≡ false → tx.old.overlays ≡ untouched }
     requires works { IsWork stmt.now }
-    requires keeps { (rows : List Row) × (s : ℕ) × Keeps (dataset_of (St.state store.now)) rows s branch tx.old × AllGranted rows s (needs (dataset_of (St.state store.now)) branch true (has_done tx.old) stmt.now) }
-    ensures reply { IfOk result (λ r. r ≡ (act_over (dataset_of (St.state store.now)) branch (tx_in tx.old) stmt.now).reply) }
-    ensures tx { OnOk result (tx_in tx.new ≡ (act_over (dataset_of (St.state store.now)) branch (tx_in tx.old) stmt.now).tx) }
-    ensures keeps { OnOk result ((rows : List Row) (s : ℕ) → Keeps (dataset_of (St.state store.now)) rows s branch tx.old → AllGranted rows s (needs (dataset_of (St.state store.now)) branch true (has_done tx.old) stmt.now) → Keeps (dataset_of (St.state store.now)) rows s branch tx.new) }
+    requires may { MayWork (St.state store.now) branch stmt.now tx.old }
+    ensures reply { IfOk result (λ r.
+        r ≡ (acted_over (St.state store.now) branch tx.old stmt.now).reply) }
+    ensures tx { OnOk result (GoesOn (St.state store.now) branch
+        (needs_in (St.state store.now) branch tx.old stmt.now)
+        (acted_over (St.state store.now) branch tx.old stmt.now) tx.old tx.new) }
     ensures long { IfOk result (λ r. IsLong r → IsMore tx.old tx.new) }
     ensures err { OnErr result (IsMore tx.old tx.new) }
 {
@@ -152,14 +147,13 @@ pub fn work_twice<St: Store>(
     branch: u32,
     stmt: &Stmt,
 ) -> Result<Twice, AllocError>
-    requires branch { branch < length (dataset_of (St.state store.now)).branches }
-    requires clean { has_done tx.old ≡ false → tx.old.overlays ≡ untouched }
     requires works { IsWork stmt.now }
-    requires keeps { (rows : List Row) × (s : ℕ) × Keeps (dataset_of (St.state store.now)) rows s branch tx.old × AllGranted rows s (needs (dataset_of (St.state store.now)) branch true (has_done tx.old) stmt.now) }
-    ensures reply { IfOk result (λ t. t.reply ≡ (act_over (dataset_of (St.state store.now)) branch (tx_in tx.old) stmt.now).reply) }
-    ensures copy { IfOk result (λ t. t.copy ≡ t.reply) }
-    ensures tx { OnOk result (tx_in tx.new ≡ (act_over (dataset_of (St.state store.now)) branch (tx_in tx.old) stmt.now).tx) }
-    ensures keeps { OnOk result ((rows : List Row) (s : ℕ) → Keeps (dataset_of (St.state store.now)) rows s branch tx.old → AllGranted rows s (needs (dataset_of (St.state store.now)) branch true (has_done tx.old) stmt.now) → Keeps (dataset_of (St.state store.now)) rows s branch tx.new) }
+    requires may { MayWork (St.state store.now) branch stmt.now tx.old }
+    ensures reply { IfOk result (λ t.
+        t ≡ (acted_over (St.state store.now) branch tx.old stmt.now).reply) }
+    ensures tx { OnOk result (GoesOn (St.state store.now) branch
+        (needs_in (St.state store.now) branch tx.old stmt.now)
+        (acted_over (St.state store.now) branch tx.old stmt.now) tx.old tx.new) }
     ensures err { OnErr result (IsMore tx.old tx.new) }
 {
     let reply = work(store, tx, branch, stmt)?;
@@ -174,16 +168,14 @@ fn work_or_back<St: Store>(
     branch: u32,
     stmt: &Stmt,
 ) -> Result<Twice, AllocError>
-    requires branch { branch < length (dataset_of (St.state store.now)).branches }
-    requires clean { has_done tx.old ≡ false → tx.old.overlays ≡ untouched }
     requires works { IsWork stmt.now }
-    requires keeps { (rows : List Row) × (s : ℕ) × Keeps (dataset_of (St.state store.now)) rows s branch tx.old × AllGranted rows s (needs (dataset_of (St.state store.now)) branch true (has_done tx.old) stmt.now) }
-    ensures reply { IfOk result (λ t. t.reply ≡ (act_over (dataset_of (St.state store.now)) branch (tx_in tx.old) stmt.now).reply) }
-    ensures copy { IfOk result (λ t. t.copy ≡ t.reply) }
-    ensures tx { OnOk result (tx_in tx.new ≡ (act_over (dataset_of (St.state store.now)) branch (tx_in tx.old) stmt.now).tx) }
-    ensures keeps { OnOk result ((rows : List Row) (s : ℕ) → Keeps (dataset_of (St.state store.now)) rows s branch tx.old → AllGranted rows s (needs (dataset_of (St.state store.now)) branch true (has_done tx.old) stmt.now) → Keeps (dataset_of (St.state store.now)) rows s branch tx.new) }
-    ensures kept { OnErr result ((rows : List Row) (s : ℕ) → Keeps (dataset_of (St.state store.now)) rows s branch tx.old → Keeps (dataset_of (St.state store.now)) rows s branch tx.new) }
-    ensures same { OnErr result (tx_in tx.new ≡ tx_in tx.old) }
+    requires may { MayWork (St.state store.now) branch stmt.now tx.old }
+    ensures reply { IfOk result (λ t.
+        t ≡ (acted_over (St.state store.now) branch tx.old stmt.now).reply) }
+    ensures tx { OnOk result (GoesOn (St.state store.now) branch
+        (needs_in (St.state store.now) branch tx.old stmt.now)
+        (acted_over (St.state store.now) branch tx.old stmt.now) tx.old tx.new) }
+    ensures err { OnErr result (IsBack branch tx.old tx.new) }
 {
     let mark = tx.mark();
     match work_twice(store, tx, branch, stmt) {
@@ -203,16 +195,14 @@ pub fn go_on<St: Store>(
     branch: u32,
     stmt: &Stmt,
 ) -> Result<Twice, AllocError>
-    requires branch { branch < length (dataset_of (St.state store.now)).branches }
-    requires clean { has_done tx.old ≡ false → tx.old.overlays ≡ untouched }
     requires goes_on { is_end stmt.now ≡ false }
-    requires keeps { (rows : List Row) × (s : ℕ) × Keeps (dataset_of (St.state store.now)) rows s branch tx.old × AllGranted rows s (needs (dataset_of (St.state store.now)) branch true (has_done tx.old) stmt.now) }
-    ensures reply { IfOk result (λ t. t.reply ≡ (step_in (dataset_of (St.state store.now)) branch tx.old stmt.now).reply) }
-    ensures copy { IfOk result (λ t. t.copy ≡ t.reply) }
-    ensures tx { OnOk result (tx_in tx.new ≡ (step_in (dataset_of (St.state store.now)) branch tx.old stmt.now).tx) }
-    ensures keeps { OnOk result ((rows : List Row) (s : ℕ) → Keeps (dataset_of (St.state store.now)) rows s branch tx.old → AllGranted rows s (needs (dataset_of (St.state store.now)) branch true (has_done tx.old) stmt.now) → Keeps (dataset_of (St.state store.now)) rows s branch tx.new) }
-    ensures kept { OnErr result ((rows : List Row) (s : ℕ) → Keeps (dataset_of (St.state store.now)) rows s branch tx.old → Keeps (dataset_of (St.state store.now)) rows s branch tx.new) }
-    ensures same { OnErr result (tx_in tx.new ≡ tx_in tx.old) }
+    requires may { MayWork (St.state store.now) branch stmt.now tx.old }
+    ensures reply { IfOk result (λ t.
+        t ≡ (step_in (dataset_of (St.state store.now)) branch tx.old stmt.now).reply) }
+    ensures tx { OnOk result (GoesOn (St.state store.now) branch
+        (needs_in (St.state store.now) branch tx.old stmt.now)
+        (step_in (dataset_of (St.state store.now)) branch tx.old stmt.now) tx.old tx.new) }
+    ensures err { OnErr result (IsBack branch tx.old tx.new) }
 {
     match stmt {
         Stmt::Begin { .. } => Ok(refused(Refusal::InTransaction)),
@@ -232,3 +222,4 @@ pub fn go_on<St: Store>(
         }
     }
 }
+

@@ -1,14 +1,12 @@
-//! Statements that are transactions of their own, and the ends of transactions: what they are to do.
-ghost use Rattle.std.specs.Prelude.{◌≡◌, ◌<◌, Some, None, true, false, length, IfOk};
+//! What statements that are transactions of their own, and the ends of transactions, are to do.
+ghost use Rattle.std.specs.Prelude.{◌≡◌, ◌<◌, None, true, false, length, IfOk};
 ghost use Rattle.db_value.specs.Text.{is_name};
-ghost use Rattle.db_store.specs.Dataset.{head_of, IsMade};
+ghost use Rattle.db_store.specs.Dataset.{IsMade};
 ghost use Rattle.db_store.specs.State.{dataset_of};
-ghost use Rattle.branch_tx.specs.Keeping.{over_table};
-ghost use Rattle.branch_tx.specs.Alone.{commit_reply};
 ghost use Rattle.branch_tx.specs.Granted.{tx_in};
 ghost use Rattle.branch_tx.proofs.Acts.{is_done};
 ghost use Rattle.store_tx.specs.Ends.{is_begin, is_end};
-ghost use Rattle.store_tx.specs.Statements.{HasName, IsWork, step_in, step_out, entry_over, commit_over, branched, branch_out, branch_entry, moved_out};
+ghost use Rattle.store_tx.specs.Statements.{HasName, IsWork, step_in, step_out, entry_out, entry_over, commit_over, told_over, branched, branch_out, branch_entry, moved_out};
 ghost use Rattle.store_tx.specs.Stored.{FitsIf, IsNamedIf};
 
 use crate::granting::open_tx;
@@ -31,10 +29,10 @@ pub const MOST_BRANCHES: u32 = 1024;
 /// Ends a transaction with its entry, if it has one, and tells the version that this makes.
 pub fn commit<St: Store>(store: &St, tx: &Tx<St>, branch: u32) -> Result<Plan, AllocError>
     requires branch { branch < length (dataset_of (St.state store.now)).branches }
-    ensures reply { IfOk result (λ p. p.told.reply ≡
-        commit_reply (over_table (head_of (dataset_of (St.state store.now)) branch)) (dataset_of (St.state store.now)) branch (tx_in tx.now)) }
-    ensures copy { IfOk result (λ p. p.told.copy ≡ p.told.reply) }
-    ensures entry { IfOk result (λ p. p.entry ≡ commit_over (dataset_of (St.state store.now)) branch (tx_in tx.now)) }
+    ensures told { IfOk result (λ p. p.told ≡
+        told_over (dataset_of (St.state store.now)) branch (tx_in tx.now)) }
+    ensures entry { IfOk result (λ p. p.entry ≡
+        commit_over (dataset_of (St.state store.now)) branch (tx_in tx.now)) }
     ensures named { IfOk result (λ p. IsNamedIf p.entry) }
     ensures stays { IfOk result (λ p. p.moved ≡ None) }
 {
@@ -54,9 +52,10 @@ pub fn commit<St: Store>(store: &St, tx: &Tx<St>, branch: u32) -> Result<Plan, A
 pub fn end<St: Store>(store: &St, tx: &Tx<St>, branch: u32, stmt: &Stmt) -> Result<Plan, AllocError>
     requires branch { branch < length (dataset_of (St.state store.now)).branches }
     requires ends { is_end stmt.now ≡ true }
-    ensures reply { IfOk result (λ p. p.told.reply ≡ (step_in (dataset_of (St.state store.now)) branch tx.now stmt.now).reply) }
-    ensures copy { IfOk result (λ p. p.told.copy ≡ p.told.reply) }
-    ensures entry { IfOk result (λ p. p.entry ≡ entry_over (dataset_of (St.state store.now)) branch stmt.now (tx_in tx.now)) }
+    ensures told { IfOk result (λ p. p.told ≡
+        (step_in (dataset_of (St.state store.now)) branch tx.now stmt.now).reply) }
+    ensures entry { IfOk result (λ p. p.entry ≡
+        entry_over (dataset_of (St.state store.now)) branch stmt.now (tx_in tx.now)) }
     ensures named { IfOk result (λ p. IsNamedIf p.entry) }
 {
     match stmt {
@@ -78,16 +77,16 @@ fn is_done(reply: &Reply) -> bool
 fn alone<St: Store>(alloc: Global, store: &St, branch: u32, stmt: &Stmt) -> Result<Plan, AllocError>
     requires branch { branch < length (dataset_of (St.state store.now)).branches }
     requires works { IsWork stmt.now }
-    ensures reply { IfOk result (λ p. p.told.reply ≡ (step_out (dataset_of (St.state store.now)) branch stmt.now).reply) }
-    ensures copy { IfOk result (λ p. p.told.copy ≡ p.told.reply) }
+    ensures told { IfOk result (λ p. p.told ≡
+        (step_out (dataset_of (St.state store.now)) branch stmt.now).reply) }
     ensures entry { IfOk result (λ p. p.entry ≡
-        entry_over (dataset_of (St.state store.now)) branch stmt.now (step_out (dataset_of (St.state store.now)) branch stmt.now).tx) }
+        entry_out (dataset_of (St.state store.now)) branch stmt.now) }
     ensures named { IfOk result (λ p. IsNamedIf p.entry) }
     ensures stays { IfOk result (λ p. p.moved ≡ None) }
 {
     let mut tx = open_tx(alloc, store, branch, USUAL_ROOM)?;
     let told = work_twice(store, &mut tx, branch, stmt)?;
-    if is_done(&told.reply) {
+    if is_done(told.reply()) {
         let committed = commit(store, &tx, branch)?;
         return Ok(committed);
     }
@@ -97,9 +96,10 @@ fn alone<St: Store>(alloc: Global, store: &St, branch: u32, stmt: &Stmt) -> Resu
 // Makes a branch of a made place, where there is none of its name and room for one.
 fn branch_at<St: Store>(store: &St, name: &Name, origin: VersionPlace) -> Plan
     requires { IsMade (dataset_of (St.state store.now)) origin }
-    ensures reply { result.told.reply ≡ (branched (dataset_of (St.state store.now)) name.now origin).reply }
-    ensures copy { result.told.copy ≡ result.told.reply }
-    ensures entry { result.entry ≡ branch_entry (branched (dataset_of (St.state store.now)) name.now origin).tx.made }
+    ensures told { result.told ≡
+        (branched (dataset_of (St.state store.now)) name.now origin).reply }
+    ensures entry { result.entry ≡
+        branch_entry (branched (dataset_of (St.state store.now)) name.now origin).tx.made }
     ensures fits { FitsIf (dataset_of (St.state store.now)) result.entry }
     ensures named { is_name name.now ≡ true → IsNamedIf result.entry }
     ensures stays { result.moved ≡ None }
@@ -122,9 +122,10 @@ fn branch_at<St: Store>(store: &St, name: &Name, origin: VersionPlace) -> Plan
 
 /// Makes a branch of a version.
 pub fn branch_of<St: Store>(store: &St, name: &Name, origin: &VersionName) -> Plan
-    ensures reply { result.told.reply ≡ (branch_out (dataset_of (St.state store.now)) name.now origin.now).reply }
-    ensures copy { result.told.copy ≡ result.told.reply }
-    ensures entry { result.entry ≡ branch_entry (branch_out (dataset_of (St.state store.now)) name.now origin.now).tx.made }
+    ensures told { result.told ≡
+        (branch_out (dataset_of (St.state store.now)) name.now origin.now).reply }
+    ensures entry { result.entry ≡
+        branch_entry (branch_out (dataset_of (St.state store.now)) name.now origin.now).tx.made }
     ensures fits { FitsIf (dataset_of (St.state store.now)) result.entry }
     ensures named { is_name name.now ≡ true → IsNamedIf result.entry }
     ensures stays { result.moved ≡ None }
@@ -137,8 +138,7 @@ pub fn branch_of<St: Store>(store: &St, name: &Name, origin: &VersionName) -> Pl
 
 // Makes a branch the current one.
 fn move_to<St: Store>(store: &St, name: &Name) -> Plan
-    ensures reply { result.told.reply ≡ (moved_out (dataset_of (St.state store.now)) name.now).reply }
-    ensures copy { result.told.copy ≡ result.told.reply }
+    ensures told { result.told ≡ (moved_out (dataset_of (St.state store.now)) name.now).reply }
     ensures entry { result.entry ≡ None }
     ensures moved { result.moved ≡ (moved_out (dataset_of (St.state store.now)) name.now).tx.moved }
 {
@@ -161,12 +161,13 @@ pub fn own<St: Store>(
 ) -> Result<Plan, AllocError>
     requires branch { current < length (dataset_of (St.state store.now)).branches }
     requires ends { is_begin stmt.now ≡ false }
-    ensures reply { IfOk result (λ p. p.told.reply ≡ (step_out (dataset_of (St.state store.now)) current stmt.now).reply) }
-    ensures copy { IfOk result (λ p. p.told.copy ≡ p.told.reply) }
+    ensures told { IfOk result (λ p. p.told ≡
+        (step_out (dataset_of (St.state store.now)) current stmt.now).reply) }
     ensures entry { IfOk result (λ p. p.entry ≡
-        entry_over (dataset_of (St.state store.now)) current stmt.now (step_out (dataset_of (St.state store.now)) current stmt.now).tx) }
+        entry_out (dataset_of (St.state store.now)) current stmt.now) }
     ensures named { IfOk result (λ p. HasName stmt.now → IsNamedIf p.entry) }
-    ensures moved { IfOk result (λ p. p.moved ≡ (step_out (dataset_of (St.state store.now)) current stmt.now).tx.moved) }
+    ensures moved { IfOk result (λ p. p.moved ≡
+        (step_out (dataset_of (St.state store.now)) current stmt.now).tx.moved) }
 {
     match stmt {
         Stmt::Commit => Ok(plain(refused(Refusal::NoTransaction))),

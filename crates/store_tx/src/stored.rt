@@ -1,16 +1,16 @@
 //! What a line stores: its entry goes to the log, and then to the store.
 ghost use Rattle.std.specs.Prelude.{◌≡◌, Some, None, true, false, IfOk, OnOk, OnErr};
-ghost use Rattle.db_store.specs.Fits.{fits, IsCommit, IsBranch};
+ghost use Rattle.db_store.specs.Fits.{fits};
 ghost use Rattle.db_store.specs.State.{dataset_of};
 ghost use Rattle.entry_codec.specs.Spelling.{spelling};
 ghost use Rattle.entry_codec.specs.Laws.{IsNamed, IsEntry};
 ghost use Rattle.store_tx.specs.Ends.{grown};
 ghost use Rattle.store_tx.specs.Stored.{Stores, told_if, stored_if, FitsIf, IsNamedIf};
 
-use crate::twice::{Twice, refusal};
+use crate::twice::{Twice, refused};
 use db_outside::{Batch, BatchStop};
 use db_store::Store;
-use db_value::{Entry, Refusal, Reply};
+use db_value::{Entry, Refusal};
 use entry_codec::{Log, encode, fitting_law};
 use std::alloc::{AllocError, Global};
 
@@ -26,8 +26,7 @@ pub struct Plan {
 /// What a line was told, and whether the log failed to store its entry.
 #[derive(Drop)]
 pub struct Answer {
-    pub reply: Reply,
-    pub copy: Reply,
+    pub told: Twice,
     pub failed: bool,
 }
 
@@ -46,16 +45,13 @@ pub fn plain(told: Twice) -> Plan
 
 /// An answer for which no log is called. It does nothing to store and log.
 pub fn unmarked<St: Store, J: Log<St>>(_store: &St, _log: &J, told: Twice) -> Answer
-    ensures reply { result.reply ≡ told.reply }
-    ensures copy { result.copy ≡ told.copy }
+    ensures told { result.told ≡ told }
     ensures failed { result.failed ≡ false }
     ensures stores { Stores J.faults J.Keeps J.generation J.moment J.opens_since J.Quiet
         (St.state _store.now) false None _log.now _log.now }
 {
-    let Twice { reply, copy } = told;
     Answer {
-        reply,
-        copy,
+        told,
         failed: false,
     }
 }
@@ -77,60 +73,7 @@ fn batch_of<St: Store>(alloc: Global, _store: &St, entry: &Entry) -> Result<Batc
     }
 }
 
-// Stores a commit, and adds it. It tells whether the log failed; then the state stays.
-fn store_commit<St: Store, J: Log<St>>(
-    alloc: Global,
-    store: &mut St,
-    log: &mut J,
-    entry: &Entry,
-) -> Result<bool, AllocError>
-    requires fits { fits (dataset_of (St.state store.old)) entry.now ≡ true }
-    requires commit { IsCommit entry.now }
-    requires named { IsNamed entry.now }
-    ensures state { IfOk result (λ failed. St.state store.new ≡ grown (St.state store.old) (stored_if failed (Some entry.now))) }
-    ensures stores { IfOk result (λ failed. Stores J.faults J.Keeps J.generation J.moment J.opens_since J.Quiet
-        (St.state store.old) failed (Some entry.now) log.old log.new) }
-    ensures err { OnErr result (St.state store.new ≡ St.state store.old) }
-    ensures untouched { OnErr result (log.new ≡ log.old) }
-{
-    let batch = batch_of(alloc, store, entry)?;
-    let prepared = store.prepare(entry)?;
-    match log.append(&batch) {
-        Ok(()) => {
-            store.install(prepared);
-            Ok(false)
-        }
-        Err(_) => Ok(true),
-    }
-}
-
-// Stores a new branch, and adds it, in the same way.
-fn store_branch<St: Store, J: Log<St>>(
-    alloc: Global,
-    store: &mut St,
-    log: &mut J,
-    entry: &Entry,
-) -> Result<bool, AllocError>
-    requires fits { fits (dataset_of (St.state store.old)) entry.now ≡ true }
-    requires branch { IsBranch entry.now }
-    requires named { IsNamed entry.now }
-    ensures state { IfOk result (λ failed. St.state store.new ≡ grown (St.state store.old) (stored_if failed (Some entry.now))) }
-    ensures stores { IfOk result (λ failed. Stores J.faults J.Keeps J.generation J.moment J.opens_since J.Quiet
-        (St.state store.old) failed (Some entry.now) log.old log.new) }
-    ensures err { OnErr result (St.state store.new ≡ St.state store.old) }
-    ensures untouched { OnErr result (log.new ≡ log.old) }
-{
-    let batch = batch_of(alloc, store, entry)?;
-    let prepared = store.prepare_branch(entry)?;
-    match log.append(&batch) {
-        Ok(()) => {
-            store.install_branch(prepared);
-            Ok(false)
-        }
-        Err(_) => Ok(true),
-    }
-}
-
+// Stores an entry, and adds it. It tells whether the log failed; then the state stays.
 fn store_entry<St: Store, J: Log<St>>(
     alloc: Global,
     store: &mut St,
@@ -139,16 +82,49 @@ fn store_entry<St: Store, J: Log<St>>(
 ) -> Result<bool, AllocError>
     requires fits { fits (dataset_of (St.state store.old)) entry.now ≡ true }
     requires named { IsNamed entry.now }
-    ensures state { IfOk result (λ failed. St.state store.new ≡ grown (St.state store.old) (stored_if failed (Some entry.now))) }
-    ensures stores { IfOk result (λ failed. Stores J.faults J.Keeps J.generation J.moment J.opens_since J.Quiet
-        (St.state store.old) failed (Some entry.now) log.old log.new) }
-    ensures err { OnErr result (St.state store.new ≡ St.state store.old) }
-    ensures untouched { OnErr result (log.new ≡ log.old) }
+    ensures state { IfOk result (λ failed. St.state store.new
+        ≡ grown (St.state store.old) (stored_if failed (Some entry.now))) }
+    ensures stores { IfOk result (λ failed. Stores J.faults J.Keeps J.generation J.moment
+        J.opens_since J.Quiet (St.state store.old) failed (Some entry.now) log.old log.new) }
+    ensures err { OnErr result ((St.state store.new ≡ St.state store.old) × (log.new ≡ log.old)) }
 {
+    let batch = batch_of(alloc, store, entry)?;
     match entry {
-        Entry::Commit { .. } => store_commit(alloc, store, log, entry),
-        Entry::Branch { .. } => store_branch(alloc, store, log, entry),
+        Entry::Commit { .. } => {
+            let prepared = store.prepare(entry)?;
+            match log.append(&batch) {
+                Err(_) => Ok(true),
+                Ok(()) => {
+                    store.install(prepared);
+                    Ok(false)
+                }
+            }
+        }
+        Entry::Branch { .. } => {
+            let prepared = store.prepare_branch(entry)?;
+            match log.append(&batch) {
+                Err(_) => Ok(true),
+                Ok(()) => {
+                    store.install_branch(prepared);
+                    Ok(false)
+                }
+            }
+        }
     }
+}
+
+// What a line was told, or that the log failed.
+fn answered(told: Twice, failed: bool) -> Answer
+    ensures told { result.told ≡ told_if failed told }
+    ensures failed { result.failed ≡ failed }
+{
+    if failed {
+        return Answer {
+            told: refused(Refusal::FaultDisk),
+            failed,
+        };
+    }
+    Answer { told, failed }
 }
 
 /// Carries a plan out: its entry, if it has one, is stored in the log and then added to the store. All
@@ -162,14 +138,12 @@ pub fn carry_out<St: Store, J: Log<St>>(
 ) -> Result<Answer, AllocError>
     requires fits { FitsIf (dataset_of (St.state store.old)) plan.entry }
     requires named { IsNamedIf plan.entry }
-    requires copy { plan.told.copy ≡ plan.told.reply }
-    ensures reply { IfOk result (λ a. a.reply ≡ told_if a.failed plan.told.reply) }
-    ensures copy { IfOk result (λ a. a.copy ≡ a.reply) }
-    ensures state { IfOk result (λ a. St.state store.new ≡ grown (St.state store.old) (stored_if a.failed plan.entry)) }
-    ensures stores { IfOk result (λ a. Stores J.faults J.Keeps J.generation J.moment J.opens_since J.Quiet
-        (St.state store.old) a.failed plan.entry log.old log.new) }
-    ensures err { OnErr result (St.state store.new ≡ St.state store.old) }
-    ensures untouched { OnErr result (log.new ≡ log.old) }
+    ensures told { IfOk result (λ a. a.told ≡ told_if a.failed plan.told) }
+    ensures state { IfOk result (λ a. St.state store.new
+        ≡ grown (St.state store.old) (stored_if a.failed plan.entry)) }
+    ensures stores { IfOk result (λ a. Stores J.faults J.Keeps J.generation J.moment J.opens_since
+        J.Quiet (St.state store.old) a.failed plan.entry log.old log.new) }
+    ensures err { OnErr result ((St.state store.new ≡ St.state store.old) × (log.new ≡ log.old)) }
 {
     let Plan { told, entry, .. } = plan;
     match entry {
@@ -178,27 +152,5 @@ pub fn carry_out<St: Store, J: Log<St>>(
             let failed = store_entry(alloc, store, log, &entry)?;
             Ok(answered(told, failed))
         }
-    }
-}
-
-// What a line was told, or that the log failed.
-fn answered(told: Twice, failed: bool) -> Answer
-    requires copy { told.copy ≡ told.reply }
-    ensures failed { result.failed ≡ failed }
-    ensures reply { result.reply ≡ told_if failed told.reply }
-    ensures copy { result.copy ≡ result.reply }
-{
-    if failed {
-        return Answer {
-            reply: refusal(&Refusal::FaultDisk),
-            copy: refusal(&Refusal::FaultDisk),
-            failed,
-        };
-    }
-    let Twice { reply, copy } = told;
-    Answer {
-        reply,
-        copy,
-        failed,
     }
 }

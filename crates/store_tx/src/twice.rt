@@ -4,18 +4,47 @@ ghost use Rattle.db_value.specs.Long.{IsLong};
 
 use db_value::{Name, Refusal, Reply};
 use std::alloc::AllocError;
+use std::marker::Model;
 
-/// A reply, and a copy of it.
+/// A reply with a copy of it, one to be given and one to be kept. Contracts see it as the reply.
 #[derive(Drop)]
 pub struct Twice {
-    pub reply: Reply,
-    pub copy: Reply,
+    reply: Reply,
+    copy: Reply,
+}
+
+impl Model for Twice {
+    ghost use Rattle.std.specs.Prelude.{◌≡◌};
+    ghost use Rattle.db_value.specs.declared.reply.Reply.{Reply};
+
+    ghost Value = { Reply };
+
+    ghost view = { λ t. t.reply };
+
+    ghost invariant = { λ t. t.copy ≡ t.reply };
+}
+
+impl Twice {
+    /// The reply.
+    pub fn reply(&self) -> &Reply
+        ensures { result.now ≡ self.now }
+    {
+        &self.reply
+    }
+
+    /// The reply, and its copy.
+    pub fn into_both(self) -> (Reply, Reply)
+        ensures reply { result.0 ≡ self }
+        ensures copy { result.1 ≡ self }
+    {
+        let Twice { reply, copy } = self;
+        (reply, copy)
+    }
 }
 
 /// A reply with a copy of it. Only a reply with a list takes memory.
 pub fn copied(reply: Reply) -> Result<Twice, AllocError>
-    ensures reply { IfOk result (λ t. t.reply ≡ reply) }
-    ensures copy { IfOk result (λ t. t.copy ≡ reply) }
+    ensures reply { IfOk result (λ t. t ≡ reply) }
     ensures memory { IsErr result → IsLong reply }
 {
     match reply.duplicate() {
@@ -33,8 +62,7 @@ pub fn refusal(why: &Refusal) -> Reply
 
 /// A refusal.
 pub fn refused(why: Refusal) -> Twice
-    ensures reply { result.reply ≡ Reply.Refused why }
-    ensures copy { result.copy ≡ Reply.Refused why }
+    ensures { result ≡ Reply.Refused why }
 {
     Twice {
         reply: refusal(&why),
@@ -44,8 +72,7 @@ pub fn refused(why: Refusal) -> Twice
 
 /// Done, without a version.
 pub fn done() -> Twice
-    ensures reply { result.reply ≡ Reply.Done }
-    ensures copy { result.copy ≡ Reply.Done }
+    ensures { result ≡ Reply.Done }
 {
     Twice {
         reply: Reply::Done,
@@ -55,8 +82,7 @@ pub fn done() -> Twice
 
 /// The version that was made.
 pub fn made(branch: Name, position: u32) -> Twice
-    ensures reply { result.reply ≡ Reply.Made branch position }
-    ensures copy { result.copy ≡ Reply.Made branch position }
+    ensures { result ≡ Reply.Made branch position }
 {
     Twice {
         reply: Reply::Made { branch, position },

@@ -10,13 +10,13 @@ use Rattle.store_tx.specs.Keeps.{AllGranted, Keeps}
 use Rattle.store_tx.proofs.KeepsLemmas.{heads_needs, with_heads, heads_keeps, heads_had}
 use Rattle.store_tx.proofs.granting.grant_heads.Goals as goal
 
-pub grant_names-requires-clause-keeps : goal.grant_names-requires-clause-keeps
-grant_names-requires-clause-keeps g c =
+pub grant_names-requires : goal.grant_names-requires
+grant_names-requires g c =
     let store = c.args.store.now in
     let d = dataset_of (g.St.Store.state store) in
-    let k = c.requires.keeps in
+    let k = c.requires.needs in
     let names : c.as_slice-2.result.now ≡ map plain (branch_names d) = c.as_slice-2.ensures ∙ c.in_ok-names.ensures ∙ ap (map plain) (c.as_slice.ensures ∙ c.in_ok-heads.ensures) in
-    (k.0, k.1, k.2, subst (λ (ns : List VersionName). AllGranted k.0 k.1 (names_needs d ns)) (sym names) (heads_needs d k.0 k.1 c.args.branch (g.met.St.Store.sound store) k.3))
+    record { needs = record { kept = k.kept; granted = subst (λ (ns : List VersionName). AllGranted k.kept.rows k.kept.session (names_needs d ns)) (sym names) (heads_needs d k.kept.rows k.kept.session c.args.branch (g.met.St.Store.sound store) k.granted) } }
 
 pub returns-in-Some-clause-keeps : goal.returns-in-Some-clause-keeps
 returns-in-Some-clause-keeps g c = λ rows s k n.

@@ -15,10 +15,10 @@ use Rattle.branch_tx.proofs.SeenLemmas.{lack_step}
 use Rattle.store_tx.proofs.KeepsLemmas.{named_needs, has_same, more_more, versions_stay}
 use Rattle.store_tx.proofs.granting.grant_names.Goals as goal
 
-pub grant_version-requires-clause-keeps : goal.grant_version-requires-clause-keeps
-grant_version-requires-clause-keeps g c =
-    let k = c.requires.keeps in
-    (k.0, k.1, c.loop-name.invariant.keeps k.0 k.1 k.2 k.3)
+pub grant_version-requires : goal.grant_version-requires
+grant_version-requires g c =
+    let k = c.requires.needs in
+    record { kept = record { there = k.kept.there; rows = k.kept.rows; session = k.kept.session; keeps = c.loop-name.invariant.keeps k.kept.rows k.kept.session k.kept.keeps k.granted } }
 
 pub returns-in-Some-clause-keeps : goal.returns-in-Some-clause-keeps
 returns-in-Some-clause-keeps g c = λ rows s k n.
@@ -36,11 +36,11 @@ loop-name-preserved g c =
     let tx : Granted = c.loop-name.tx in
     let after : Granted = c.grant_version.new.tx in
     let inv = c.loop-name.invariant in
-    let k = c.requires.keeps in
+    let k = c.requires.needs in
     let needed : (rows : List Row) (s : ℕ) → AllGranted rows s (names_needs d names) → AllGranted rows s (found_needs (found d v)) = λ rows s n. named_needs d rows s names i v _ c.loop-name-test.true (sym c.name-item.is) n in
-    let kept = c.in_ok-why.ensures.keeps k.0 k.1 (inv.keeps k.0 k.1 k.2 k.3) (needed k.0 k.1 k.3) in
+    let kept = c.in_ok-why.ensures.keeps k.kept.rows k.kept.session (inv.keeps k.kept.rows k.kept.session k.kept.keeps k.granted) (needed k.kept.rows k.kept.session k.granted) in
     let one = c.in_ok-why.ensures.granted c.in-None.is in
-    let same = has_same d k.0 k.1 b after kept (g.met.St.Store.sound store) c.requires.branch v one in
+    let same = has_same d k.kept.rows k.kept.session b after kept (g.met.St.Store.sound store) k.kept.there v one in
     record {
       keeps = λ rows s h n. c.in_ok-why.ensures.keeps rows s (inv.keeps rows s h n) (needed rows s n);
       granted = list_all_more (has_version after) names i _ c.loop-name-test.true ∙ and_from (list_all (has_version after) (take i names)) _ (versions_stay tx after c.in_ok-why.ensures.more (take i names) inv.granted) (ap (has_version after) (sym c.name-item.is) ∙ one);

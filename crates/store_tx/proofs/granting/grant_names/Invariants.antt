@@ -1,17 +1,16 @@
 use Rattle.std.proofs.Common.{◌≡◌, ℕ, List, true, take, drop}
 use Rattle.std.specs.List.{list_all}
 use Rattle.db_store.specs.State.{dataset_of}
-use Rattle.lock_table.specs.Rows.{Row}
 use Rattle.branch_tx.specs.Covers.{has_version}
 use Rattle.line_needs.specs.Needs.{names_needs}
-use Rattle.store_tx.specs.Keeps.{AllGranted, Keeps, IsMore}
+use Rattle.store_tx.specs.Keeps.{KeepsWith, IsMore}
 use Rattle.store_tx.specs.Statements.{lacking_of}
 use Rattle.store_tx.proofs.granting.grant_names.Given as goal
 
 -- the names so far are granted, and each of them is there
 abbrev pub invariant-loop-name : goal.invariant-loop-name
 invariant-loop-name g l = record {
-  keeps : (rows : List Row) (s : ℕ) → Keeps (dataset_of (g.St.Store.state l.store)) rows s l.branch l.initial.tx → AllGranted rows s (names_needs (dataset_of (g.St.Store.state l.store)) l.names) → Keeps (dataset_of (g.St.Store.state l.store)) rows s l.branch l.tx;
+  keeps : KeepsWith (g.St.Store.state l.store) l.branch (names_needs (dataset_of (g.St.Store.state l.store)) l.names) l.initial.tx l.tx;
   granted : list_all (has_version l.tx) (take l.name-index l.names) ≡ true;
   there : lacking_of (dataset_of (g.St.Store.state l.store)) l.branch l.names ≡ lacking_of (dataset_of (g.St.Store.state l.store)) l.branch (drop l.name-index l.names);
   more : IsMore l.initial.tx l.tx;

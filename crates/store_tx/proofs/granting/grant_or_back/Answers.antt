@@ -3,4 +3,4 @@ use Rattle.store_tx.proofs.KeepsLemmas.{ready_of}
 use Rattle.store_tx.proofs.granting.grant_or_back.Goals as goal
 
 pub returns-in-Ok-clause-ready : goal.returns-in-Ok-clause-ready
-returns-in-Ok-clause-ready g c = ready_of (dataset_of (g.St.Store.state c.args.store.now)) c.args.branch c.args.stmt.now c.args.tx.now c.grant.new.tx c.in-Ok._lacking c.in-Ok.ensures.more c.in-Ok.ensures.covered c.in-Ok.ensures.lacks
+returns-in-Ok-clause-ready g c = ready_of (g.St.Store.state c.args.store.now) c.args.branch c.args.stmt.now c.args.tx.now c.grant.new.tx c.in-Ok._lacking c.in-Ok.ensures.more c.in-Ok.ensures.covered c.in-Ok.ensures.lacks

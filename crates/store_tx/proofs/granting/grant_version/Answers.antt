@@ -7,4 +7,4 @@ pub returns-then-is_current-clause-keeps : goal.returns-then-is_current-clause-k
 returns-then-is_current-clause-keeps g c = λ rows s k n.
     let d = dataset_of (g.St.Store.state c.args.store.now) in
     let b = c.args.branch in
-    c.in_ok-grant_head.ensures.keeps rows s k (current_need d rows s b c.args.tx.now c.args.version.now k.name ((g.met.St.Store.sound c.args.store.now).named b c.requires.branch) (sym c.is_current.ensures ∙ c.if-is_current.true) n)
+    c.in_ok-grant_head.ensures.keeps rows s k (current_need d rows s b c.args.tx.now c.args.version.now k.name ((g.met.St.Store.sound c.args.store.now).named b c.requires.kept.there) (sym c.is_current.ensures ∙ c.if-is_current.true) n)

@@ -13,9 +13,6 @@ returns-in_ok-answer-in_default g c =
     let one = step_acts d c.args.branch c.args.tx.now x (goes_on x c.requires.goes_on not.not-Begin not.not-On not.not-LogOf not.not-Branch not.not-Graph) in
     record {
       reply = c.in_ok-answer-in_default.ensures.reply ∙ ap (λ (o : Outcome (List Overlay)). o.reply) (sym one);
-      copy = c.in_ok-answer-in_default.ensures.copy;
-      tx = c.in_ok-answer-in_default.ensures.tx ∙ ap (λ (o : Outcome (List Overlay)). o.tx) (sym one);
-      keeps = c.in_ok-answer-in_default.ensures.keeps;
-      kept = tt;
-      same = tt;
+      tx = record { tx = c.in_ok-answer-in_default.ensures.tx.tx ∙ ap (λ (o : Outcome (List Overlay)). o.tx) (sym one); keeps = c.in_ok-answer-in_default.ensures.tx.keeps };
+      err = tt;
     }

@@ -1,11 +1,29 @@
-use Rattle.std.proofs.Common.{◌∙◌, sym}
+use Rattle.std.proofs.Common.{rules, ◌≡◌, ◌∙◌, sym, subst, List, inl, ◌⊎◌}
 use Rattle.db_store.specs.State.{dataset_of}
+use Rattle.lock_table.specs.declared.need.Need.{Need}
+use Rattle.lock_table.specs.Rows.{Row}
+use Rattle.lock_table.specs.Grants.{Has, row}
 use Rattle.branch_tx.specs.Granted.{has_done}
-use Rattle.store_tx.proofs.Merges.{merge_needed}
+use Rattle.line_needs.specs.Needs.{lock_of, exclusive}
+use Rattle.store_tx.proofs.Merges.{merge_needed, only}
 use Rattle.store_tx.proofs.inside.merge.Goals as goal
 
-pub returns-in_ok-reply-in_Some-store-clause-keeps : goal.returns-in_ok-reply-in_Some-store-clause-keeps
-returns-in_ok-reply-in_Some-store-clause-keeps g c = λ rows s k n.
+pub merge_head-requires-clause-needs : goal.merge_head-requires-clause-needs
+merge_head-requires-clause-needs g c =
     let d = dataset_of (g.St.Store.state c.args.store.now) in
-    c.in_ok-reply-in_Some-store.ensures.keeps rows s k
-    (merge_needed d rows s c.args.branch (has_done c.args.tx.now) c.args.name.now c.args.prefer c.in_Some-store.other (sym c.has_done.ensures ∙ c.if-has_done.false) (sym c.branch-store.ensures ∙ c.in_Some-store.is) n)
+    let k = c.requires.may.needs in
+    record {
+      kept = k.kept;
+      granted = only k.kept.rows k.kept.session (exclusive (lock_of c.args.branch))
+          (merge_needed d k.kept.rows k.kept.session c.args.branch (has_done c.args.tx.now) c.args.name.now c.args.prefer c.in_Some-store.other (sym c.has_done.ensures ∙ c.if-has_done.false) (sym c.branch-store.ensures ∙ c.in_Some-store.is) k.granted);
+    }
+
+pub returns-in_ok-reply-in_Some-store-clause-tx : goal.returns-in_ok-reply-in_Some-store-clause-tx
+returns-in_ok-reply-in_Some-store-clause-tx g c =
+    let d = dataset_of (g.St.Store.state c.args.store.now) in
+    let b = c.args.branch in
+    record {
+      tx = search rules;
+      keeps = λ rows s k n. c.in_ok-reply-in_Some-store.ensures.tx.keeps rows s k (only rows s (exclusive (lock_of b))
+          (merge_needed d rows s b (has_done c.args.tx.now) c.args.name.now c.args.prefer c.in_Some-store.other (sym c.has_done.ensures ∙ c.if-has_done.false) (sym c.branch-store.ensures ∙ c.in_Some-store.is) n));
+    }

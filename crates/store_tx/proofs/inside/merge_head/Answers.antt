@@ -1,30 +1,34 @@
-use Rattle.std.proofs.Common.{◌∙◌, ap, subst, List}
+use Rattle.std.proofs.Common.{◌∙◌, ap, sym, inl, refl, subst, List}
 use Rattle.db_store.specs.Overlay.{Overlay}
 use Rattle.db_store.specs.Dataset.{head_place, IsMade}
 use Rattle.db_store.specs.State.{dataset_of}
 use Rattle.branch_tx.specs.Act.{Outcome}
-use Rattle.branch_tx.specs.Granted.{tx_in}
-use Rattle.store_tx.proofs.Merges.{merged_is, held_table, head_merged}
+use Rattle.branch_tx.specs.Granted.{tx_in, merged}
+use Rattle.line_needs.specs.Needs.{lock_of, exclusive}
+use Rattle.store_tx.specs.Keeps.{Keeps}
+use Rattle.store_tx.proofs.Merges.{merged_is, merged_keeps, held_table, head_merged}
 use Rattle.store_tx.proofs.inside.merge_head.Goals as goal
 
 pub merge-requires-clause-untouched : goal.merge-requires-clause-untouched
-merge-requires-clause-untouched g c = c.in_ok-grant_head.ensures.more.overlays ∙ c.requires.clean c.requires.first
+merge-requires-clause-untouched g c = c.in_ok-grant_head.ensures.more.overlays ∙ c.requires.first.1
 
 pub merge-requires-clause-left : goal.merge-requires-clause-left
 merge-requires-clause-left g c =
     let store = c.args.store.now in
     let d = dataset_of (g.St.Store.state store) in
     let b = c.args.branch in
-    let k = c.requires.keeps in
-    held_table d k.0 k.1 b c.args.tx.now c.grant_head.new.tx (c.in_ok-grant_head.ensures.keeps k.0 k.1 k.2 k.3) c.in_ok-grant_head.ensures.held c.in_ok-grant_head.ensures.more
+    let k = c.requires.needs.kept in
+    let own = c.requires.needs.granted (exclusive (lock_of c.args.branch)) (inl refl) in
+    held_table d k.rows k.session b c.args.tx.now c.grant_head.new.tx (c.in_ok-grant_head.ensures.keeps k.rows k.session k.keeps own) c.in_ok-grant_head.ensures.held c.in_ok-grant_head.ensures.more
     ((g.met.St.Store.counted store).tables (head_place d b) (subst (λ p. IsMade d p) c.head_place.ensures.place c.head_place.ensures.made))
 
 pub returns-clause-reply : goal.returns-clause-reply
 returns-clause-reply g c =
     let d = dataset_of (g.St.Store.state c.args.store.now) in
     let b = c.args.branch in
-    let k = c.requires.keeps in
-    let same = head_merged d k.0 k.1 b c.args.tx.now c.grant_head.new.tx (c.in_ok-grant_head.ensures.keeps k.0 k.1 k.2 k.3) c.in_ok-grant_head.ensures.held c.in_ok-grant_head.ensures.more
+    let k = c.requires.needs.kept in
+    let own = c.requires.needs.granted (exclusive (lock_of c.args.branch)) (inl refl) in
+    let same = head_merged d k.rows k.session b c.args.tx.now c.grant_head.new.tx (c.in_ok-grant_head.ensures.keeps k.rows k.session k.keeps own) c.in_ok-grant_head.ensures.held c.in_ok-grant_head.ensures.more
     c.args.other c.head_place-from.result c.head_place.result c.in_ok-at.at c.args.prefer (g.St.View.View.table c.in_ok-base.base) (g.St.View.View.table c.in_ok-right.right)
     c.head_place-from.ensures.place c.head_place.ensures.place c.in_ok-at.ensures.common c.in_ok-base.ensures.table c.in_ok-right.ensures.table in
     c.in_ok-reply.ensures.reply ∙ ap (λ (o : Outcome (List Overlay)). o.reply) same
@@ -33,10 +37,15 @@ pub returns-clause-tx : goal.returns-clause-tx
 returns-clause-tx g c =
     let d = dataset_of (g.St.Store.state c.args.store.now) in
     let b = c.args.branch in
-    let k = c.requires.keeps in
-    let same = head_merged d k.0 k.1 b c.args.tx.now c.grant_head.new.tx (c.in_ok-grant_head.ensures.keeps k.0 k.1 k.2 k.3) c.in_ok-grant_head.ensures.held c.in_ok-grant_head.ensures.more
+    let k = c.requires.needs.kept in
+    let own = c.requires.needs.granted (exclusive (lock_of c.args.branch)) (inl refl) in
+    let same = head_merged d k.rows k.session b c.args.tx.now c.grant_head.new.tx (c.in_ok-grant_head.ensures.keeps k.rows k.session k.keeps own) c.in_ok-grant_head.ensures.held c.in_ok-grant_head.ensures.more
     c.args.other c.head_place-from.result c.head_place.result c.in_ok-at.at c.args.prefer (g.St.View.View.table c.in_ok-base.base) (g.St.View.View.table c.in_ok-right.right)
     c.head_place-from.ensures.place c.head_place.ensures.place c.in_ok-at.ensures.common c.in_ok-base.ensures.table c.in_ok-right.ensures.table in
-    ap tx_in c.in_ok-reply.ensures.left
-    ∙ merged_is c.grant_head.new.tx c.head_place-from.result c.args.prefer (g.St.View.View.table c.in_ok-base.base) (g.St.View.View.table c.in_ok-right.right)
-    ∙ ap (λ (o : Outcome (List Overlay)). o.tx) same
+    record {
+      tx = ap tx_in c.in_ok-reply.ensures.left
+      ∙ merged_is c.grant_head.new.tx c.head_place-from.result c.args.prefer (g.St.View.View.table c.in_ok-base.base) (g.St.View.View.table c.in_ok-right.right)
+      ∙ ap (λ (o : Outcome (List Overlay)). o.tx) same;
+      keeps = λ rows s k n.
+          subst (Keeps d rows s b) (sym c.in_ok-reply.ensures.left) (merged_keeps d rows s b c.grant_head.new.tx (merged c.grant_head.new.tx c.head_place-from.result c.args.prefer (g.St.View.View.table c.in_ok-base.base) (g.St.View.View.table c.in_ok-right.right)) (c.in_ok-grant_head.ensures.alone refl) (c.in_ok-grant_head.ensures.keeps rows s k (n (exclusive (lock_of b)) (inl refl))));
+    }

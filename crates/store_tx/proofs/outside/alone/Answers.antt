@@ -3,6 +3,7 @@ use Rattle.db_store.specs.Overlay.{Overlay}
 use Rattle.db_store.specs.State.{dataset_of}
 use Rattle.branch_tx.specs.Act.{Tx}
 use Rattle.branch_tx.specs.Granted.{tx_in, has_done}
+use Rattle.branch_tx.proofs.Acts.{is_done}
 use Rattle.line_needs.specs.Needs.{needs}
 use Rattle.store_tx.specs.Keeps.{tagged}
 use Rattle.store_tx.specs.Statements.{act_over}
@@ -11,14 +12,14 @@ use Rattle.store_tx.proofs.Tagged.{tagged_new}
 use Rattle.store_tx.proofs.OwnLines.{own_told, own_stored, own_answered, own_none, done_is, not_done}
 use Rattle.store_tx.proofs.outside.alone.Goals as goal
 
-pub work_twice-requires-clause-keeps : goal.work_twice-requires-clause-keeps
-work_twice-requires-clause-keeps g c =
+pub work_twice-requires-clause-may : goal.work_twice-requires-clause-may
+work_twice-requires-clause-may g c =
     let d = dataset_of (g.St.Store.state c.args.store.now) in
     let ns = needs d c.args.branch true (has_done c.in_ok-tx.tx) c.args.stmt.now in
-    (tagged 0 ns [], 0, c.in_ok-tx.ensures.keeps (tagged 0 ns []) 0, tagged_new 0 ns [])
-
-pub work_twice-requires-clause-clean : goal.work_twice-requires-clause-clean
-work_twice-requires-clause-clean g c = λ e. ap (λ (t : Tx (List Overlay)). t.work) c.in_ok-tx.ensures.tx
+    record {
+      needs = record { kept = record { there = c.requires.branch; rows = tagged 0 ns []; session = 0; keeps = c.in_ok-tx.ensures.keeps (tagged 0 ns []) 0 }; granted = tagged_new 0 ns [] };
+      clean = λ e. ap (λ (t : Tx (List Overlay)). t.work) c.in_ok-tx.ensures.tx;
+    }
 
 pub returns : goal.returns
 returns g c =
@@ -26,29 +27,28 @@ returns g c =
     let b = c.args.branch in
     let x = c.args.stmt.now in
     let reply = c.in_ok-told.ensures.reply ∙ ap (λ (t : Tx (List Overlay)). (act_over d b t x).reply) c.in_ok-tx.ensures.tx in
-    let other = not_done c.in_ok-told.told.reply (sym c.is_done.ensures ∙ c.if-is_done.false) in
+    let other = not_done c.in_ok-told.told (ap is_done (sym c.reply.ensures) ∙ sym c.is_done.ensures ∙ c.if-is_done.false) in
     record {
-      reply = (λ i. (c.plain.ensures.told i).reply) ∙ own_answered d b x c.in_ok-told.told.reply c.requires.works reply other;
-      copy = (λ i. (c.plain.ensures.told i).copy) ∙ c.in_ok-told.ensures.copy ∙ (λ i. (sym c.plain.ensures.told i).reply);
-      entry = c.plain.ensures.entry ∙ own_none d b x c.in_ok-told.told.reply c.requires.works reply other;
+      told = c.plain.ensures.told ∙ own_answered d b x c.in_ok-told.told c.requires.works reply other;
+      entry = c.plain.ensures.entry ∙ own_none d b x c.in_ok-told.told c.requires.works reply other;
       named = subst IsNamedIf (sym c.plain.ensures.entry) tt;
       stays = c.plain.ensures.moved;
     }
 
-pub returns-then-is_done-clause-reply : goal.returns-then-is_done-clause-reply
-returns-then-is_done-clause-reply g c =
+pub returns-then-is_done-clause-told : goal.returns-then-is_done-clause-told
+returns-then-is_done-clause-told g c =
     let s = c.args.store.now in
     let d = dataset_of (g.St.Store.state s) in
     let b = c.args.branch in
     let x = c.args.stmt.now in
-    let now = c.in_ok-told.ensures.tx ∙ ap (λ (t : Tx (List Overlay)). (act_over d b t x).tx) c.in_ok-tx.ensures.tx in
+    let now = c.in_ok-told.ensures.tx.tx ∙ ap (λ (t : Tx (List Overlay)). (act_over d b t x).tx) c.in_ok-tx.ensures.tx in
     let reply = c.in_ok-told.ensures.reply ∙ ap (λ (t : Tx (List Overlay)). (act_over d b t x).reply) c.in_ok-tx.ensures.tx in
-    c.in_ok-committed.ensures.reply ∙ own_told d b x (tx_in c.work_twice.new.tx) c.in_ok-told.told.reply (g.met.St.Store.counted s) c.requires.works now reply (done_is c.in_ok-told.told.reply (sym c.is_done.ensures ∙ c.if-is_done.true))
+    c.in_ok-committed.ensures.told ∙ own_told d b x (tx_in c.work_twice.new.tx) c.in_ok-told.told (g.met.St.Store.counted s) c.requires.works now reply (done_is c.in_ok-told.told (ap is_done (sym c.reply.ensures) ∙ sym c.is_done.ensures ∙ c.if-is_done.true))
 
 pub returns-then-is_done-clause-entry : goal.returns-then-is_done-clause-entry
 returns-then-is_done-clause-entry g c =
     let d = dataset_of (g.St.Store.state c.args.store.now) in
     let b = c.args.branch in
     let x = c.args.stmt.now in
-    let now = c.in_ok-told.ensures.tx ∙ ap (λ (t : Tx (List Overlay)). (act_over d b t x).tx) c.in_ok-tx.ensures.tx in
+    let now = c.in_ok-told.ensures.tx.tx ∙ ap (λ (t : Tx (List Overlay)). (act_over d b t x).tx) c.in_ok-tx.ensures.tx in
     c.in_ok-committed.ensures.entry ∙ own_stored d b x (tx_in c.work_twice.new.tx) c.requires.works now

@@ -29,8 +29,7 @@ returns-in_ok-plan-in_default g c =
     let e = c.in_ok-plan-in_default.ensures in
     let works = acts c.args.stmt.now (no_begin c.args.stmt.now c.requires.ends) c.in_default.not-Commit c.in_default.not-Abort c.in_default.not-On c.in_default.not-LogOf c.in_default.not-Branch c.in_default.not-Graph in
     record {
-      reply = e.reply;
-      copy = e.copy;
+      told = e.told;
       entry = e.entry;
       named = λ _. e.named;
       moved = e.stays ∙ own_stay (dataset_of (g.St.Store.state c.args.store.now)) c.args.current c.args.stmt.now works;

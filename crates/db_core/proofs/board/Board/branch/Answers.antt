@@ -24,7 +24,7 @@ returns-clause-answered g c =
     let after : Kept = record { opening = g.St.Store.state c.self.inside.opening; steps = c.self.inside.steps.items; now = now; rows = c.release.new.self.rows; first_count = c.self.inside.first_count } in
     let is : after ≡ record old { now = now; rows = without desk.session old.rows } = search rules in
     let entries : c.branch_of-plan.result.entry ≡ entry = search rules in
-    let told : a.answer.reply ≡ told_if z out.reply = search rules in
+    let told : c.into_both-reply.result.0 ≡ told_if z out.reply = search rules in
     let grew : now ≡ grown old.now (stored_if z entry) = search rules in (
       z,
       told,

@@ -22,8 +22,8 @@ ask-requires g c =
       );
     }
 
-pub returns-in_err-told-clause-kept : goal.returns-in_err-told-clause-kept
-returns-in_err-told-clause-kept g c =
+pub returns-in_err-told-clause-err : goal.returns-in_err-told-clause-err
+returns-in_err-told-clause-err g c =
     let b : Kept = c.args.self.now.kept in
     let k : AtDesk = c.args.desk.now in
     let v = (kept_is _ _ c.self.view_is) in
@@ -31,17 +31,16 @@ returns-in_err-told-clause-kept g c =
     let s = c.ask.new.session in
     let m : AtDesk = record { session = s.number; current = s.current; name = c.desk.inside.name; skipping = s.skipping; open_tx = s.tx; schema = c.desk.inside.schema; waiting = c.desk.inside.waiting.items } in
     let e : m ≡ record k { open_tx = m.open_tx } = (λ i. record {
-      session = (c.in_err-told.ensures.number ∙ ap (λ (x : AtDesk). x.session) u) i;
-      current = (c.in_err-told.ensures.current ∙ ap (λ (x : AtDesk). x.current) u) i;
+      session = (ap (λ n. n.number) c.in_err-told.ensures.session ∙ ap (λ (x : AtDesk). x.session) u) i;
+      current = (ap (λ n. n.current) c.in_err-told.ensures.session ∙ ap (λ (x : AtDesk). x.current) u) i;
       name = ap (λ (x : AtDesk). x.name) u i;
-      skipping = (c.in_err-told.ensures.skipping ∙ ap (λ (x : AtDesk). x.skipping) u) i;
+      skipping = (ap (λ n. n.skipping) c.in_err-told.ensures.session ∙ ap (λ (x : AtDesk). x.skipping) u) i;
       open_tx = m.open_tx;
       schema = ap (λ (x : AtDesk). x.schema) u i;
       waiting = ap (λ (x : AtDesk). x.waiting) u i;
     }) in
-    let same : IsSameIf k.session k.current k.open_tx m.open_tx =
-    subst (λ (p : ℕ × (ℕ × Option Granted)). IsSameIf p.0 p.1.0 p.1.1 m.open_tx)
-    (λ i. (ap (λ (x : AtDesk). x.session) u i, (ap (λ (x : AtDesk). x.current) u i, ap (λ (x : AtDesk). x.open_tx) u i))) c.in_err-told.ensures.kept in
+    let same : IsSameIf k.current k.open_tx m.open_tx =
+    subst (λ (p : ℕ × Option Granted). IsSameIf p.0 p.1 m.open_tx) (λ i. (ap (λ (x : AtDesk). x.current) u i, ap (λ (x : AtDesk). x.open_tx) u i)) c.in_err-told.ensures.err.1 in
     let board : b ≡ record { opening = g.St.Store.state c.self.inside.opening; steps = c.self.inside.steps.items; now = g.St.Store.state c.self.inside.store; rows = c.ask.new.locks.rows; first_count = c.self.inside.first_count } =
-    (sym v ∙ (λ i. record { opening = g.St.Store.state c.self.inside.opening; steps = c.self.inside.steps.items; now = g.St.Store.state c.self.inside.store; rows = sym c.in_err-told.ensures.err i; first_count = c.self.inside.first_count })) in
-    on_err c.from_residual.result _ (subst (λ (x : Kept). Agrees x m) board (agree_same b k m c.requires.agree e same))
+    (sym v ∙ (λ i. record { opening = g.St.Store.state c.self.inside.opening; steps = c.self.inside.steps.items; now = g.St.Store.state c.self.inside.store; rows = sym c.in_err-told.ensures.err.0 i; first_count = c.self.inside.first_count })) in
+    on_err c.from_residual.result _ (sym board, subst (λ (x : Kept). Agrees x m) board (agree_same b k m c.requires.agree e same))

@@ -19,49 +19,42 @@ answer-requires-clause-seated g c =
     let s = c.args.session.now in
     let v : Kept = record { opening = g.St.Store.state c.self.inside.opening; steps = c.self.inside.steps.items; now = g.St.Store.state c.self.inside.store; rows = c.self.inside.locks.rows; first_count = c.self.inside.first_count } in
     let vk : c.args.self.now.kept ≡ v = sym (kept_is _ _ c.self.view_is) in
-    let h = subst Stands vk c.requires.stands in
-    let seated = seated_of v s.number s.current s.skipping s.tx h (subst (λ (k : Kept). Sits (world_of k) s.number s.current s.skipping s.tx) vk c.requires.sits) in
+    let h = subst Stands vk c.requires.sits.0 in
+    let seated = seated_of v s.number s.current s.skipping s.tx h (subst (λ (k : Kept). Sits (world_of k) s.number s.current s.skipping s.tx) vk c.requires.sits.1) in
     (world_of v, seated)
 
-pub answer-requires-clause-roomy : goal.answer-requires-clause-roomy
-answer-requires-clause-roomy g c = roomy_line c.args.text.now c.args.session.now.number c.args.stmt.now c.requires.line
-
-pub answer-requires-clause-named : goal.answer-requires-clause-named
-answer-requires-clause-named g c = named_line c.args.text.now c.args.session.now.number c.args.stmt.now c.requires.line
-
-pub returns-in_err-answered-clause-stands : goal.returns-in_err-answered-clause-stands
-returns-in_err-answered-clause-stands g c =
-    let s = c.args.session.now in
-    let v : Kept = record { opening = g.St.Store.state c.self.inside.opening; steps = c.self.inside.steps.items; now = g.St.Store.state c.self.inside.store; rows = c.self.inside.locks.rows; first_count = c.self.inside.first_count } in
-    let vk : c.args.self.now.kept ≡ v = sym (kept_is _ _ c.self.view_is) in
-    let h = subst Stands vk c.requires.stands in
-    let seated = seated_of v s.number s.current s.skipping s.tx h (subst (λ (k : Kept). Sits (world_of k) s.number s.current s.skipping s.tx) vk c.requires.sits) in
-    stands_steps v v.steps c.reserve.new.self.items _ _ c.in_ok-reserve.ensures.items (stands_kept v _ _ _ _ _ _ h (c.in_err-answered.ensures.err (world_of v) seated))
+pub answer-requires-clause-line : goal.answer-requires-clause-line
+answer-requires-clause-line g c =
+    let n = c.args.session.now.number in
+    (roomy_line c.args.text.now n c.args.stmt.now c.requires.line, named_line c.args.text.now n c.args.stmt.now c.requires.line)
 
 pub returns-in_err-answered-clause-sits : goal.returns-in_err-answered-clause-sits
 returns-in_err-answered-clause-sits g c =
     let s = c.args.session.now in
     let v : Kept = record { opening = g.St.Store.state c.self.inside.opening; steps = c.self.inside.steps.items; now = g.St.Store.state c.self.inside.store; rows = c.self.inside.locks.rows; first_count = c.self.inside.first_count } in
     let vk : c.args.self.now.kept ≡ v = sym (kept_is _ _ c.self.view_is) in
-    let h = subst Stands vk c.requires.stands in
-    let seated = seated_of v s.number s.current s.skipping s.tx h (subst (λ (k : Kept). Sits (world_of k) s.number s.current s.skipping s.tx) vk c.requires.sits) in
-    sits_world (world_of v) _ _ _ _ _ (ap (λ (ss : List Step). after (opening v.opening) (saids ss)) c.in_ok-reserve.ensures.items) (c.in_err-answered.ensures.err (world_of v) seated).sits
+    let h = subst Stands vk c.requires.sits.0 in
+    let seated = seated_of v s.number s.current s.skipping s.tx h (subst (λ (k : Kept). Sits (world_of k) s.number s.current s.skipping s.tx) vk c.requires.sits.1) in
+    let still = c.in_err-answered.ensures.err.0.seated (world_of v) seated in (
+      stands_steps v v.steps c.reserve.new.self.items _ _ c.in_ok-reserve.ensures.items (stands_kept v _ _ _ _ _ _ h still),
+      sits_world (world_of v) _ _ _ _ _ (ap (λ (ss : List Step). after (opening v.opening) (saids ss)) c.in_ok-reserve.ensures.items) still.sits,
+    )
 
 pub returns-clause-answered : goal.returns-clause-answered
 returns-clause-answered g c =
     let s = c.args.session.now in
     let v : Kept = record { opening = g.St.Store.state c.self.inside.opening; steps = c.self.inside.steps.items; now = g.St.Store.state c.self.inside.store; rows = c.self.inside.locks.rows; first_count = c.self.inside.first_count } in
     let vk : c.args.self.now.kept ≡ v = sym (kept_is _ _ c.self.view_is) in
-    let h = subst Stands vk c.requires.stands in
-    let seated = seated_of v s.number s.current s.skipping s.tx h (subst (λ (k : Kept). Sits (world_of k) s.number s.current s.skipping s.tx) vk c.requires.sits) in
+    let h = subst Stands vk c.requires.sits.0 in
+    let seated = seated_of v s.number s.current s.skipping s.tx h (subst (λ (k : Kept). Sits (world_of k) s.number s.current s.skipping s.tx) vk c.requires.sits.1) in
     let x = c.args.stmt.now in
     let text = c.args.text.now in
     let a = c.in_ok-answered in
     let z : Bool = a.answered.failed in
-    let r : Reply = a.answered.reply in
-    let re = a.ensures.reply (world_of v) seated in
+    let r : Reply = c.into_both-reply.result.0 in
+    let re = c.into_both-reply.ensures.reply ∙ a.ensures.served.reply (world_of v) seated in
     let steps : c.push_reserved.new.self.items ≡ v.steps ++ step_of text z r ∷ [] =
-    c.push_reserved.ensures.items ∙ (λ i. c.in_ok-reserve.ensures.items i ++ record { line = c.in_ok-line.ensures i; failed = z; reply = a.ensures.copy i } ∷ []) in
+    c.push_reserved.ensures.items ∙ (λ i. c.in_ok-reserve.ensures.items i ++ record { line = c.in_ok-line.ensures i; failed = z; reply = (c.into_both-reply.ensures.copy ∙ sym c.into_both-reply.ensures.reply) i } ∷ []) in
     let N : State = g.St.Store.state c.answer.new.store in
     let heard_is : said_of text false ≡ _ = c.requires.line in (
       z,
@@ -80,48 +73,34 @@ returns-clause-named g c =
     let s = c.args.session.now in
     let v : Kept = record { opening = g.St.Store.state c.self.inside.opening; steps = c.self.inside.steps.items; now = g.St.Store.state c.self.inside.store; rows = c.self.inside.locks.rows; first_count = c.self.inside.first_count } in
     let vk : c.args.self.now.kept ≡ v = sym (kept_is _ _ c.self.view_is) in
-    let h = subst Stands vk c.requires.stands in
-    let seated = seated_of v s.number s.current s.skipping s.tx h (subst (λ (k : Kept). Sits (world_of k) s.number s.current s.skipping s.tx) vk c.requires.sits) in
+    let h = subst Stands vk c.requires.sits.0 in
+    let seated = seated_of v s.number s.current s.skipping s.tx h (subst (λ (k : Kept). Sits (world_of k) s.number s.current s.skipping s.tx) vk c.requires.sits.1) in
     let x = c.args.stmt.now in
     let text = c.args.text.now in
     let a = c.in_ok-answered in
     let z : Bool = a.answered.failed in
-    let r : Reply = a.answered.reply in
-    let re = a.ensures.reply (world_of v) seated in
+    let r : Reply = c.into_both-reply.result.0 in
+    let re = c.into_both-reply.ensures.reply ∙ a.ensures.served.reply (world_of v) seated in
     named_then v s.number x text z r h c.requires.line re
-
-pub returns-clause-stands : goal.returns-clause-stands
-returns-clause-stands g c =
-    let s = c.args.session.now in
-    let v : Kept = record { opening = g.St.Store.state c.self.inside.opening; steps = c.self.inside.steps.items; now = g.St.Store.state c.self.inside.store; rows = c.self.inside.locks.rows; first_count = c.self.inside.first_count } in
-    let vk : c.args.self.now.kept ≡ v = sym (kept_is _ _ c.self.view_is) in
-    let h = subst Stands vk c.requires.stands in
-    let seated = seated_of v s.number s.current s.skipping s.tx h (subst (λ (k : Kept). Sits (world_of k) s.number s.current s.skipping s.tx) vk c.requires.sits) in
-    let x = c.args.stmt.now in
-    let text = c.args.text.now in
-    let a = c.in_ok-answered in
-    let z : Bool = a.answered.failed in
-    let r : Reply = a.answered.reply in
-    let re = a.ensures.reply (world_of v) seated in
-    let steps : c.push_reserved.new.self.items ≡ v.steps ++ step_of text z r ∷ [] =
-    c.push_reserved.ensures.items ∙ (λ i. c.in_ok-reserve.ensures.items i ++ record { line = c.in_ok-line.ensures i; failed = z; reply = a.ensures.copy i } ∷ []) in
-    stands_steps v (v.steps ++ step_of text z r ∷ []) c.push_reserved.new.self.items _ _ steps
-    (stands_then v s.number x text z r h c.requires.line re _ _ _ _ _ _ (a.ensures.seated (world_of v) seated) (a.ensures.stores (world_of v) seated).some)
 
 pub returns-clause-sits : goal.returns-clause-sits
 returns-clause-sits g c =
     let s = c.args.session.now in
     let v : Kept = record { opening = g.St.Store.state c.self.inside.opening; steps = c.self.inside.steps.items; now = g.St.Store.state c.self.inside.store; rows = c.self.inside.locks.rows; first_count = c.self.inside.first_count } in
     let vk : c.args.self.now.kept ≡ v = sym (kept_is _ _ c.self.view_is) in
-    let h = subst Stands vk c.requires.stands in
-    let seated = seated_of v s.number s.current s.skipping s.tx h (subst (λ (k : Kept). Sits (world_of k) s.number s.current s.skipping s.tx) vk c.requires.sits) in
+    let h = subst Stands vk c.requires.sits.0 in
+    let seated = seated_of v s.number s.current s.skipping s.tx h (subst (λ (k : Kept). Sits (world_of k) s.number s.current s.skipping s.tx) vk c.requires.sits.1) in
     let x = c.args.stmt.now in
     let text = c.args.text.now in
     let a = c.in_ok-answered in
     let z : Bool = a.answered.failed in
-    let r : Reply = a.answered.reply in
-    let re = a.ensures.reply (world_of v) seated in
+    let r : Reply = c.into_both-reply.result.0 in
+    let re = c.into_both-reply.ensures.reply ∙ a.ensures.served.reply (world_of v) seated in
     let steps : c.push_reserved.new.self.items ≡ v.steps ++ step_of text z r ∷ [] =
-    c.push_reserved.ensures.items ∙ (λ i. c.in_ok-reserve.ensures.items i ++ record { line = c.in_ok-line.ensures i; failed = z; reply = a.ensures.copy i } ∷ []) in
-    sits_world (after (opening v.opening) (saids (v.steps ++ step_of text z r ∷ []))) _ _ _ _ _ (ap (λ (ss : List Step). after (opening v.opening) (saids ss)) steps)
-    (sits_then v s.number x text z r h c.requires.line re _ _ _ _ _ _ (a.ensures.seated (world_of v) seated) (a.ensures.stores (world_of v) seated).some)
+    c.push_reserved.ensures.items ∙ (λ i. c.in_ok-reserve.ensures.items i ++ record { line = c.in_ok-line.ensures i; failed = z; reply = (c.into_both-reply.ensures.copy ∙ sym c.into_both-reply.ensures.reply) i } ∷ []) in
+    let seated_then = a.ensures.served.seated (world_of v) seated in
+    let some = (a.ensures.stores (world_of v) seated).some in (
+      stands_steps v (v.steps ++ step_of text z r ∷ []) c.push_reserved.new.self.items _ _ steps (stands_then v s.number x text z r h c.requires.line re _ _ _ _ _ _ seated_then some),
+      sits_world (after (opening v.opening) (saids (v.steps ++ step_of text z r ∷ []))) _ _ _ _ _ (ap (λ (ss : List Step). after (opening v.opening) (saids ss)) steps)
+          (sits_then v s.number x text z r h c.requires.line re _ _ _ _ _ _ seated_then some),
+    )
