@@ -123,8 +123,11 @@ impl<St: Store> Tx<St> {
         requires untouched { self.old.overlays ≡ untouched }
         requires viewable { IsViewable (St.View.table view) (St.View.parts_of view) }
         requires wide { length (St.View.table view) ≡ length self.old.schema }
-        ensures { self.new ≡ record self.old { held = Some
-            (exclusive, full); head = St.View.table view } }
+        ensures { self.new ≡ record self.old {
+          held = Some
+              (exclusive, full);
+          head = St.View.table view;
+        } }
     {
         self.work.rest_on(view);
         self.held = Some(Held { exclusive, full });
@@ -133,8 +136,10 @@ impl<St: Store> Tx<St> {
     /// Lends it the view of a version under its name.
     pub fn lend(&mut self, name: VersionName, view: St::View) -> Result<(), AllocError>
         requires { length (St.View.table view) ≡ length self.old.schema }
-        ensures ok { OnOk result (self.new ≡ record self.old { lent = self.old.lent
-            ++ (name, St.View.table view) ∷ [] }) }
+        ensures ok { OnOk result (self.new ≡ record self.old {
+          lent = self.old.lent
+              ++ (name, St.View.table view) ∷ [];
+        }) }
         ensures err { OnErr result (self.new ≡ self.old) }
     {
         self.lent.push(name, view)?;

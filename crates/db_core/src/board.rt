@@ -11,8 +11,8 @@ ghost use Rattle.db_core.specs.Sits.{heard, unheard};
 ghost use Rattle.db_core.specs.Sessions.{SitsOn};
 
 use crate::desk::Desk;
-use crate::session::{Grant, Session, answer, ask, close, finish};
 use crate::local::why_bad;
+use crate::session::{Grant, Session, answer, ask, close, finish};
 use db_store::Store;
 use db_value::{LineText, Name, Refusal, Reply, Schema, Step, VersionName};
 use entry_codec::Log;
@@ -311,9 +311,11 @@ impl<St: Store, J: Log<St>> Board<St, J> {
         ensures answer { IfOk result (λ r.
             r ≡ grant_of (dataset_of self.old.kept.now) (holder_for self.old.kept desk.old stmt.now)) }
         ensures log { self.new.log ≡ self.old.log }
-        ensures rows { OnOk result (self.new.kept ≡ record self.old.kept { rows = rows_by
-            (holder_for self.old.kept desk.old stmt.now) desk.old.session
-            (needs_for self.old.kept desk.old stmt.now) self.old.kept.rows }) }
+        ensures rows { OnOk result (self.new.kept ≡ record self.old.kept {
+          rows = rows_by
+              (holder_for self.old.kept desk.old stmt.now) desk.old.session
+              (needs_for self.old.kept desk.old stmt.now) self.old.kept.rows;
+        }) }
         ensures desk { desk.new ≡ record desk.old { open_tx = desk.new.open_tx } }
         ensures held { IfOk result (λ r. r ≢ Grant.Granted → desk.new ≡ desk.old) }
         ensures granted { IfOk result (λ r. r ≡ Grant.Granted

@@ -9,8 +9,8 @@ ghost use Rattle.branch_tx.specs.Granted.{has_done};
 ghost use Rattle.line_needs.specs.Needs.{lock_of, exclusive, needs};
 ghost use Rattle.store_tx.specs.Keeps.{HasNeeds, IsBack, IsMore, needs_in};
 
-use crate::twice::{Twice, copied, refusal, refused};
 use crate::granting::{grant, grant_head, head_place};
+use crate::twice::{Twice, copied, refusal, refused};
 use branch_tx::Tx;
 use db_store::Store;
 use db_value::{Name, Prefer, Refusal, Reply};
@@ -222,4 +222,3 @@ pub fn go_on<St: Store>(
         }
     }
 }
-

@@ -44,8 +44,8 @@ returns-clause-tx g c =
     c.head_place-from.ensures.place c.head_place.ensures.place c.in_ok-at.ensures.common c.in_ok-base.ensures.table c.in_ok-right.ensures.table in
     record {
       tx = ap tx_in c.in_ok-reply.ensures.left
-      ∙ merged_is c.grant_head.new.tx c.head_place-from.result c.args.prefer (g.St.View.View.table c.in_ok-base.base) (g.St.View.View.table c.in_ok-right.right)
-      ∙ ap (λ (o : Outcome (List Overlay)). o.tx) same;
+          ∙ merged_is c.grant_head.new.tx c.head_place-from.result c.args.prefer (g.St.View.View.table c.in_ok-base.base) (g.St.View.View.table c.in_ok-right.right)
+          ∙ ap (λ (o : Outcome (List Overlay)). o.tx) same;
       keeps = λ rows s k n.
           subst (Keeps d rows s b) (sym c.in_ok-reply.ensures.left) (merged_keeps d rows s b c.grant_head.new.tx (merged c.grant_head.new.tx c.head_place-from.result c.args.prefer (g.St.View.View.table c.in_ok-base.base) (g.St.View.View.table c.in_ok-right.right)) (c.in_ok-grant_head.ensures.alone refl) (c.in_ok-grant_head.ensures.keeps rows s k (n (exclusive (lock_of b)) (inl refl))));
     }

@@ -77,16 +77,18 @@ returns-in_err-reply-clause-err g c = on_err c.from_residual-in_err-reply.result
     let current : s.current ≡ k0.current = sym e.sits.1.current_is ∙ (λ i. (((ap world_of kept ∙ sym same) i).desks (number i)).current) ∙ a.sits.current_is in
     let skipping : s.skipping ≡ k0.skipping = sym e.sits.1.skipping_is ∙ (λ i. (((ap world_of kept ∙ sym same) i).desks (number i)).skipping) ∙ a.sits.skipping_is in
     let desk = c.desk.view_is ∙ c.in_ok-enter.ensures.cleared in
-    let log = ap (λ (l : Logged g.row.J.Denot). l.log) e.err ∙ c.enter.ensures.log in
-    (inr (
-      kept ∙ c.in_ok-enter.ensures.ok,
-      (λ i. record {
-        session = number i;
-        current = current i;
-        name = (c.desk.view_is i).name;
-        skipping = skipping i;
-        open_tx = s.tx;
-        schema = (c.desk.view_is i).schema;
-        waiting = (c.desk.view_is i).waiting;
-      }) ∙ ap (λ (m : AtDesk). record m { open_tx = s.tx }) c.in_ok-enter.ensures.cleared,
-    ), log))
+    let log = ap (λ (l : Logged g.row.J.Denot). l.log) e.err ∙ c.enter.ensures.log in (
+      inr (
+        kept ∙ c.in_ok-enter.ensures.ok,
+        (λ i. record {
+          session = number i;
+          current = current i;
+          name = (c.desk.view_is i).name;
+          skipping = skipping i;
+          open_tx = s.tx;
+          schema = (c.desk.view_is i).schema;
+          waiting = (c.desk.view_is i).waiting;
+        }) ∙ ap (λ (m : AtDesk). record m { open_tx = s.tx }) c.in_ok-enter.ensures.cleared,
+      ),
+      log,
+    ))
