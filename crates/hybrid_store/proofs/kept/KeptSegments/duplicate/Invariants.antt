@@ -1,0 +1,9 @@
+use Rattle.std.proofs.Common.{◌≡◌, ◌≤◌, take}
+use Rattle.std.specs.Prelude.{vec_capacity}
+use Rattle.hybrid_store.proofs.kept.KeptSegments.duplicate.Given as goal
+
+abbrev pub invariant-loop-kept : goal.invariant-loop-kept
+invariant-loop-kept l = record {
+  same : l.items.items ≡ take l.kept-index l.self.all;
+  room : 2048 ≤ vec_capacity l.items;
+}

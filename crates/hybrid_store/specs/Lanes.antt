@@ -1,0 +1,69 @@
+-- The layout of what a store keeps.
+use Rattle.std.specs.Prelude.{ℕ, List, [], map, Option, None, refl}
+use Rattle.std.specs.Coded.{Coded, code_by, coded×, coded_ℕ, coded_list, coded_option}
+use Rattle.std.proofs.Common.{get_or}
+use Rattle.record_page.specs.Page.{Rows, rows_code}
+use Rattle.db_value.specs.declared.schema.Relation.{Relation}
+use Rattle.db_value.specs.declared.version.VersionPlace.{VersionPlace}
+use Rattle.db_store.specs.Layout.{Segment, Lane, Layout, by_relation}
+use Rattle.hybrid_store.specs.Kept.{KeptLane, kept_rows, laid_row}
+
+-- a segment, and the branch whose head it is
+pub record KeptRecords : Type 0 where
+  pub head : Option ℕ
+  pub rows : Rows
+
+-- the segments of a relation, and for how many in all there is room
+pub record KeptList : Type 0 where
+  pub all : List KeptRecords
+  pub room : ℕ
+
+-- these can be told apart
+abbrev pub kept_records_code : Coded KeptRecords
+kept_records_code = code_by (Option ℕ × Rows) (coded× (coded_option coded_ℕ) rows_code) (λ k. (k.head, k.rows)) (λ p. record { head = p.0; rows = p.1 }) (λ _. refl)
+
+abbrev pub kept_list_code : Coded KeptList
+kept_list_code = code_by (List KeptRecords × ℕ) (coded× (coded_list kept_records_code) coded_ℕ) (λ k. (k.all, k.room)) (λ p. record { all = p.0; room = p.1 }) (λ _. refl)
+
+-- what stands past the last segment
+abbrev pub no_rows : KeptRecords
+no_rows = record { head = None; rows = record { fields = 0; records = [] } }
+
+-- and past the last relation
+abbrev pub no_list : KeptList
+no_list = record { all = []; room = 0 }
+
+-- a segment as the layout has it
+abbrev pub segment_of : KeptRecords → Segment
+segment_of k = record { head = k.head; records = k.rows.records }
+
+-- a branch as the layout has it
+abbrev pub lane_of : List Relation → KeptLane → Lane
+lane_of schema k = record {
+  name = k.name;
+  origin = k.origin;
+  base = k.base;
+  seconds = k.seconds;
+  rows = by_relation schema (λ r. map laid_row (kept_rows k r));
+}
+
+-- the layout of branches and segments
+abbrev pub kept_layout : List Relation → List KeptLane → List VersionPlace → List KeptList → Layout
+kept_layout schema lanes order segments = record {
+  schema = schema;
+  lanes = map (lane_of schema) lanes;
+  order = order;
+  segments = by_relation schema (λ r. map segment_of (get_or segments r no_list).all);
+}
+
+-- each branch brings two segments at most
+abbrev pub most_segments : ℕ
+most_segments = 2048
+
+-- a segment by its number
+abbrev pub kept_at : List KeptRecords → ℕ → KeptRecords
+kept_at ks s = get_or ks s no_rows
+
+-- the segments of a relation
+abbrev pub list_at : List KeptList → ℕ → List KeptRecords
+list_at segments r = (get_or segments r no_list).all

@@ -1,0 +1,6 @@
+pub mod Short
+pub mod Kept
+pub mod Lanes
+pub mod New
+pub mod Stored
+pub mod Store

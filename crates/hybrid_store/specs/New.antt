@@ -1,0 +1,13 @@
+-- What a new store keeps.
+use Rattle.std.specs.Prelude.{ℕ, List, []}
+use Rattle.std.proofs.Common.{get_or}
+use Rattle.record_page.specs.Page.{Rows}
+use Rattle.hybrid_view.specs.Live.{Lived, empty_lived}
+
+-- the records of a relation's head
+abbrev pub own_at : List Rows → ℕ → Rows
+own_at owns r = get_or owns r (record { fields = 0; records = [] })
+
+-- what master has at first of a relation: its head, segment 0
+abbrev pub first_lived : Rows → Lived
+first_lived own = empty_lived (record { segment = 0; rows = own; bits = [] })

@@ -1,0 +1,94 @@
+-- What holds of what a store keeps.
+use Rattle.std.specs.Prelude.{◌≡◌, ℕ, ◌+◌, ◌*◌, ◌-◌, ◌<◌, ◌≤◌, ◌==◌, ◌^◌, List, length, map}
+use Rattle.std.proofs.Common.{get_or}
+use Rattle.db_value.specs.Relations.{columns_at}
+use Rattle.db_value.specs.declared.schema.Relation.{Relation}
+use Rattle.db_value.specs.declared.version.VersionPlace.{VersionPlace}
+use Rattle.db_store.specs.Dataset.{Dataset}
+use Rattle.plain_bits.specs.Truth.{bit_of}
+use Rattle.db_store.specs.Layout.{Segment, Row, dataset_in, differ, slots_where}
+use Rattle.db_store.specs.LayoutGrowth.{is_head_of, puts}
+use Rattle.db_store.specs.LaidOut.{head_at, row_at}
+use Rattle.hybrid_view.specs.Live.{Lived, Piece, piece_at, lived_at, IsLived}
+use Rattle.hybrid_view.specs.RowPlaces.{Shows, IsWhole, AllNext}
+use Rattle.hybrid_view.specs.Struck.{touched_places}
+use Rattle.db_value.specs.declared.entry.Change.{Change}
+use Rattle.commit_history.specs.Runs.{Next, next_of}
+use Rattle.hybrid_view.specs.Deltas.{slots_of}
+use Rattle.hybrid_store.specs.Short.{shortest}
+use Rattle.hybrid_store.specs.Kept.{KeptRow, KeptLane, no_kept, kept_row_at, kept_rows, laid_row, next_at, nexts_at}
+use Rattle.hybrid_store.specs.Lanes.{KeptList, no_list, segment_of, list_at, kept_at, kept_layout, most_segments}
+
+-- the dataset of branches and segments
+abbrev pub kept_dataset : List Relation → List KeptLane → List VersionPlace → List KeptList → Dataset
+kept_dataset schema lanes order segments = dataset_in (kept_layout schema lanes order segments)
+
+-- the number of a branch's head: its last row is of it
+abbrev pub head_in : List KeptRow → ℕ
+head_in rows = (kept_row_at rows (length rows - 1)).segment
+
+abbrev pub head_of_lane : KeptLane → ℕ → ℕ
+head_of_lane k r = head_in (kept_rows k r)
+
+-- pieces show rows, each the one at its place
+pub record Show (ss : List Segment) (n : ℕ) (rows : List Row) (ps : List Piece) : Type 0 where
+  pub count : length ps ≡ length rows
+  pub each : (i : ℕ) → i < length rows → Shows ss n (row_at rows i) (piece_at ps i)
+
+-- the pieces have so few records that their ids differ
+abbrev pub AreSmall : Lived → Type 0
+AreSmall l = (i : ℕ) → i < length l.pieces → length (piece_at l.pieces i).rows.records < 2 ^ 32
+
+-- what a branch has of a relation at its last position: pieces that show its rows, of which the last one is its head's, with all records of it
+pub record IsKeptAt (ss : List Segment) (columns b n : ℕ) (rows : List KeptRow) (l : Lived) : Type 0 where
+  pub some : 0 < length rows
+  pub headed : (s : ℕ) → s < length ss → is_head_of b (head_at ss s) ≡ (s == head_in rows)
+  pub short : (i : ℕ) → i < length rows → map shortest (map slots_of (kept_row_at rows i).deltas) ≡ (kept_row_at rows i).deltas
+  pub shown : Show ss n (map laid_row rows) l.pieces
+  pub whole : IsWhole ss (head_in rows) l.pieces
+  pub lived : IsLived l
+  pub small : AreSmall l
+  pub fields : (i : ℕ) → i < length l.pieces → (piece_at l.pieces i).rows.fields ≡ columns
+
+-- a branch that is kept
+pub record IsKept (schema : List Relation) (segments : List KeptList) (b : ℕ) (k : KeptLane) : Type 0 where
+  pub rows : length k.rows ≡ length schema
+  pub head : length k.head ≡ length schema
+  pub at : (r : ℕ) → r < length schema → IsKeptAt (map segment_of (list_at segments r)) (length (columns_at schema r)) b (length k.seconds - 1) (kept_rows k r) (lived_at k.head r)
+
+-- each relation has its segments, with room for all that there can be, and each branch is kept
+pub record IsStored (schema : List Relation) (lanes : List KeptLane) (segments : List KeptList) : Type 0 where
+  pub wide : length segments ≡ length schema
+  pub room : (r : ℕ) → r < length schema → most_segments ≤ (get_or segments r no_list).room
+  pub few : (r : ℕ) → r < length schema → length (list_at segments r) ≤ 2 * length lanes
+  pub fields : (r s : ℕ) → r < length schema → s < length (list_at segments r) → (kept_at (list_at segments r) s).rows.fields ≡ length (columns_at schema r)
+  pub each : (b : ℕ) → b < length lanes → IsKept schema segments b (get_or lanes b no_kept)
+
+-- room for so many versions more
+abbrev pub HasRoom : ℕ → KeptLane → Type 0
+HasRoom more k = length k.seconds + more ≤ k.room
+
+-- the same branch, with no less room
+abbrev pub Widens : KeptLane → KeptLane → Type 0
+Widens old new = (new ≡ record old { room = new.room }) × (old.room ≤ new.room)
+
+-- the slots in which two pieces differ, where the second one is longer
+abbrev pub difference_of : Piece → Piece → List ℕ
+difference_of p q = slots_where (λ slot. differ (bit_of p.bits slot) (bit_of q.bits slot)) (length q.bits)
+
+-- what is ready for rows is what pieces and others differ in
+pub record AreDifferences (rows : List KeptRow) (nexts : List Next) (ps qs : List Piece) : Type 0 where
+  pub count : length nexts ≡ length rows
+  pub each : (i : ℕ) → i < length rows → next_at nexts i ≡ next_of (kept_row_at rows i).deltas (shortest (difference_of (piece_at ps i) (piece_at qs i)))
+
+-- what a branch has of a relation after changes, by what it had
+abbrev pub IsNextAt : KeptLane → List Change → ℕ → Lived → Type 0
+IsNextAt k cs r l = AllNext (touched_places (lived_at k.head r).pieces cs r) (head_of_lane k r) (puts cs r) (lived_at k.head r).pieces l.pieces
+
+-- the same in the first relations
+abbrev pub AllNextIn : KeptLane → List Change → ℕ → List Lived → Type 0
+AllNextIn k cs n ls = (r : ℕ) → r < n → IsNextAt k cs r (lived_at ls r)
+
+-- and what is ready for its rows
+abbrev pub AllDifferences : KeptLane → List (List Next) → ℕ → List Lived → Type 0
+AllDifferences k nexts n ls = (r : ℕ) → r < n → AreDifferences (kept_rows k r) (nexts_at nexts r) (lived_at k.head r).pieces (lived_at ls r).pieces

@@ -1,0 +1,138 @@
+//! The segments of a relation.
+ghost use Rattle.std.specs.Prelude.{◌≡◌, ◌≤◌, ◌<◌, ◌++◌, ◌∷◌, [], length, set, IfOk, Some, None};
+ghost use Rattle.std.specs.Arc.{arc_value};
+ghost use Rattle.hybrid_store.specs.Lanes.{most_segments, kept_at};
+
+use segment::Segment;
+use std::alloc::{AllocError, Global};
+use std::marker::Model;
+use std::sync::Arc;
+
+/// The most segments of a relation: each branch brings two at most.
+const MOST_SEGMENTS: usize = 2048;
+
+/// A segment, and the branch whose head it is.
+#[derive(Drop)]
+pub struct KeptSegment {
+    head: Option<u32>,
+    records: Arc<Segment>,
+}
+
+impl Model for KeptSegment {
+    ghost use Rattle.std.specs.Arc.{arc_value};
+    ghost use Rattle.hybrid_store.specs.Lanes.{KeptRecords, kept_records_code};
+
+    ghost Value = { KeptRecords };
+
+    ghost coded = { kept_records_code };
+
+    ghost view = { λ k. record { head = k.head; rows = arc_value k.records } };
+}
+
+impl KeptSegment {
+    /// The branch whose head it is.
+    pub fn head(&self) -> Option<u32>
+        ensures { result ≡ self.now.head }
+    {
+        self.head
+    }
+
+    /// Its records.
+    pub fn records(&self) -> &Segment
+        ensures { result.now ≡ self.now.rows }
+    {
+        &self.records
+    }
+
+    /// A link to its records.
+    pub fn share(&self) -> Result<Arc<Segment>, AllocError>
+        ensures { IfOk result (λ s. arc_value s ≡ self.now.rows) }
+    {
+        Arc::try_clone(&self.records)
+    }
+
+    /// The same segment, which shares its records with this one.
+    pub fn duplicate(&self) -> Result<KeptSegment, AllocError>
+        ensures { IfOk result (λ k. k ≡ self.now) }
+    {
+        Ok(KeptSegment {
+            head: self.head,
+            records: self.share()?,
+        })
+    }
+}
+
+/// The segments of a relation, with room for all that there can be.
+#[derive(Drop)]
+pub struct KeptSegments {
+    items: Vec<KeptSegment>,
+}
+
+impl Model for KeptSegments {
+    ghost use Rattle.std.specs.Prelude.{vec_capacity};
+    ghost use Rattle.hybrid_store.specs.Lanes.{KeptList, kept_list_code};
+
+    ghost Value = { KeptList };
+
+    ghost coded = { kept_list_code };
+
+    ghost view = { λ k. record { all = k.items.items; room = vec_capacity k.items } };
+}
+
+impl KeptSegments {
+    /// No segments.
+    pub fn with_room(alloc: Global) -> Result<KeptSegments, AllocError>
+        ensures all { IfOk result (λ k. k.all ≡ []) }
+        ensures room { IfOk result (λ k. most_segments ≤ k.room) }
+    {
+        Ok(KeptSegments {
+            items: Vec::with_capacity(alloc, MOST_SEGMENTS)?,
+        })
+    }
+
+    /// The segments.
+    pub fn as_slice(&self) -> &[KeptSegment]
+        ensures { result.now ≡ self.now.all }
+    {
+        &self.items
+    }
+
+    /// The same segments, which share their records with these.
+    pub fn duplicate(&self, alloc: Global) -> Result<KeptSegments, AllocError>
+        ensures all { IfOk result (λ k. k.all ≡ self.now.all) }
+        ensures room { IfOk result (λ k. most_segments ≤ k.room) }
+    {
+        let mut items = Vec::with_capacity(alloc, MOST_SEGMENTS)?;
+        for kept in &self.items {
+            items.push(kept.duplicate()?)?;
+        }
+        Ok(KeptSegments { items })
+    }
+
+    /// Gives a segment these records.
+    pub fn put(&mut self, segment: u32, records: Arc<Segment>)
+        requires { segment < length self.old.all }
+        ensures { self.new ≡ record self.old { all = set self.old.all segment (record (kept_at self.old.all segment) { rows = arc_value records }) } }
+    {
+        self.items[segment as usize].records = records;
+    }
+
+    /// The segment is the head of no branch from now on.
+    pub fn close(&mut self, segment: u32)
+        requires { segment < length self.old.all }
+        ensures { self.new ≡ record self.old { all = set self.old.all segment (record (kept_at self.old.all segment) { head = None }) } }
+    {
+        self.items[segment as usize].head = None;
+    }
+
+    /// Adds the head of a branch. It takes no memory.
+    pub fn add(&mut self, branch: u32, records: Arc<Segment>)
+        requires { length self.old.all < self.old.room }
+        ensures { self.new ≡ record self.old { all = self.old.all ++ record { head = Some branch; rows = arc_value records } ∷ [] } }
+    {
+        self.items.push_reserved(KeptSegment {
+            head: Some(branch),
+            records,
+        });
+    }
+}

@@ -1,0 +1,23 @@
+//! A store that keeps a dataset as a layout: records in segments that branches share, and for each
+//! branch rows of bits over them. It can be begun and read so far; it takes no entries yet.
+//!
+//! The layer above relies on one equation: the state of a `HybridStore` is its layout (`state_of` in
+//! `specs/Store.antt`), which begins as the new one.
+//!
+//! | file | has |
+//! |---|---|
+//! | `specs/Kept.antt`, `specs/Lanes.antt`, `specs/Store.antt` | what it keeps, and the layout of it |
+//! | `specs/Stored.antt` | what holds of what it keeps |
+//! | `specs/Short.antt` | the shortest bitmap of some slots |
+//! | `src/store.rt`, `src/new.rt` | the store, and a new one |
+//! | `src/kept.rt` | the segments of a relation |
+//! | `src/rows.rt`, `src/lane.rt` | rows of bits with their histories, and a branch |
+#![tactic(auto)]
+
+mod kept;
+mod lane;
+mod new;
+mod rows;
+mod store;
+
+pub use store::HybridStore;

@@ -1,0 +1,325 @@
+//! The store.
+ghost use Rattle.std.specs.Prelude.{◌≡◌, ◌<◌, ◌≤◌, ◌+◌, ◌^◌, ◌&&◌, nat_lt, length, IfOk, IfSome, vec_len, vec_capacity};
+ghost use Rattle.std.specs.FinMap.{len};
+ghost use Rattle.std.specs.List.{All};
+ghost use Rattle.std.specs.Arc.{arc_value};
+ghost use Rattle.std.proofs.Common.{get_or};
+ghost use Rattle.db_value.specs.declared.entry.Entry.TheVariants.{Commit};
+ghost use Rattle.db_value.specs.Schema.{most_relations};
+ghost use Rattle.db_store.specs.Dataset.{branch_at, branch_named, version_at, head_of, last_of, proper, proper_if, first_parent, second_parent, is_made, IsMade};
+ghost use Rattle.db_store.specs.Fits.{fits, second_fits, most_branches, most_versions};
+ghost use Rattle.db_store.specs.Sound.{IsSound};
+ghost use Rattle.db_store.specs.Counted.{IsCounted};
+ghost use Rattle.db_store.specs.Layout.{new_layout};
+ghost use Rattle.db_store.specs.LaidOut.{IsLaid};
+ghost use Rattle.db_store.specs.Order.{common, numbers_if, number_of, lineage, IsOrdered};
+ghost use Rattle.db_store.specs.Parts.{AreOf};
+ghost use Rattle.db_store.specs.State.{laid};
+ghost use Rattle.hybrid_view.specs.Live.{table_of, parts_in, lived_at};
+ghost use Rattle.store_catalogue.specs.Numbers.{list_if};
+ghost use Rattle.store_catalogue.specs.ByName.{AreNumbers};
+ghost use Rattle.hybrid_store.specs.Kept.{no_kept};
+ghost use Rattle.hybrid_store.specs.Lanes.{kept_layout};
+ghost use Rattle.hybrid_store.specs.Stored.{kept_dataset, IsStored, HasRoom};
+
+use crate::kept::KeptSegments;
+use crate::lane::HybridLane;
+use crate::new::{ROOT, new_heads, new_lane, new_segments};
+use db_store::Parents;
+use db_value::{Change, Entry, Name, Schema, VersionPlace};
+use hybrid_view::HybridView;
+use std::alloc::{AllocError, Global};
+use store_catalogue::{BranchNames, changes_fit, is_within, makes_version, new_graph, number_in};
+use version_graph::Graph;
+
+/// The most branches.
+const MOST_BRANCHES: usize = 1024;
+
+/// The most versions of a branch.
+const MOST_VERSIONS: usize = 65_536;
+
+/// A hybrid store keeps records in segments, which branches share, and for each branch rows of bits
+/// over them. A commit appends to the heads of its branch; a branch copies no record.
+#[derive(Drop)]
+pub struct HybridStore {
+    alloc: Global,
+    schema: Schema,
+    lanes: Vec<HybridLane>,
+    segments: Vec<KeptSegments>,
+    names: BranchNames,
+    order: Vec<VersionPlace>,
+    graph: Graph,
+    spare: usize,
+    ghost laid: { IsLaid (kept_layout schema lanes.items order.items segments.items) },
+    ghost stored: { IsStored schema lanes.items segments.items },
+    ghost sound: { IsSound (kept_dataset schema lanes.items order.items segments.items) },
+    ghost counted: { IsCounted (kept_dataset schema lanes.items order.items segments.items) },
+    ghost few_relations: { length schema ≤ most_relations },
+    ghost branch_room: { most_branches ≤ vec_capacity lanes },
+    ghost named: { AreNumbers names.numbers (kept_dataset schema lanes.items order.items segments.items) },
+    ghost names_count: { len names.numbers ≡ length lanes.items },
+    ghost names_room: { most_branches ≤ names.room },
+    ghost rooms: { All (HasRoom spare) lanes.items },
+    ghost order_room: { vec_len order + spare ≤ vec_capacity order },
+    ghost ordered: { IsOrdered (kept_dataset schema lanes.items order.items segments.items) },
+    ghost lined: { graph.versions ≡ lineage (kept_dataset schema lanes.items order.items segments.items) },
+    ghost graph_room: { spare ≤ graph.spare },
+    ghost numbered: { length order.items + spare < 2 ^ 32 },
+}
+
+#[tactic(auto, using(crate::proofs::StoredLemmas::kept_count, crate::proofs::StoredLemmas::kept_name, crate::proofs::StoredLemmas::kept_base, crate::proofs::StoredLemmas::kept_versions, crate::proofs::StoredLemmas::kept_second))]
+impl HybridStore {
+    ghost use Rattle.hybrid_store.specs.Store.{layout_of, dataset_in, state_of, spare_of};
+
+    /// A store of the new dataset of a schema: master alone, with an empty head in each relation.
+    pub fn new(alloc: Global, schema: Schema) -> Result<HybridStore, AllocError>
+        ensures state { IfOk result (λ s. state_of s ≡ laid (new_layout schema)) }
+        ensures spare { IfOk result (λ s. spare_of s ≡ 0) }
+    {
+        let Some(name) = Name::read(b"master") else {
+            return Err(AllocError);
+        };
+        let heads = new_heads(alloc, schema.relations())?;
+        let segments = new_segments(alloc, &heads)?;
+        let master = new_lane(alloc, name, &heads)?;
+        let mut lanes = Vec::with_capacity(alloc, MOST_BRANCHES)?;
+        lanes.push(master)?;
+        let mut names = BranchNames::with_room(alloc, MOST_BRANCHES)?;
+        names.add(name, 0);
+        let mut order = Vec::new(alloc);
+        order.push(ROOT)?;
+        let graph = new_graph(alloc)?;
+        Ok(HybridStore {
+            alloc,
+            schema,
+            lanes,
+            segments,
+            names,
+            order,
+            graph,
+            spare: 0,
+        })
+    }
+
+    // A branch.
+    fn lane(&self, branch: u32) -> &HybridLane
+        requires { branch < length self.now.lanes.items }
+        ensures lane { result.now ≡ get_or self.now.lanes.items branch no_kept }
+        ensures name { result.now.name ≡ (branch_at (dataset_in self.now) branch).name }
+        ensures base { result.now.base ≡ (branch_at (dataset_in self.now) branch).base }
+        ensures count { length result.now.seconds ≡ length (branch_at (dataset_in self.now) branch).versions }
+        ensures rooted { 0 < length result.now.seconds }
+        ensures few { length result.now.seconds ≤ most_versions }
+    {
+        &self.lanes[branch as usize]
+    }
+
+    // How many relations.
+    fn width(&self) -> u8
+        ensures { result ≡ length self.now.schema }
+    {
+        self.segments.len() as u8
+    }
+
+    /// The schema.
+    pub fn schema(&self) -> &Schema
+        ensures { result.now ≡ (dataset_in self.now).schema }
+    {
+        &self.schema
+    }
+
+    /// How many branches there are.
+    pub fn branches(&self) -> u32
+        ensures { result ≡ length (dataset_in self.now).branches }
+    {
+        self.lanes.len() as u32
+    }
+
+    /// The branch with a name, numbered from 0 in the order made.
+    pub fn branch(&self, name: &Name) -> Option<u32>
+        ensures { result ≡ branch_named (dataset_in self.now) name.now }
+    {
+        self.names.number(name)
+    }
+
+    /// The name of a branch.
+    pub fn branch_name(&self, branch: u32) -> Name
+        requires { branch < length (dataset_in self.now).branches }
+        ensures { result ≡ (branch_at (dataset_in self.now) branch).name }
+    {
+        self.lane(branch).name()
+    }
+
+    /// The last position of a branch.
+    pub fn last(&self, branch: u32) -> u32
+        requires { branch < length (dataset_in self.now).branches }
+        ensures { result ≡ last_of (dataset_in self.now) branch }
+    {
+        (self.lane(branch).count() - 1) as u32
+    }
+
+    /// Is the place made?
+    pub fn is_made(&self, at: VersionPlace) -> bool
+        ensures { result ≡ is_made (dataset_in self.now) at }
+    {
+        (at.branch as usize) < self.lanes.len()
+            && (at.position as usize) < self.lane(at.branch).count()
+    }
+
+    // Is a second parent made, if there is one?
+    fn second_fits(&self, second: &Option<VersionPlace>) -> bool
+        ensures { result ≡ second_fits (dataset_in self.now) second.now }
+    {
+        match second {
+            None => true,
+            Some(at) => self.is_made(*at),
+        }
+    }
+
+    // Is the branch there, with room for a version?
+    fn has_room(&self, branch: u32) -> bool
+        ensures { result ≡ (nat_lt branch (length (dataset_in self.now).branches) && nat_lt (length (branch_at (dataset_in self.now) branch).versions) most_versions) }
+    {
+        (branch as usize) < self.lanes.len() && self.lane(branch).count() < MOST_VERSIONS
+    }
+
+    /// Where the version at a made place was made.
+    pub fn made_at(&self, at: VersionPlace) -> VersionPlace
+        requires { IsMade (dataset_in self.now) at }
+        ensures { result ≡ proper (dataset_in self.now) at }
+    {
+        if at.position == 0 {
+            self.lane(at.branch).base()
+        } else {
+            at
+        }
+    }
+
+    fn second_at(&self, at: Option<VersionPlace>) -> Option<VersionPlace>
+        requires { IfSome at (λ p. IsMade (dataset_in self.now) p) }
+        ensures { result ≡ proper_if (dataset_in self.now) at }
+    {
+        match at {
+            None => None,
+            Some(at) => Some(self.made_at(at)),
+        }
+    }
+
+    // The number of the version at a made place.
+    fn number(&self, at: VersionPlace) -> u32
+        requires { IsMade (dataset_in self.now) at }
+        ensures number { result ≡ number_of (dataset_in self.now) at }
+        ensures there { result < length self.now.graph.versions }
+    {
+        number_in(&self.order, self.made_at(at))
+    }
+
+    fn number_if(&self, at: Option<VersionPlace>) -> Option<u32>
+        requires { IfSome at (λ p. IsMade (dataset_in self.now) p) }
+        ensures number { list_if result ≡ numbers_if (dataset_in self.now).order (proper_if (dataset_in self.now) at) }
+        ensures there { IfSome result (λ n. n < length self.now.graph.versions) }
+    {
+        match at {
+            None => None,
+            Some(at) => Some(self.number(at)),
+        }
+    }
+
+    /// Of the versions that are ancestors of those at both places, the one made last.
+    pub fn common(&self, a: VersionPlace, b: VersionPlace) -> Result<VersionPlace, AllocError>
+        requires a_made { IsMade (dataset_in self.now) a }
+        requires b_made { IsMade (dataset_in self.now) b }
+        ensures common { IfOk result (λ c. c ≡ common (dataset_in self.now) a b) }
+        ensures made { IfOk result (λ c. IsMade (dataset_in self.now) c) }
+    {
+        let last = self.graph.common(self.number(a), self.number(b))?;
+        Ok(self.order[last as usize])
+    }
+
+    // The view of a branch's last version.
+    fn head(&self, branch: u32) -> &HybridView
+        requires { branch < length self.now.lanes.items }
+        ensures table { table_of (arc_value result.now.table) ≡ head_of (dataset_in self.now) branch }
+        ensures wide { length (table_of (arc_value result.now.table)) ≡ length self.now.schema }
+        ensures parts { AreOf (state_of self.now) (λ r. parts_in (lived_at (arc_value result.now.table) r)) }
+    {
+        self.lane(branch).view()
+    }
+
+    fn commit_fits(&self, branch: u32, second: &Option<VersionPlace>, changes: &[Change]) -> bool
+        ensures { result ≡ fits (dataset_in self.now) (Commit branch second.now changes.now) }
+    {
+        if !self.has_room(branch) {
+            return false;
+        }
+        if !self.second_fits(second) {
+            return false;
+        }
+        if !makes_version(second, changes) {
+            return false;
+        }
+        if !changes_fit(self.schema.relations(), changes) {
+            return false;
+        }
+        is_within(self.head(branch).table(), self.width(), changes)
+    }
+
+    /// Does the entry fit the dataset?
+    pub fn fits(&self, entry: &Entry) -> bool
+        ensures { result ≡ fits (dataset_in self.now) entry.now }
+    {
+        match entry {
+            Entry::Commit {
+                branch,
+                second,
+                changes,
+            } => self.commit_fits(*branch, second, changes.as_slice()),
+            Entry::Branch { name, origin } => {
+                self.names.number(name).is_none()
+                    && self.lanes.len() < MOST_BRANCHES
+                    && self.is_made(*origin)
+            }
+        }
+    }
+
+    // The second parent of a version of a branch.
+    fn second_of(&self, at: VersionPlace) -> Option<VersionPlace>
+        requires { IsMade (dataset_in self.now) at }
+        ensures { result ≡ (version_at (dataset_in self.now) at).second }
+    {
+        self.lane(at.branch).second(at.position as usize)
+    }
+
+    /// The parents of the version at a made place, by their proper names.
+    pub fn parents(&self, at: VersionPlace) -> Parents
+        requires { IsMade (dataset_in self.now) at }
+        ensures first { result.first ≡ first_parent (dataset_in self.now) (proper (dataset_in self.now) at) }
+        ensures second { result.second ≡ second_parent (dataset_in self.now) (proper (dataset_in self.now) at) }
+    {
+        let at = self.made_at(at);
+        if at.position == 0 {
+            return Parents {
+                first: None,
+                second: None,
+            };
+        }
+        let before = VersionPlace {
+            branch: at.branch,
+            position: at.position - 1,
+        };
+        Parents {
+            first: Some(self.made_at(before)),
+            second: self.second_at(self.second_of(at)),
+        }
+    }
+
+    /// The table of the last position of a branch. It is one link.
+    pub fn head_view(&self, branch: u32) -> Result<HybridView, AllocError>
+        requires { branch < length (dataset_in self.now).branches }
+        ensures table { IfOk result (λ v. table_of (arc_value v.table) ≡ head_of (dataset_in self.now) branch) }
+        ensures wide { IfOk result (λ v. length (table_of (arc_value v.table)) ≡ length (dataset_in self.now).schema) }
+        ensures parts { IfOk result (λ v. AreOf (state_of self.now) (λ r. parts_in (lived_at (arc_value v.table) r))) }
+    {
+        self.head(branch).share()
+    }
+}

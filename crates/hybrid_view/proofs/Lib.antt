@@ -1,0 +1,10 @@
+pub mod FindLemmas
+pub mod ViewLemmas
+pub mod PlaceLemmas
+pub mod ClearLemmas
+pub mod NextLemmas
+pub mod BranchPlaces
+pub mod DeltaLemmas
+pub mod BegunLemmas
+mod Examples
+pub mod EmptyLemmas

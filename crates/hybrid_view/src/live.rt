@@ -1,0 +1,240 @@
+//! What a version has of a relation.
+ghost use Rattle.std.specs.Prelude.{◌≡◌, ℕ, List, ◌<◌, ◌+◌, ◌^◌, ◌==◌, ◌++◌, ◌∷◌, [], cond, OnOk, length, position, IfOk, IfSome, IfNone, Some, None, true};
+ghost use Rattle.segment.specs.Pages.{AreWide};
+ghost use Rattle.hybrid_view.specs.Struck.{touched_place, touched_places};
+ghost use Rattle.hybrid_view.specs.RowPlaces.{AllNext};
+ghost use Rattle.std.specs.FinMap as finite;
+ghost use Rattle.db_store.specs.Parts.{part_at, slot_at};
+ghost use Rattle.hybrid_view.specs.Live.{Piece, empty_lived, has_live, begun_pieces, contents_in, parts_in, piece_at, IsLived};
+ghost use Rattle.key_index.specs.Places.{with_changes};
+
+use crate::part::LivePart;
+use db_store::Spot;
+use db_value::{Change, Records};
+use key_index::{KeyIndex, SpotChanges};
+use std::alloc::{AllocError, Global};
+use std::marker::Model;
+
+/// The parts of a relation by ascending segment, and the index from its keys to segments and slots.
+#[derive(Drop)]
+pub struct LiveRelation {
+    parts: Vec<LivePart>,
+    index: KeyIndex,
+    count: u32,
+}
+
+impl Model for LiveRelation {
+    ghost use Rattle.hybrid_view.specs.Live.{Lived, lived_code, IsLived};
+
+    ghost Value = { Lived };
+
+    ghost coded = { lived_code };
+
+    ghost view = { λ l. record { pieces = l.parts.items; places = l.index; count = l.count } };
+
+    ghost invariant = { λ l. IsLived (record { pieces = l.parts.items; places = l.index; count = l.count }) };
+}
+
+// The place of the part with a segment.
+fn place_in(parts: &[LivePart], segment: u32) -> Option<usize>
+    ensures { result ≡ position (λ p. p.segment == segment) parts.now }
+{
+    parts.iter().position(|part| part.segment() == segment)
+}
+
+impl LiveRelation {
+    /// What holds of it.
+    pub fn told(&self)
+        ensures { IsLived self.now }
+    {
+        let _count = self.count;
+    }
+
+    /// How many keys it has.
+    pub fn count(&self) -> u32
+        ensures { result ≡ finite.len (contents_in self.now) }
+    {
+        self.count
+    }
+
+    /// How many parts.
+    pub fn parts(&self) -> u32
+        ensures count { result ≡ length self.now.pieces }
+    {
+        self.parts.len() as u32
+    }
+
+    /// A part.
+    pub fn part(&self, index: u32) -> &LivePart
+        requires { index < length self.now.pieces }
+        ensures { result.now ≡ piece_at self.now.pieces index }
+    {
+        &self.parts[index as usize]
+    }
+
+    /// Where the record with a key is.
+    pub fn find(&self, key: u64) -> Option<Spot>
+        ensures none { IfNone result (finite.get (contents_in self.now) key ≡ None) }
+        ensures part { IfSome result (λ s. s.part < length (parts_in self.now)) }
+        ensures slot { IfSome result (λ s. s.slot < length (part_at (parts_in self.now) s.part).slots) }
+        ensures live { IfSome result (λ s. (slot_at (parts_in self.now) s.part s.slot).1 ≡ true) }
+        ensures key { IfSome result (λ s. (slot_at (parts_in self.now) s.part s.slot).0.key ≡ key) }
+        ensures fields { IfSome result (λ s. finite.get (contents_in self.now) key ≡ Some (slot_at (parts_in self.now) s.part s.slot).0.fields) }
+    {
+        match self.index.find(key) {
+            None => None,
+            Some((segment, slot)) => match place_in(&self.parts, segment) {
+                None => None,
+                Some(part) => Some(Spot {
+                    part: part as u32,
+                    slot,
+                }),
+            },
+        }
+    }
+
+    /// These parts, this index of their keys, and so many keys.
+    pub fn of(parts: Vec<LivePart>, index: KeyIndex, count: u32) -> LiveRelation
+        requires { IsLived (record { pieces = parts.items; places = index; count = count }) }
+        ensures { result ≡ record { pieces = parts.items; places = index; count = count } }
+    {
+        LiveRelation {
+            parts,
+            index,
+            count,
+        }
+    }
+
+    /// What a new dataset has of a relation: one part, without records.
+    #[tactic(auto, using(crate::proofs::EmptyLemmas::empty_is_lived))]
+    pub fn empty(alloc: Global, head: LivePart) -> Result<LiveRelation, AllocError>
+        requires records { head.rows.records ≡ [] }
+        requires bits { head.bits ≡ [] }
+        ensures { IfOk result (λ l. l ≡ empty_lived head) }
+    {
+        let mut parts = Vec::new(alloc);
+        parts.push(head)?;
+        let index = KeyIndex::new(alloc);
+        Ok(LiveRelation::of(parts, index, 0))
+    }
+
+    // The segment and the slot of the key that a change of the relation touches.
+    fn place_at(&self, change: &Change, relation: u8) -> Option<(u32, u32)>
+        ensures { result ≡ touched_place self.now.pieces relation change.now }
+    {
+        if change.relation == relation {
+            self.index.find(change.key)
+        } else {
+            None
+        }
+    }
+
+    /// Where the keys stand that changes of the relation touch.
+    pub fn places_of(
+        &self,
+        alloc: Global,
+        changes: &[Change],
+        relation: u8,
+    ) -> Result<Vec<Option<(u32, u32)>>, AllocError>
+        ensures { IfOk result (λ v. v.items ≡ touched_places self.now.pieces changes.now relation) }
+    {
+        let mut places = Vec::with_capacity(alloc, changes.len())?;
+        for change in changes {
+            places.push(self.place_at(change, relation))?;
+        }
+        Ok(places)
+    }
+
+    /// The parts after a commit, whose head has further records.
+    #[tactic(auto, using(crate::proofs::NextLemmas::next_push))]
+    pub fn parts_after(
+        &self,
+        alloc: Global,
+        places: &[Option<(u32, u32)>],
+        head: u32,
+        rows: &Records,
+    ) -> Result<Vec<LivePart>, AllocError>
+        requires fields { (i : ℕ) → i < length self.now.pieces → (piece_at self.now.pieces i).segment ≡ head → AreWide (piece_at self.now.pieces i).rows.fields rows.now }
+        requires few { (i : ℕ) → i < length self.now.pieces → (piece_at self.now.pieces i).segment ≡ head → length (piece_at self.now.pieces i).rows.records + length rows.now < 2 ^ 32 }
+        ensures { IfOk result (λ v. AllNext places.now head rows.now self.now.pieces v.items) }
+    {
+        let mut parts = Vec::with_capacity(alloc, self.parts.len())?;
+        for part in &self.parts {
+            let next = part.next(alloc, places, head, rows)?;
+            parts.push(next)?;
+        }
+        Ok(parts)
+    }
+
+    /// What there is of the relation after a commit: the records that the changes put are behind
+    /// those of the head, the changes of the index are told by the caller, and so is the count.
+    pub fn after(
+        &self,
+        alloc: Global,
+        relation: u8,
+        changes: &[Change],
+        head: u32,
+        rows: &Records,
+        spots: &SpotChanges,
+        count: u32,
+    ) -> Result<LiveRelation, AllocError>
+        requires fields { (i : ℕ) → i < length self.now.pieces → (piece_at self.now.pieces i).segment ≡ head → AreWide (piece_at self.now.pieces i).rows.fields rows.now }
+        requires few { (i : ℕ) → i < length self.now.pieces → (piece_at self.now.pieces i).segment ≡ head → length (piece_at self.now.pieces i).rows.records + length rows.now < 2 ^ 32 }
+        requires lived { (qs : List Piece) → AllNext (touched_places self.now.pieces changes.now relation) head rows.now self.now.pieces qs → IsLived (record { pieces = qs; places = with_changes self.now.places spots.now; count = count }) }
+        ensures parts { IfOk result (λ l. AllNext (touched_places self.now.pieces changes.now relation) head rows.now self.now.pieces l.pieces) }
+        ensures places { IfOk result (λ l. l.places ≡ with_changes self.now.places spots.now) }
+        ensures count { IfOk result (λ l. l.count ≡ count) }
+    {
+        let places = self.places_of(alloc, changes, relation)?;
+        let parts = self.parts_after(alloc, &places, head, rows)?;
+        let index = self.index.with_changes(spots)?;
+        Ok(LiveRelation::of(parts, index, count))
+    }
+
+    /// What a new branch of this version has: the parts in which something is live, a head of its own,
+    /// and the index as it is. All of it is shared.
+    pub fn begun(&self, alloc: Global, head: LivePart) -> Result<LiveRelation, AllocError>
+        requires { IsLived (record { pieces = begun_pieces self.now.pieces head; places = self.now.places; count = self.now.count }) }
+        ensures { IfOk result (λ l. l ≡ record { pieces = begun_pieces self.now.pieces head; places = self.now.places; count = self.now.count }) }
+    {
+        let mut parts = Vec::new(alloc);
+        for part in &self.parts {
+            push_live(&mut parts, part)?;
+        }
+        parts.push(head)?;
+        let index = self.index.duplicate()?;
+        Ok(LiveRelation::of(parts, index, self.count))
+    }
+
+    /// What a branch has that gets another head: one part more.
+    pub fn with_head(&self, alloc: Global, head: LivePart) -> Result<LiveRelation, AllocError>
+        requires { IsLived (record { pieces = self.now.pieces ++ head ∷ []; places = self.now.places; count = self.now.count }) }
+        ensures { IfOk result (λ l. l ≡ record { pieces = self.now.pieces ++ head ∷ []; places = self.now.places; count = self.now.count }) }
+    {
+        let mut parts = copies(alloc, &self.parts)?;
+        parts.push(head)?;
+        let index = self.index.duplicate()?;
+        Ok(LiveRelation::of(parts, index, self.count))
+    }
+}
+
+// Parts that share all with others.
+fn copies(alloc: Global, parts: &[LivePart]) -> Result<Vec<LivePart>, AllocError>
+    ensures { IfOk result (λ v. v.items ≡ parts.now) }
+{
+    let mut all = Vec::with_capacity(alloc, parts.len())?;
+    for part in parts {
+        all.push(part.duplicate()?)?;
+    }
+    Ok(all)
+}
+
+// Puts a part behind others, where something of it is live.
+fn push_live(parts: &mut Vec<LivePart>, part: &LivePart) -> Result<(), AllocError>
+    ensures { OnOk result (parts.new.items ≡ parts.old.items ++ cond (has_live part.now) (part.now ∷ []) []) }
+{
+    if part.has_live() {
+        parts.push(part.duplicate()?)?;
+    }
+    Ok(())
+}
