@@ -1,0 +1,9 @@
+//! Tests of desks, of the board, and of a core whose log fails. Nothing here is called.
+#![tactic(auto)]
+
+#[cfg(test)]
+mod board_tests;
+#[cfg(test)]
+mod desk_tests;
+#[cfg(test)]
+mod fault_tests;
