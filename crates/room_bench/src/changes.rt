@@ -1,0 +1,120 @@
+//! Changes of working tables, each with its answer.
+ghost use Rattle.std.specs.Prelude.{◌≡◌, ◌<◌, ℕ, length, IfOk};
+ghost use Rattle.db_store.specs.State.{dataset_of};
+ghost use Rattle.db_store.specs.Overlay.{untouched};
+ghost use Rattle.db_store.specs.Adopt.{AreAdoptable};
+ghost use Rattle.db_store.specs.WorkState.{under_of, overlays_of};
+
+use crate::short::{head_place, two_fields};
+use anyhow::Result;
+use db_store::{Store, View, Work, WorkStop};
+use db_value::{Change, Changes, ListOf, Record, Set, Sets};
+use std::alloc::{AllocError, Global};
+
+// One change of a working table.
+#[derive(Clone, Copy)]
+enum Step {
+    Insert(u64),
+    Update(u64),
+    Delete(u64),
+}
+
+// New values of one column.
+fn one_set(alloc: Global) -> Result<Sets, AllocError> {
+    let (column, value) = (0, 5);
+    let mut sets = Vec::new(alloc);
+    sets.push(Set { column, value })?;
+    Ok(ListOf::of(sets))
+}
+
+// Changes of two keys of the first relation.
+fn two_changes(alloc: Global) -> Result<Changes, AllocError>
+    ensures { IfOk result (λ cs. (n : ℕ) → 0 < n → AreAdoptable n cs) }
+{
+    let mut changes = Vec::new(alloc);
+    changes.push(Change {
+        relation: 0,
+        key: 1,
+        fields: Some(two_fields(1, 2)),
+    })?;
+    changes.push(Change {
+        relation: 0,
+        key: 2,
+        fields: Some(two_fields(1, 2)),
+    })?;
+    Ok(ListOf::of(changes))
+}
+
+// The answer to a step.
+fn take_step<V: View>(work: &mut Work<V>, step: Step, sets: &Sets) -> Result<(), WorkStop>
+    requires { 0 < length (V.table (under_of work.old)) }
+    ensures { under_of work.new ≡ under_of work.old }
+{
+    match step {
+        Step::Insert(key) => {
+            let fields = two_fields(1, 2);
+            work.insert(0, &Record { key, fields })
+        }
+        Step::Update(key) => work.update(0, key, sets),
+        Step::Delete(key) => work.delete(0, key),
+    }
+}
+
+// The answers to all steps, and to the changes of a merge in a second and a third working table.
+fn answers_of<V: View>(
+    work: &mut Work<V>,
+    merged: &mut Work<V>,
+    crowded: &mut Work<V>,
+    sets: &Sets,
+    changes: &Changes,
+) -> [Result<(), WorkStop>; 12]
+    requires work { 0 < length (V.table (under_of work.old)) }
+    requires merged { (overlays_of merged.old ≡ untouched) × (0 < length (V.table (under_of merged.old))) }
+    requires crowded { (overlays_of crowded.old ≡ untouched) × (0 < length (V.table (under_of crowded.old))) }
+    requires changes { (n : ℕ) → 0 < n → AreAdoptable n changes.now }
+{
+    [
+        take_step(work, Step::Insert(1), sets),
+        take_step(work, Step::Insert(1), sets),
+        take_step(work, Step::Update(1), sets),
+        take_step(work, Step::Update(9), sets),
+        take_step(work, Step::Insert(2), sets),
+        take_step(work, Step::Delete(2), sets),
+        take_step(work, Step::Delete(2), sets),
+        take_step(work, Step::Insert(3), sets),
+        take_step(work, Step::Insert(4), sets),
+        take_step(work, Step::Insert(2), sets),
+        merged.adopt(changes),
+        crowded.adopt(changes),
+    ]
+}
+
+fn text_of(answer: &Result<(), WorkStop>) -> &'static str {
+    match answer {
+        Ok(()) => "ok",
+        Err(WorkStop::KeyThere) => "key there",
+        Err(WorkStop::KeyMissing) => "key missing",
+        Err(WorkStop::TableFull { .. }) => "table full",
+        Err(WorkStop::Room) => "room",
+    }
+}
+
+/// Makes working tables, writes `begun`, changes them, and then writes the answers.
+pub fn tell_changes<St: Store, R: Print + AllocGlobal>(rt: &R, store: &St) -> Result<()> {
+    if store.branches() == 0 || store.schema().relations().is_empty() {
+        return Ok(());
+    }
+    let alloc = rt.alloc();
+    let (sets, changes) = (one_set(alloc)?, two_changes(alloc)?);
+    let at = head_place(store);
+    let mut work = Work::over(alloc, store.view(at)?, 3)?;
+    let mut merged = Work::over(alloc, store.view(at)?, 2)?;
+    let mut crowded = Work::over(alloc, store.view(at)?, 1)?;
+    println!(rt; "begun")?;
+    let answers = answers_of(&mut work, &mut merged, &mut crowded, &sets, &changes);
+    println!(rt; "done")?;
+    for answer in &answers {
+        println!(rt; "{}", text_of(answer))?;
+    }
+    Ok(())
+}
