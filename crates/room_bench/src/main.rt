@@ -16,13 +16,12 @@ mod short;
 
 use anyhow::Result;
 use changes::tell_changes;
+use db_value::Schema;
 use plain_store::PlainStore;
 use short::time_transactions;
 use std::env;
 use std::process::ExitCode;
 use std::rt::{Clock, Env};
-
-use db_value::Schema;
 
 fn run<R: Clock + Env + Print + AllocGlobal>(rt: &R) -> Result<bool> {
     let words: Vec<String> = env::args(rt)?.skip(1).collect(rt.alloc())?;
