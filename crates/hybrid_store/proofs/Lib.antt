@@ -4,3 +4,8 @@ pub mod HeadLemmas
 pub mod ShortLemmas
 pub mod NewLemmas
 pub mod PushLemmas
+pub mod ChangedLemmas
+pub mod CommitLemmas
+pub mod TableLemmas
+pub mod ReadyLemmas
+pub mod LastsLemmas

@@ -4,3 +4,4 @@ pub mod Lanes
 pub mod New
 pub mod Stored
 pub mod Store
+pub mod Ready

@@ -12,12 +12,16 @@
 //! | `src/store.rt`, `src/new.rt` | the store, and a new one |
 //! | `src/kept.rt` | the segments of a relation |
 //! | `src/rows.rt`, `src/lane.rt` | rows of bits with their histories, and a branch |
+//! | `specs/Ready.antt`, `src/commit.rt`, `src/changed.rt` | a commit that is made ready, which nothing installs yet |
 #![tactic(auto)]
 
+mod changed;
+mod commit;
 mod kept;
 mod lane;
 mod new;
 mod rows;
 mod store;
 
+pub use commit::HybridPrepared;
 pub use store::HybridStore;

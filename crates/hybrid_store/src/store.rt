@@ -42,14 +42,14 @@ const MOST_VERSIONS: usize = 65_536;
 /// over them. A commit appends to the heads of its branch; a branch copies no record.
 #[derive(Drop)]
 pub struct HybridStore {
-    alloc: Global,
-    schema: Schema,
-    lanes: Vec<HybridLane>,
-    segments: Vec<KeptSegments>,
-    names: BranchNames,
-    order: Vec<VersionPlace>,
-    graph: Graph,
-    spare: usize,
+    pub(crate) alloc: Global,
+    pub(crate) schema: Schema,
+    pub(crate) lanes: Vec<HybridLane>,
+    pub(crate) segments: Vec<KeptSegments>,
+    pub(crate) names: BranchNames,
+    pub(crate) order: Vec<VersionPlace>,
+    pub(crate) graph: Graph,
+    pub(crate) spare: usize,
     ghost laid: { IsLaid (kept_layout schema lanes.items order.items segments.items) },
     ghost stored: { IsStored schema lanes.items segments.items },
     ghost sound: { IsSound (kept_dataset schema lanes.items order.items segments.items) },
@@ -102,7 +102,7 @@ impl HybridStore {
     }
 
     // A branch.
-    fn lane(&self, branch: u32) -> &HybridLane
+    pub(crate) fn lane(&self, branch: u32) -> &HybridLane
         requires { branch < length self.now.lanes.items }
         ensures lane { result.now ≡ get_or self.now.lanes.items branch no_kept }
         ensures name { result.now.name ≡ (branch_at (dataset_in self.now) branch).name }
@@ -115,7 +115,7 @@ impl HybridStore {
     }
 
     // How many relations.
-    fn width(&self) -> u8
+    pub(crate) fn width(&self) -> u8
         ensures { result ≡ length self.now.schema }
     {
         self.segments.len() as u8
@@ -206,7 +206,7 @@ impl HybridStore {
     }
 
     // The number of the version at a made place.
-    fn number(&self, at: VersionPlace) -> u32
+    pub(crate) fn number(&self, at: VersionPlace) -> u32
         requires { IsMade (dataset_in self.now) at }
         ensures number { result ≡ number_of (dataset_in self.now) at }
         ensures there { result < length self.now.graph.versions }
@@ -214,7 +214,7 @@ impl HybridStore {
         number_in(&self.order, self.made_at(at))
     }
 
-    fn number_if(&self, at: Option<VersionPlace>) -> Option<u32>
+    pub(crate) fn number_if(&self, at: Option<VersionPlace>) -> Option<u32>
         requires { IfSome at (λ p. IsMade (dataset_in self.now) p) }
         ensures number { list_if result ≡ numbers_if (dataset_in self.now).order (proper_if (dataset_in self.now) at) }
         ensures there { IfSome result (λ n. n < length self.now.graph.versions) }

@@ -1,4 +1,4 @@
-use Rattle.std.proofs.Common.{◌≡◌, ◌∙◌, ◌<◌, ◌&&◌, ◌++◌, ◌∷◌, [], List, Some, Bool, ap, sym, subst, refl, true}
+use Rattle.std.proofs.Common.{◌≡◌, ◌∙◌, ◌&&◌, ◌++◌, ◌∷◌, [], List, Some, Bool, ap, sym, subst, refl, true}
 use Rattle.std.proofs.lemmas.Bool.{lt-ltb}
 use Rattle.db_value.specs.declared.entry.Change.{Change}
 use Rattle.db_store.specs.Adopt.{AreAdoptable}

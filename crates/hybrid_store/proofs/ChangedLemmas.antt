@@ -1,0 +1,67 @@
+-- What changes put, and the deltas of rows.
+use Rattle.std.proofs.Common.{◌≡◌, ◌⊎◌, inl, inr, ℕ, zero, suc, ◌+◌, ◌<◌, ◌≤◌, ◌==◌, Bool, true, false, List, [], ◌∷◌, ◌++◌, length, drop, get_or, Option, Some, None, refl, arith, ap, ◌∙◌, subst}
+use Rattle.std.proofs.lemmas.List.{get_or_append_left, get_or_push}
+use Rattle.std.proofs.lemmas.Bool.{cases_lt}
+use Rattle.hybrid_view.specs.Live.{Piece, piece_at}
+use Rattle.plain_bits.specs.Truth.{differ as differ_bits}
+use Rattle.db_store.specs.Layout.{differ}
+use Rattle.hybrid_view.proofs.DeltaLemmas.{slots_by}
+use Rattle.db_value.specs.Value.{Value}
+use Rattle.db_value.specs.declared.record.Record.{Record}
+use Rattle.db_value.specs.declared.entry.Change.{Change}
+use Rattle.plain_bits.specs.Truth.{bit_of}
+use Rattle.db_store.specs.Layout.{slots_where}
+use Rattle.db_store.specs.LayoutGrowth.{put_before, puts}
+use Rattle.hybrid_view.specs.Deltas.{slots_of}
+use Rattle.hybrid_view.specs.RowPlaces.{spot_before, spots}
+use Rattle.commit_history.specs.Runs.{Next, next_of}
+use Rattle.hybrid_store.specs.Short.{shortest}
+use Rattle.hybrid_store.specs.Kept.{KeptRow, no_next, next_at, kept_row_at}
+use Rattle.hybrid_store.specs.Stored.{difference_of}
+
+put_first : (b : Bool) (key : ℕ) (f : Option (List Value)) (rest : List Record) → put_before b key f rest ≡ put_before b key f [] ++ rest
+put_first true key (Some f) rest = refl
+put_first true key None rest = refl
+put_first false key f rest = refl
+
+pub puts_drop : (cs : List Change) (r i : ℕ) (z : Change) → i < length cs → puts (drop i cs) r ≡ puts (get_or cs i z ∷ []) r ++ puts (drop (i + 1) cs) r
+puts_drop [] r i z h = absurd (omega (arith, h))
+puts_drop (c ∷ cs) r zero z h = put_first (c.relation == r) c.key c.fields (puts cs r)
+puts_drop (c ∷ cs) r (suc i) z h =
+    let one : suc (i + 1) ≡ suc i + 1 = omega arith in
+    puts_drop cs r i z (omega (arith, h)) ∙ ap (λ k. puts (get_or cs i z ∷ []) r ++ puts (drop k (c ∷ cs)) r) one
+
+spot_first : (b : Bool) (head next key : ℕ) (f : Option (List Value)) (cs : List Change) (r : ℕ) → spot_before b head next key f (λ n. spots head n cs r)
+    ≡ spot_before b head next key f (λ n. []) ++ spots head (next + length (put_before b key f [])) cs r
+spot_first true head next key (Some f) cs r = let one : suc next ≡ next + 1 = omega arith in ap (λ k. record { key = key; place = Some (head, next) } ∷ spots head k cs r) one
+spot_first true head next key None cs r = let one : next ≡ next + 0 = omega arith in ap (λ k. record { key = key; place = None } ∷ spots head k cs r) one
+spot_first false head next key f cs r = let one : next ≡ next + 0 = omega arith in ap (λ k. spots head k cs r) one
+
+pub spots_drop : (cs : List Change) (head next r i : ℕ) (z : Change) → i < length cs → spots head next (drop i cs) r ≡ spots head next (get_or cs i z ∷ []) r ++ spots head (next + length (puts (get_or cs i z ∷ []) r)) (drop (i + 1) cs) r
+spots_drop [] head next r i z h = absurd (omega (arith, h))
+spots_drop (c ∷ cs) head next r zero z h = spot_first (c.relation == r) head next c.key c.fields cs r
+spots_drop (c ∷ cs) head next r (suc i) z h =
+    let one : suc (i + 1) ≡ suc i + 1 = omega arith in
+    spots_drop cs head next r i z (omega (arith, h)) ∙ ap (λ k. spots head next (get_or cs i z ∷ []) r ++ spots head (next + length (puts (get_or cs i z ∷ []) r)) (drop k (c ∷ cs)) r) one
+
+-- ---- the bits in which two bitmaps differ
+
+same_differ : (a b : Bool) → differ_bits a b ≡ differ a b
+same_differ true b = refl
+same_differ false b = refl
+
+pub delta_slots : (p q d : List Bool) → length d ≡ length q → ((s : ℕ) → bit_of d s ≡ differ_bits (bit_of p s) (bit_of q s)) → slots_of d ≡ slots_where (λ s. differ (bit_of p s) (bit_of q s)) (length q)
+delta_slots p q d n f = slots_by d (λ s. differ (bit_of p s) (bit_of q s)) (length q) (omega (arith, n)) (λ s h. f s ∙ same_differ (bit_of p s) (bit_of q s))
+
+-- what is ready for one row more
+pub differences_more : (rows : List KeptRow) (ps qs : List Piece) (ns : List Next) (x : Next) (i : ℕ) → length ns ≡ i
+    → ((j : ℕ) → j < i → next_at ns j ≡ next_of (kept_row_at rows j).deltas (shortest (difference_of (piece_at ps j) (piece_at qs j))))
+    → x ≡ next_of (kept_row_at rows i).deltas (shortest (difference_of (piece_at ps i) (piece_at qs i)))
+    → (j : ℕ) → j < i + 1 → next_at (ns ++ x ∷ []) j ≡ next_of (kept_row_at rows j).deltas (shortest (difference_of (piece_at ps j) (piece_at qs j)))
+differences_more rows ps qs ns x i n f e j h = by (cases_lt j i)
+  where
+    by : (j < i) ⊎ (i ≤ j) → next_at (ns ++ x ∷ []) j ≡ next_of (kept_row_at rows j).deltas (shortest (difference_of (piece_at ps j) (piece_at qs j)))
+    by (inl l) = get_or_append_left ns (x ∷ []) no_next j (omega (arith, l, n)) ∙ f j l
+    by (inr g) =
+        let same : i ≡ j = omega (arith, h, g) in
+        subst (λ k. next_at (ns ++ x ∷ []) k ≡ next_of (kept_row_at rows k).deltas (shortest (difference_of (piece_at ps k) (piece_at qs k)))) same (get_or_push ns x no_next i n ∙ e)

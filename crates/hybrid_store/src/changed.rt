@@ -1,0 +1,117 @@
+//! What a commit changes of one relation of a branch.
+ghost use Rattle.std.specs.Prelude.{◌≡◌, ℕ, ◌+◌, ◌-◌, ◌<◌, ◌≤◌, ◌^◌, ◌++◌, ◌∷◌, [], length, IfOk, OnOk};
+ghost use Rattle.db_store.specs.LayoutGrowth.{puts};
+ghost use Rattle.hybrid_view.specs.Live.{piece_at};
+ghost use Rattle.hybrid_view.specs.RowPlaces.{spots};
+ghost use Rattle.hybrid_store.specs.Kept.{kept_row_at};
+ghost use Rattle.hybrid_store.specs.Stored.{AreDifferences};
+
+use crate::rows::{BitRows, NextDeltas};
+use db_value::{Change, ListOf, Record, Records};
+use hybrid_view::{LiveRelation, difference};
+use key_index::{SpotChange, SpotChanges};
+use std::alloc::{AllocError, Global};
+
+// The record that a change puts into a relation, if it does.
+fn put_row(rows: &mut Vec<Record>, change: &Change, relation: u8) -> Result<(), AllocError>
+    ensures { OnOk result (rows.new.items ≡ rows.old.items ++ puts (change.now ∷ []) relation) }
+{
+    if change.relation != relation {
+        return Ok(());
+    }
+    match change.fields {
+        None => Ok(()),
+        Some(fields) => {
+            let key = change.key;
+            rows.push(Record { key, fields })?;
+            Ok(())
+        }
+    }
+}
+
+/// The records that changes put into a relation.
+#[tactic(auto, using(crate::proofs::ChangedLemmas::puts_drop))]
+pub fn rows_put(alloc: Global, changes: &[Change], relation: u8) -> Result<Records, AllocError>
+    ensures { IfOk result (λ rows. rows ≡ puts changes.now relation) }
+{
+    let mut rows = Vec::new(alloc);
+    for change in changes {
+        put_row(&mut rows, change, relation)?;
+    }
+    Ok(ListOf::of(rows))
+}
+
+// What a change makes of the index of a relation, where the slot of the head that it puts a record into
+// is the next one. Then tells the slot behind.
+fn put_spot(
+    all: &mut Vec<SpotChange>,
+    head: u32,
+    next: u32,
+    change: &Change,
+    relation: u8,
+) -> Result<u32, AllocError>
+    requires { next < 2 ^ 32 - 1 }
+    ensures spots { OnOk result (all.new.items ≡ all.old.items ++ spots head next (change.now ∷ []) relation) }
+    ensures next { IfOk result (λ n. n ≡ next + length (puts (change.now ∷ []) relation)) }
+    ensures more { IfOk result (λ n. n ≤ next + 1) }
+{
+    if change.relation != relation {
+        return Ok(next);
+    }
+    let key = change.key;
+    match change.fields {
+        None => {
+            all.push(SpotChange { key, place: None })?;
+            Ok(next)
+        }
+        Some(_) => {
+            all.push(SpotChange {
+                key,
+                place: Some((head, next)),
+            })?;
+            Ok(next + 1)
+        }
+    }
+}
+
+/// What changes make of the index of a relation, where what they put stands in the head from a slot on.
+#[tactic(auto, using(crate::proofs::ChangedLemmas::spots_drop))]
+pub fn spots_of(
+    alloc: Global,
+    head: u32,
+    from: u32,
+    changes: &[Change],
+    relation: u8,
+) -> Result<SpotChanges, AllocError>
+    requires { from + length changes.now < 2 ^ 32 }
+    ensures { IfOk result (λ s. s ≡ spots head from changes.now relation) }
+{
+    let mut all = Vec::new(alloc);
+    let mut next = from;
+    for change in changes {
+        next = put_spot(&mut all, head, next, change, relation)?;
+    }
+    Ok(SpotChanges::of(all))
+}
+
+/// What is ready for the rows of a relation, by what it had before a commit and what it has after it.
+pub fn next_deltas(
+    alloc: Global,
+    rows: &BitRows,
+    old: &LiveRelation,
+    new: &LiveRelation,
+) -> Result<NextDeltas, AllocError>
+    requires count { length old.now.pieces ≡ length rows.now }
+    requires after { length new.now.pieces ≡ length rows.now }
+    requires longer { (i : ℕ) → i < length rows.now → length (piece_at old.now.pieces i).bits ≤ length (piece_at new.now.pieces i).bits }
+    requires few { (i : ℕ) → i < length rows.now → length (kept_row_at rows.now i).deltas < 2 ^ 32 - 1 }
+    ensures { IfOk result (λ nexts. AreDifferences rows.now nexts old.now.pieces new.now.pieces) }
+{
+    let mut nexts = Vec::new(alloc);
+    for index in 0..old.parts() {
+        let bits = difference(old.part(index).bits(), new.part(index).bits())?;
+        let next = rows.row(index as usize).ready(alloc, &bits)?;
+        nexts.push(next)?;
+    }
+    Ok(NextDeltas::of(nexts))
+}

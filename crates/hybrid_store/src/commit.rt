@@ -1,0 +1,238 @@
+//! A commit that is made ready: what its branch has after it.
+ghost use Rattle.std.specs.Prelude.{◌≡◌, ℕ, List, [], Option, map, ◌<◌, ◌≤◌, ◌+◌, ◌-◌, ◌^◌, true, length, IfOk, OnOk};
+ghost use Rattle.std.specs.FinMap.{len};
+ghost use Rattle.std.specs.Arc.{arc_value};
+ghost use Rattle.std.proofs.Common.{get_or};
+ghost use Rattle.db_value.specs.declared.entry.Change.{Change};
+ghost use Rattle.db_value.specs.declared.entry.Entry.TheVariants.{Commit};
+ghost use Rattle.db_value.specs.declared.version.VersionPlace.{VersionPlace};
+ghost use Rattle.db_store.specs.Adopt.{is_changed};
+ghost use Rattle.db_store.specs.Counts.{after};
+ghost use Rattle.db_store.specs.Fits.{fits};
+ghost use Rattle.db_store.specs.Layout.{records_at};
+ghost use Rattle.db_store.specs.LayoutGrowth.{puts};
+ghost use Rattle.hybrid_view.specs.Live.{lived_at, piece_at, contents_in, IsLived};
+ghost use Rattle.hybrid_view.specs.RowPlaces.{AllNext};
+ghost use Rattle.hybrid_view.specs.Struck.{touched_places};
+ghost use Rattle.hybrid_store.specs.Kept.{no_kept, kept_rows};
+ghost use Rattle.hybrid_store.specs.Lanes.{list_at, segment_of};
+ghost use Rattle.hybrid_store.specs.Ready.{IsReady, AreLast};
+ghost use Rattle.hybrid_store.specs.Stored.{head_of_lane, AreDifferences, AllDifferences, AllNextIn, AreSmall, IsNextAt};
+
+use crate::changed::{next_deltas, rows_put, spots_of};
+use crate::kept::KeptSegments;
+use crate::rows::NextDeltas;
+use crate::store::HybridStore;
+use db_value::{Change, VersionPlace};
+use hybrid_view::{HybridView, LiveRelation, LiveTable};
+use segment::Segment;
+use std::alloc::{AllocError, Global};
+use std::sync::Arc;
+use store_catalogue::count_after;
+
+/// More records than a segment can number.
+const MOST_NUMBERS: usize = 0x1_0000_0000;
+
+/// A commit that is ready: its second parent, what it changes of the rows, what the branch has after
+/// it, and for each relation the records of the branch's head.
+#[derive(Drop)]
+pub struct HybridPrepared {
+    pub(crate) branch: u32,
+    pub(crate) second: Option<VersionPlace>,
+    pub(crate) deltas: Vec<NextDeltas>,
+    pub(crate) head: HybridView,
+    pub(crate) records: Vec<Arc<Segment>>,
+}
+
+impl HybridStore {
+    ghost use Rattle.hybrid_store.specs.Store.{dataset_in, state_of};
+
+    // The segments of a relation.
+    fn list(&self, relation: u8) -> &KeptSegments
+        requires { relation < length self.now.schema }
+        ensures { result.now.all ≡ list_at self.now.segments.items relation }
+    {
+        &self.segments[relation as usize]
+    }
+
+    // The number of a branch's head in a relation, and how many records it has.
+    fn head_of(&self, branch: u32, relation: u8) -> (u32, u32)
+        requires branch { branch < length self.now.lanes.items }
+        requires relation { relation < length self.now.schema }
+        requires fits { (second : Option VersionPlace) × ((changes : List Change) × (fits (dataset_in self.now) (Commit branch second changes) ≡ true)) }
+        ensures segment { result.0 ≡ head_of_lane (get_or self.now.lanes.items branch no_kept) relation }
+        ensures records { result.1 ≡ length (records_at (map segment_of (list_at self.now.segments.items relation)) (head_of_lane (get_or self.now.lanes.items branch no_kept) relation)) }
+    {
+        let head = self.lane(branch).rows(relation).head();
+        let kept = &self.list(relation).as_slice()[head as usize];
+        (head, kept.records().len())
+    }
+
+    // What a branch has of a relation.
+    fn lived(&self, branch: u32, relation: u8) -> &LiveRelation
+        requires branch { branch < length self.now.lanes.items }
+        requires relation { relation < length self.now.schema }
+        ensures { result.now ≡ lived_at (get_or self.now.lanes.items branch no_kept).head relation }
+    {
+        self.lane(branch).head().relation(relation)
+    }
+
+    // How many keys a relation has after changes of a commit that fits.
+    fn count_with(&self, branch: u32, relation: u8, changes: &[Change]) -> u32
+        requires relation { relation < length self.now.schema }
+        requires fits { (second : Option VersionPlace) × (fits (dataset_in self.now) (Commit branch second changes.now) ≡ true) }
+        ensures { result ≡ len (after relation (contents_in (lived_at (get_or self.now.lanes.items branch no_kept).head relation)) changes.now) }
+    {
+        count_after(self.lane(branch).head(), relation, changes) as u32
+    }
+
+    // What a relation of a branch has after the changes of a commit that fits.
+    fn relation_after(
+        &self,
+        branch: u32,
+        relation: u8,
+        changes: &[Change],
+    ) -> Result<LiveRelation, AllocError>
+        requires relation { relation < length self.now.schema }
+        requires fits { (second : Option VersionPlace) × (fits (dataset_in self.now) (Commit branch second changes.now) ≡ true) }
+        ensures next { IfOk result (λ l. IsNextAt (get_or self.now.lanes.items branch no_kept) changes.now relation l) }
+        ensures small { IfOk result AreSmall }
+    {
+        let (head, from) = self.head_of(branch, relation);
+        if from as usize + changes.len() >= MOST_NUMBERS {
+            return Err(AllocError);
+        }
+        let old = self.lived(branch, relation);
+        let rows = rows_put(self.alloc, changes, relation)?;
+        let spots = spots_of(self.alloc, head, from, changes, relation)?;
+        let count = self.count_with(branch, relation, changes);
+        let new = old.after(self.alloc, relation, changes, head, &rows, &spots, count)?;
+        Ok(new)
+    }
+
+    // The same, shared with what it has before where nothing of it changes.
+    fn relation_with(
+        &self,
+        branch: u32,
+        relation: u8,
+        changes: &[Change],
+    ) -> Result<Arc<LiveRelation>, AllocError>
+        requires relation { relation < length self.now.schema }
+        requires fits { (second : Option VersionPlace) × (fits (dataset_in self.now) (Commit branch second changes.now) ≡ true) }
+        ensures next { IfOk result (λ l. IsNextAt (get_or self.now.lanes.items branch no_kept) changes.now relation (arc_value l)) }
+        ensures small { IfOk result (λ l. AreSmall (arc_value l)) }
+        ensures lived { IfOk result (λ l. IsLived (arc_value l)) }
+    {
+        if !is_changed(changes, relation) {
+            self.lived(branch, relation).told();
+            let live = self.lane(branch).head().share_relation(relation)?;
+            return Ok(live);
+        }
+        let live = self.relation_after(branch, relation, changes)?;
+        live.told();
+        let live = Arc::new(self.alloc, live)?;
+        Ok(live)
+    }
+
+    // What is ready for the rows of a relation, by what the branch has after the commit.
+    fn deltas_for(
+        &self,
+        branch: u32,
+        relation: u8,
+        changes: &[Change],
+        live: &LiveRelation,
+    ) -> Result<NextDeltas, AllocError>
+        requires relation { relation < length self.now.schema }
+        requires fits { (second : Option VersionPlace) × (fits (dataset_in self.now) (Commit branch second changes.now) ≡ true) }
+        requires next { IsNextAt (get_or self.now.lanes.items branch no_kept) changes.now relation live.now }
+        ensures { IfOk result (λ nexts. AreDifferences (kept_rows (get_or self.now.lanes.items branch no_kept) relation) nexts (lived_at (get_or self.now.lanes.items branch no_kept).head relation).pieces live.now.pieces) }
+    {
+        let rows = self.lane(branch).rows(relation);
+        let nexts = next_deltas(self.alloc, rows, self.lived(branch, relation), live)?;
+        Ok(nexts)
+    }
+
+    // What a branch has after the changes of a commit that fits, and what is ready for its rows.
+    fn table_after(
+        &self,
+        branch: u32,
+        changes: &[Change],
+        deltas: &mut Vec<NextDeltas>,
+    ) -> Result<LiveTable, AllocError>
+        requires fits { (second : Option VersionPlace) × (fits (dataset_in self.now) (Commit branch second changes.now) ≡ true) }
+        requires none { deltas.old.items ≡ [] }
+        ensures wide { IfOk result (λ t. length t ≡ length self.now.schema) }
+        ensures count { OnOk result (length deltas.new.items ≡ length self.now.schema) }
+        ensures next { IfOk result (λ t. AllNextIn (get_or self.now.lanes.items branch no_kept) changes.now (length self.now.schema) t) }
+        ensures deltas { IfOk result (λ t. AllDifferences (get_or self.now.lanes.items branch no_kept) deltas.new.items (length self.now.schema) t) }
+        ensures small { IfOk result (λ t. (r : ℕ) → r < length self.now.schema → AreSmall (lived_at t r)) }
+    {
+        let mut relations = Vec::new(self.alloc);
+        for relation in 0..self.width() {
+            let live = self.relation_with(branch, relation, changes)?;
+            let nexts = self.deltas_for(branch, relation, changes, &live)?;
+            deltas.push(nexts)?;
+            relations.push(live)?;
+        }
+        Ok(LiveTable::of(relations))
+    }
+
+    /// Takes the memory that a commit needs, but for the room to install it.
+    pub fn prepare_commit(
+        &self,
+        branch: u32,
+        second: Option<VersionPlace>,
+        changes: &[Change],
+    ) -> Result<HybridPrepared, AllocError>
+        requires { fits (dataset_in self.now) (Commit branch second changes.now) ≡ true }
+        ensures { IfOk result (λ p. IsReady p.branch p.second p.deltas.items (arc_value p.head.table) (map arc_value p.records.items) (state_of self.now) (Commit branch second changes.now)) }
+    {
+        let mut deltas = Vec::new(self.alloc);
+        let table = self.table_after(branch, changes, &mut deltas)?;
+        table.told();
+        let records = head_records(self.alloc, &table, self.width())?;
+        let table = Arc::new(self.alloc, table)?;
+        let head = HybridView::of(table);
+        Ok(HybridPrepared {
+            branch,
+            second,
+            deltas,
+            head,
+            records,
+        })
+    }
+}
+
+// A link to the records of the last part of a relation.
+fn last_records(live: &LiveRelation) -> Result<Arc<Segment>, AllocError>
+    requires { 0 < length live.now.pieces }
+    ensures { IfOk result (λ s. arc_value s ≡ (piece_at live.now.pieces (length live.now.pieces - 1)).rows) }
+{
+    live.part(live.parts() - 1).share_records()
+}
+
+// Links to the records of the last part of each relation.
+fn head_records(
+    alloc: Global,
+    table: &LiveTable,
+    width: u8,
+) -> Result<Vec<Arc<Segment>>, AllocError>
+    requires width { width ≡ length table.now }
+    requires some { (r : ℕ) → r < length table.now → 0 < length (lived_at table.now r).pieces }
+    ensures count { IfOk result (λ v. length (map arc_value v.items) ≡ length table.now) }
+    ensures records { IfOk result (λ v. AreLast table.now (length table.now) (map arc_value v.items)) }
+{
+    let mut all = Vec::new(alloc);
+    for relation in 0..width {
+        let records = last_records(table.relation(relation))?;
+        all.push(records)?;
+    }
+    Ok(all)
+}
+
+// Is some change of the relation?
+fn is_changed(changes: &[Change], relation: u8) -> bool
+    ensures { result ≡ is_changed relation changes.now }
+{
+    changes.iter().any(|change| change.relation == relation)
+}
