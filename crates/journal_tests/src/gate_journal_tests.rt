@@ -106,6 +106,8 @@ fn leaves_none_or_all_of_a_batch(rt: HostRuntime) -> Result<(), Fail> {
     // The call, how many batches are whole, and how many of them if pending ranges are as written.
     let cases = [
         (0, 0, 0),
+        (1, 0, 0),
+        (2, 0, 0),
         (3, 0, 0),
         (4, 0, 0),
         (5, 0, 0),
