@@ -9,3 +9,8 @@ pub mod CommitLemmas
 pub mod TableLemmas
 pub mod ReadyLemmas
 pub mod LastsLemmas
+pub mod WidenLemmas
+pub mod ReadyParts
+pub mod CommitLayout
+pub mod InstallLemmas
+pub mod GrownLemmas

@@ -17,6 +17,7 @@
 
 mod changed;
 mod commit;
+mod install;
 mod kept;
 mod lane;
 mod new;
