@@ -14,3 +14,4 @@ pub mod ReadyParts
 pub mod CommitLayout
 pub mod InstallLemmas
 pub mod GrownLemmas
+pub mod AddedLemmas

@@ -1,5 +1,5 @@
 -- The layout of what a store keeps.
-use Rattle.std.specs.Prelude.{ℕ, List, [], map, Option, None, refl}
+use Rattle.std.specs.Prelude.{ℕ, List, [], map, set, Option, None, refl}
 use Rattle.std.specs.Coded.{Coded, code_by, coded×, coded_ℕ, coded_list, coded_option}
 use Rattle.std.proofs.Common.{get_or}
 use Rattle.record_page.specs.Page.{Rows, rows_code}
@@ -67,3 +67,7 @@ kept_at ks s = get_or ks s no_rows
 -- the segments of a relation
 abbrev pub list_at : List KeptList → ℕ → List KeptRecords
 list_at segments r = (get_or segments r no_list).all
+
+-- the segments of a relation after one of them got these records
+abbrev pub with_records : KeptList → ℕ → Rows → KeptList
+with_records k s own = record k { all = set k.all s (record (kept_at k.all s) { rows = own }) }

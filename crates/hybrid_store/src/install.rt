@@ -1,5 +1,5 @@
 //! Commits: the room that they need, and adding them.
-ghost use Rattle.std.specs.Prelude.{◌≡◌, ℕ, ◌<◌, ◌≤◌, ◌+◌, true, length, map, set, IfOk, OnOk, OnErr};
+ghost use Rattle.std.specs.Prelude.{◌≡◌, ℕ, ◌<◌, ◌≤◌, ◌+◌, true, length, map, IfOk, OnOk, OnErr};
 ghost use Rattle.std.specs.Arc.{arc_value};
 ghost use Rattle.std.specs.List.{All, AllZip};
 ghost use Rattle.std.proofs.Common.{get_or};
@@ -7,9 +7,8 @@ ghost use Rattle.db_value.specs.declared.entry.Entry.{Entry};
 ghost use Rattle.db_store.specs.Fits.{fits, IsCommit};
 ghost use Rattle.db_store.specs.State.{grow};
 ghost use Rattle.hybrid_store.specs.Kept.{kept_rows};
-ghost use Rattle.hybrid_store.specs.Lanes.{no_list, list_at, kept_at};
-ghost use Rattle.hybrid_store.specs.New.{own_at};
-ghost use Rattle.hybrid_store.specs.Ready.{IsReady};
+ghost use Rattle.hybrid_store.specs.Lanes.{no_list, list_at, with_records};
+ghost use Rattle.hybrid_store.specs.Ready.{IsReady, no_own};
 ghost use Rattle.hybrid_store.specs.Stored.{head_of_lane, HasRoom, Widens};
 
 use crate::commit::HybridPrepared;
@@ -35,6 +34,24 @@ fn reserve_all(lanes: &mut [HybridLane], more: usize) -> Result<(), AllocError>
     Ok(())
 }
 
+// Gives the heads of a branch these records.
+fn put_records(segments: &mut Vec<KeptSegments>, lane: &HybridLane, mut records: Vec<Arc<Segment>>)
+    requires few { length segments.old.items ≤ 8 }
+    requires count { length records.items ≡ length segments.old.items }
+    requires rows { length lane.now.rows ≡ length segments.old.items }
+    requires some { (r : ℕ) → r < length segments.old.items → 0 < length (kept_rows lane.now r) }
+    requires there { (r : ℕ) → r < length segments.old.items → head_of_lane lane.now r < length (list_at segments.old.items r) }
+    ensures count { length segments.new.items ≡ length segments.old.items }
+    ensures each { (r : ℕ) → r < length segments.old.items
+        → get_or segments.new.items r no_list ≡ with_records (get_or segments.old.items r no_list) (head_of_lane lane.now r) (get_or (map arc_value records.items) r no_own) }
+{
+    while let Some(own) = records.pop() {
+        let relation = records.len();
+        let head = lane.rows(relation as u8).head();
+        segments[relation].put(head, own);
+    }
+}
+
 impl HybridStore {
     ghost use Rattle.hybrid_store.specs.Store.{dataset_in, state_of, spare_of};
 
@@ -56,5 +73,48 @@ impl HybridStore {
         }
         self.spare = spare;
         Ok(())
+    }
+
+    /// Takes all the memory that a commit needs. The state stays.
+    pub fn prepare(&mut self, entry: &Entry) -> Result<HybridPrepared, AllocError>
+        requires fits { fits (dataset_in self.old) entry.now ≡ true }
+        requires commit { IsCommit entry.now }
+        ensures ready { IfOk result (λ p. IsReady p.branch p.second p.deltas.items (arc_value p.head.table) (map arc_value p.records.items) (state_of self.old) entry.now) }
+        ensures raised { OnOk result (spare_of self.new ≡ spare_of self.old + 1) }
+        ensures state { state_of self.new ≡ state_of self.old }
+        ensures spare { OnErr result (spare_of self.new ≡ spare_of self.old) }
+    {
+        let prepared = self.prepare_commit(branch_of(entry), second_of(entry), changes_of(entry))?;
+        self.raise()?;
+        Ok(prepared)
+    }
+
+    /// Adds the commit. It takes no memory, and uses up one of spare.
+    pub fn install(&mut self, prepared: HybridPrepared)
+        requires spare { 0 < spare_of self.old }
+        requires ready { (e : Entry) × IsReady prepared.branch prepared.second prepared.deltas.items (arc_value prepared.head.table) (map arc_value prepared.records.items) (state_of self.old) e }
+        ensures grown { (e : Entry) → IsReady prepared.branch prepared.second prepared.deltas.items (arc_value prepared.head.table) (map arc_value prepared.records.items) (state_of self.old) e
+            → state_of self.new ≡ grow (state_of self.old) e }
+        ensures spare { spare_of self.new + 1 ≡ spare_of self.old }
+    {
+        let HybridPrepared {
+            branch,
+            second,
+            deltas,
+            head,
+            records,
+        } = prepared;
+        let position = self.lane(branch).count() as u32;
+        let place = VersionPlace { branch, position };
+        let first = self.number(VersionPlace {
+            branch,
+            position: position - 1,
+        });
+        let other = self.number_if(second);
+        add_version(&mut self.graph, first, other);
+        put_records(&mut self.segments, &self.lanes[branch as usize], records);
+        self.lanes[branch as usize].push(second, deltas, head);
+        self.order.push_reserved(place);
+        self.spare -= 1;
     }
 }

@@ -1,8 +1,8 @@
 //! A store that keeps a dataset as a layout: records in segments that branches share, and for each
-//! branch rows of bits over them. It can be begun and read so far; it takes no entries yet.
+//! branch rows of bits over them. It takes commits, but no new branches yet.
 //!
 //! The layer above relies on one equation: the state of a `HybridStore` is its layout (`state_of` in
-//! `specs/Store.antt`), which begins as the new one.
+//! `specs/Store.antt`), which begins as the new one and grows by each commit that `install` adds.
 //!
 //! | file | has |
 //! |---|---|
@@ -12,7 +12,8 @@
 //! | `src/store.rt`, `src/new.rt` | the store, and a new one |
 //! | `src/kept.rt` | the segments of a relation |
 //! | `src/rows.rt`, `src/lane.rt` | rows of bits with their histories, and a branch |
-//! | `specs/Ready.antt`, `src/commit.rt`, `src/changed.rt` | a commit that is made ready, which nothing installs yet |
+//! | `specs/Ready.antt`, `src/commit.rt`, `src/changed.rt` | a commit that is made ready |
+//! | `src/install.rt` | the room that it needs, and adding it |
 #![tactic(auto)]
 
 mod changed;
