@@ -1,15 +1,13 @@
 -- What holds of a store after a commit that was ready is installed.
-use Rattle.std.proofs.Common.{◌≡◌, ℕ, suc, ◌+◌, ◌-◌, ◌<◌, ◌≤◌, List, [], ◌∷◌, ◌++◌, length, map, set, get_or, Option, refl, arith, ap, sym, ◌∙◌, subst, true}
+use Rattle.std.proofs.Common.{◌≡◌, ℕ, ◌-◌, ◌<◌, ◌≤◌, List, [], ◌∷◌, ◌++◌, length, set, get_or, Option, arith, ap, sym, ◌∙◌, subst}
 use Rattle.std.specs.Prelude.{IfSome}
 use Rattle.std.proofs.lemmas.List.{length_push}
 use Rattle.db_value.specs.declared.schema.Relation.{Relation}
 use Rattle.db_value.specs.declared.version.VersionPlace.{VersionPlace}
 use Rattle.db_value.specs.declared.entry.Entry.{Entry}
-use Rattle.db_value.specs.declared.entry.Entry.TheVariants.{Commit}
 use Rattle.record_page.specs.Page.{Rows}
 use Rattle.commit_history.specs.Runs.{Next}
-use Rattle.db_store.specs.Dataset.{Dataset, IsMade, apply, head_place, branch_at}
-use Rattle.db_store.specs.Fits.{fits}
+use Rattle.db_store.specs.Dataset.{Dataset, IsMade, apply, head_place}
 use Rattle.db_store.specs.Growth.{commit_parts}
 use Rattle.db_store.specs.Layout.{Layout, dataset_in}
 use Rattle.db_store.specs.LayoutGrowth.{grow_layout}
@@ -24,7 +22,8 @@ use Rattle.db_store.proofs.StateLemmas.{head_made}
 use Rattle.hybrid_view.specs.Live.{Lived}
 use Rattle.store_catalogue.specs.ByName.{Numbers, AreNumbers}
 use Rattle.store_catalogue.proofs.BranchLemmas.{numbers_commit}
-use Rattle.hybrid_store.specs.Kept.{KeptLane, no_kept, kept_row_at, kept_rows, next_at, nexts_at, pushed_row}
+use Rattle.bit_rows.specs.Rows.{kept_row_at, next_at, pushed_row}
+use Rattle.hybrid_store.specs.Kept.{KeptLane, no_kept, kept_rows, nexts_at}
 use Rattle.hybrid_store.specs.Lanes.{KeptList, no_list, list_at, kept_at, kept_layout}
 use Rattle.hybrid_store.specs.Ready.{IsReady, no_own}
 use Rattle.hybrid_store.specs.Stored.{head_of_lane, kept_dataset, HasRoom, IsStored}

@@ -1,19 +1,19 @@
 -- The layout of what a store keeps, after a commit.
-use Rattle.std.proofs.Common.{◌≡◌, ℕ, Bool, suc, ◌+◌, ◌-◌, ◌<◌, ◌≤◌, List, [], ◌∷◌, ◌++◌, length, map, set, get_or, Option, Some, None, refl, arith, ap, sym, ◌∙◌, subst}
+use Rattle.std.proofs.Common.{◌≡◌, ℕ, Bool, ◌<◌, List, [], ◌∷◌, ◌++◌, length, map, set, get_or, Option, arith, ap, sym, ◌∙◌}
 use Rattle.std.proofs.lemmas.List.{length-map, map-append, map-set, get_or-map, ext_get_or}
 use Rattle.db_value.specs.declared.schema.Relation.{Relation}
 use Rattle.db_value.specs.declared.version.VersionPlace.{VersionPlace}
 use Rattle.db_value.specs.declared.entry.Change.{Change}
 use Rattle.commit_history.specs.Runs.{Next}
-use Rattle.db_store.specs.Layout.{Segment, Row, Lane, Layout, no_lane, lane_at, differ, bit, slots_where, records_at, by_relation, segments_at, rows_at}
+use Rattle.db_store.specs.Layout.{Segment, Row, Lane, Layout, lane_at, differ, bit, slots_where, records_at, by_relation, segments_at, rows_at}
 use Rattle.db_store.specs.LayoutGrowth.{puts, touches, segment_after, bit_after, row_after, segments_after, last_in, lane_after, after_commit}
-use Rattle.db_store.specs.LaidOut.{no_row, row_at}
-use Rattle.db_store.proofs.SegmentLemmas.{at_relation}
+use Rattle.db_store.specs.LaidOut.{no_row}
 use Rattle.db_store.proofs.LayoutLaw.{same_relations}
 use Rattle.hybrid_view.specs.Deltas.{slots_of}
 use Rattle.hybrid_view.specs.Live.{Lived}
-use Rattle.hybrid_store.specs.Kept.{KeptRow, KeptLane, no_kept, no_kept_row, kept_row_at, kept_rows, laid_row, next_at, nexts_at, pushed_row}
-use Rattle.hybrid_store.specs.Lanes.{KeptList, no_list, segment_of, list_at, lane_of, kept_layout}
+use Rattle.bit_rows.specs.Rows.{KeptRow, no_kept_row, kept_row_at, laid_row, pushed_row}
+use Rattle.hybrid_store.specs.Kept.{KeptLane, no_kept, kept_rows}
+use Rattle.hybrid_store.specs.Lanes.{KeptList, segment_of, list_at, lane_of, kept_layout}
 use Rattle.hybrid_store.proofs.LayoutLemmas.{lane_kept, segments_kept, rows_kept}
 
 -- rows with one delta more each

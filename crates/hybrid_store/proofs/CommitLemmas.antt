@@ -37,10 +37,12 @@ use Rattle.plain_bits.specs.Truth.{bit_of}
 use Rattle.hybrid_view.proofs.NextLemmas.{show_all, show_at, next_shows, lived_next}
 use Rattle.segment.specs.Pages.{AreWide}
 use Rattle.commit_history.specs.Runs.{Next, next_of}
-use Rattle.hybrid_store.specs.Short.{shortest}
-use Rattle.hybrid_store.specs.Kept.{KeptRow, KeptLane, no_kept, no_kept_row, kept_row_at, kept_rows, laid_row, next_at, nexts_at}
+use Rattle.bit_rows.specs.Short.{shortest}
+use Rattle.bit_rows.specs.Rows.{KeptRow, no_kept_row, kept_row_at, laid_row, next_at}
+use Rattle.hybrid_store.specs.Kept.{KeptLane, no_kept, kept_rows, nexts_at}
 use Rattle.hybrid_store.specs.Lanes.{KeptList, no_rows, kept_at, segment_of, list_at, lane_of, kept_layout}
-use Rattle.hybrid_store.specs.Stored.{kept_dataset, head_of_lane, difference_of, AreDifferences, AllDifferences, AllNextIn, AreSmall, IsKeptAt, IsStored}
+use Rattle.bit_rows.specs.Differences.{difference_of, AreDifferences}
+use Rattle.hybrid_store.specs.Stored.{kept_dataset, head_of_lane, AllDifferences, AllNextIn, AreSmall, IsKeptAt, IsStored}
 use Rattle.record_page.specs.Page.{Rows}
 use Rattle.hybrid_store.specs.Ready.{changed_slots, IsMadeAt, IsMadeOf, no_own}
 use Rattle.hybrid_store.proofs.StoredLemmas.{kept_count, kept_versions}

@@ -1,5 +1,5 @@
 -- All that a store keeps, after a commit is installed.
-use Rattle.std.proofs.Common.{◌≡◌, ◌≢◌, ◌⊎◌, inl, inr, ℕ, suc, ◌+◌, ◌-◌, ◌*◌, ◌<◌, ◌≤◌, List, [], ◌∷◌, ◌++◌, length, map, set, get_or, Option, Some, None, refl, arith, ap, sym, ◌∙◌, subst}
+use Rattle.std.proofs.Common.{◌≡◌, ◌≢◌, ◌⊎◌, inl, inr, ℕ, suc, ◌-◌, ◌<◌, ◌≤◌, List, [], ◌∷◌, ◌++◌, length, map, set, get_or, Option, refl, arith, ap, sym, ◌∙◌, subst}
 use Rattle.std.proofs.lemmas.Bool.{cases_eq}
 use Rattle.std.proofs.lemmas.List.{length-map, length-set, length_push, get_or-map, get_or-set_same, get_or-set_other}
 use Rattle.db_value.specs.Relations.{columns_at}
@@ -13,10 +13,11 @@ use Rattle.db_store.specs.LayoutGrowth.{puts, touches, segment_after, row_after,
 use Rattle.db_store.specs.LaidOut.{IsLaid, row_at, no_row}
 use Rattle.db_store.proofs.SegmentLemmas.{at_relation}
 use Rattle.hybrid_view.specs.Live.{Lived, lived_at}
-use Rattle.hybrid_store.specs.Kept.{KeptRow, KeptLane, no_kept, no_kept_row, kept_row_at, kept_rows, laid_row, next_at, nexts_at, pushed_row}
+use Rattle.bit_rows.specs.Rows.{KeptRow, no_kept_row, kept_row_at, laid_row, next_at, pushed_row}
+use Rattle.hybrid_store.specs.Kept.{KeptLane, no_kept, kept_rows, nexts_at}
 use Rattle.hybrid_store.specs.Lanes.{KeptRecords, KeptList, no_rows, no_list, most_segments, segment_of, list_at, kept_at, lane_of, kept_layout}
 use Rattle.hybrid_store.specs.Ready.{IsMadeAt, IsMadeOf, no_own}
-use Rattle.hybrid_store.specs.Stored.{head_in, head_of_lane, IsKeptAt, IsKept, IsStored}
+use Rattle.hybrid_store.specs.Stored.{head_of_lane, IsKeptAt, IsKept, IsStored}
 use Rattle.hybrid_store.proofs.LayoutLemmas.{lane_kept, segments_kept, rows_kept}
 use Rattle.hybrid_store.proofs.CommitLayout.{commit_layout}
 use Rattle.hybrid_store.proofs.InstallLemmas.{kept_stays, next_is, nexts_count, laid_after, made_kept, segments_put}

@@ -1,12 +1,12 @@
 -- What a store keeps of one relation after a commit is installed: of the branch, and of the others.
-use Rattle.std.proofs.Common.{◌≡◌, ◌≢◌, ◌⊎◌, inl, inr, ℕ, Bool, true, false, cond, suc, ◌+◌, ◌-◌, ◌<◌, ◌≤◌, ◌==◌, ◌^◌, List, [], ◌∷◌, ◌++◌, length, map, set, take, get_or, Option, Some, None, refl, arith, ap, sym, ◌∙◌, subst}
+use Rattle.std.proofs.Common.{◌≡◌, ◌≢◌, ◌⊎◌, inl, inr, ℕ, Bool, true, false, cond, suc, ◌-◌, ◌<◌, ◌==◌, List, [], ◌∷◌, ◌++◌, length, map, set, take, get_or, refl, arith, ap, sym, ◌∙◌, subst}
 use Rattle.std.proofs.lemmas.Bool.{cases_eq, eq-eqb, ne_eqb}
-use Rattle.std.proofs.lemmas.List.{length-map, length-set, map-append, append-nil, get_or-map, get_or-set_same, get_or-set_other, ext_get_or, take-append-le}
+use Rattle.std.proofs.lemmas.List.{length-map, length-set, append-nil, get_or-map, get_or-set_same, get_or-set_other, ext_get_or, take-append-le}
 use Rattle.db_value.specs.declared.record.Record.{Record}
 use Rattle.db_value.specs.declared.entry.Change.{Change}
 use Rattle.record_page.specs.Page.{Rows}
 use Rattle.commit_history.specs.Runs.{Next, next_of}
-use Rattle.db_store.specs.Layout.{Segment, Row, no_segment, differ, bit, slots_where, records_at}
+use Rattle.db_store.specs.Layout.{Segment, Row, no_segment, differ, bit, records_at}
 use Rattle.db_store.specs.LayoutGrowth.{is_head_of, puts, touches, segment_after, bit_after, row_after}
 use Rattle.db_store.specs.LaidOut.{head_at, row_at, no_row}
 use Rattle.db_store.proofs.CommitLaw.{after_records}
@@ -14,13 +14,13 @@ use Rattle.hybrid_view.specs.Deltas.{slots_of}
 use Rattle.hybrid_view.specs.Live.{Piece, Lived, piece_at}
 use Rattle.hybrid_view.specs.RowPlaces.{Shows}
 use Rattle.hybrid_view.proofs.PlaceLemmas.{shown_shorter}
-use Rattle.hybrid_store.specs.Short.{shortest}
-use Rattle.hybrid_store.specs.Kept.{KeptRow, no_kept_row, kept_row_at, laid_row, next_at, pushed_row}
+use Rattle.bit_rows.specs.Short.{shortest}
+use Rattle.bit_rows.specs.Rows.{KeptRow, no_kept_row, kept_row_at, laid_row, next_at, pushed_row}
 use Rattle.hybrid_store.specs.Lanes.{KeptRecords, no_rows, kept_at, segment_of}
 use Rattle.hybrid_store.specs.Ready.{changed_slots, IsMadeAt}
-use Rattle.hybrid_store.specs.Stored.{Show, head_in, IsKeptAt}
+use Rattle.hybrid_store.specs.Stored.{head_in, IsKeptAt}
 use Rattle.hybrid_store.proofs.ReadyLemmas.{one_only}
-use Rattle.hybrid_store.proofs.ShortLemmas.{short_slots, shorts_push}
+use Rattle.bit_rows.proofs.ShortLemmas.{short_slots, shorts_push}
 use Rattle.hybrid_store.proofs.CommitLayout.{rows_pushed, row_pushed}
 
 -- heads stay while records are appended

@@ -1,10 +1,7 @@
 pub mod LayoutLemmas
 pub mod StoredLemmas
 pub mod HeadLemmas
-pub mod ShortLemmas
 pub mod NewLemmas
-pub mod PushLemmas
-pub mod ChangedLemmas
 pub mod CommitLemmas
 pub mod TableLemmas
 pub mod ReadyLemmas

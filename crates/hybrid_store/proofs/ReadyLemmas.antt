@@ -13,8 +13,8 @@ use Rattle.hybrid_view.specs.Live.{Piece, Lived, piece_at}
 use Rattle.hybrid_view.proofs.PlaceLemmas.{shown_shorter}
 use Rattle.hybrid_view.proofs.DeltaLemmas.{slots_agree}
 use Rattle.commit_history.specs.Runs.{Next, next_of}
-use Rattle.hybrid_store.specs.Short.{shortest}
-use Rattle.hybrid_store.proofs.ShortLemmas.{slots_stop_to}
+use Rattle.bit_rows.specs.Short.{shortest}
+use Rattle.bit_rows.proofs.ShortLemmas.{slots_stop_to}
 use Rattle.hybrid_store.specs.Ready.{IsMadeAt}
 
 pub one_only : (c d : ℕ) (h : Option ℕ) → c ≢ d → is_head_of d h ≡ true → is_head_of c h ≡ false

@@ -1,5 +1,5 @@
 -- What is ready for an entry is ready for a commit.
-use Rattle.std.proofs.Common.{◌≡◌, ℕ, true, List, refl, ap, sym, ◌∙◌, subst, Option, Some, None}
+use Rattle.std.proofs.Common.{◌≡◌, ℕ, true, List, refl, sym, subst, Option, Some, None}
 use Rattle.std.specs.Prelude.{IfSome}
 use Rattle.db_value.specs.declared.version.VersionPlace.{VersionPlace}
 use Rattle.db_value.specs.declared.entry.Change.{Change}

@@ -14,7 +14,8 @@ use Rattle.record_page.specs.Page.{Rows}
 use Rattle.hybrid_store.specs.Ready.{AreLast, no_own}
 use Rattle.commit_history.specs.Runs.{Next as NextDelta}
 use Rattle.hybrid_store.specs.Kept.{KeptLane, kept_rows, nexts_at}
-use Rattle.hybrid_store.specs.Stored.{AreDifferences, AllDifferences, IsNextAt, AllNextIn, AreSmall}
+use Rattle.bit_rows.specs.Differences.{AreDifferences}
+use Rattle.hybrid_store.specs.Stored.{AllDifferences, IsNextAt, AllNextIn, AreSmall}
 
 either_false : (a b : Bool) → (a || b) ≡ false → (a ≡ false) × (b ≡ false)
 either_false true b e = absurd cc

@@ -1,9 +1,8 @@
 -- Branches with more room are the same branches.
-use Rattle.std.proofs.Common.{◌≡◌, ℕ, zero, suc, ◌+◌, ◌*◌, ◌<◌, ◌≤◌, List, [], ◌∷◌, length, map, set, get_or, refl, arith, ap, sym, ◌∙◌, subst}
+use Rattle.std.proofs.Common.{◌≡◌, ℕ, zero, suc, ◌<◌, List, [], ◌∷◌, length, map, set, get_or, refl, arith, ap, sym, ◌∙◌, subst}
 use Rattle.std.specs.List.{All, AllZip}
 use Rattle.std.proofs.lemmas.List.Elements.{AllZip-get_or, length_all_zip}
 use Rattle.db_value.specs.declared.schema.Relation.{Relation}
-use Rattle.db_store.specs.Layout.{Lane}
 use Rattle.hybrid_store.specs.Kept.{KeptLane, no_kept}
 use Rattle.hybrid_store.specs.Lanes.{KeptList, lane_of}
 use Rattle.hybrid_store.specs.Stored.{HasRoom, Widens, IsKept, IsStored}

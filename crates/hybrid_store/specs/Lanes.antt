@@ -6,7 +6,8 @@ use Rattle.record_page.specs.Page.{Rows, rows_code}
 use Rattle.db_value.specs.declared.schema.Relation.{Relation}
 use Rattle.db_value.specs.declared.version.VersionPlace.{VersionPlace}
 use Rattle.db_store.specs.Layout.{Segment, Lane, Layout, by_relation}
-use Rattle.hybrid_store.specs.Kept.{KeptLane, kept_rows, laid_row}
+use Rattle.bit_rows.specs.Rows.{laid_row}
+use Rattle.hybrid_store.specs.Kept.{KeptLane, kept_rows}
 
 -- a segment, and the branch whose head it is
 pub record KeptRecords : Type 0 where

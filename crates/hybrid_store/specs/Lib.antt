@@ -1,4 +1,3 @@
-pub mod Short
 pub mod Kept
 pub mod Lanes
 pub mod New

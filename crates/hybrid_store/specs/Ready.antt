@@ -15,8 +15,9 @@ use Rattle.db_store.specs.LaidOut.{head_at, row_at}
 use Rattle.hybrid_view.specs.Live.{Lived, piece_at, lived_at, IsLived}
 use Rattle.hybrid_view.specs.RowPlaces.{Shows, IsWhole}
 use Rattle.commit_history.specs.Runs.{Next, next_of}
-use Rattle.hybrid_store.specs.Short.{shortest}
-use Rattle.hybrid_store.specs.Kept.{next_at, nexts_at}
+use Rattle.bit_rows.specs.Short.{shortest}
+use Rattle.bit_rows.specs.Rows.{next_at}
+use Rattle.hybrid_store.specs.Kept.{nexts_at}
 use Rattle.hybrid_store.specs.Stored.{AreSmall}
 
 -- the slots of a row that a commit of branch c changes

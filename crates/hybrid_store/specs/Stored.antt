@@ -5,18 +5,19 @@ use Rattle.db_value.specs.Relations.{columns_at}
 use Rattle.db_value.specs.declared.schema.Relation.{Relation}
 use Rattle.db_value.specs.declared.version.VersionPlace.{VersionPlace}
 use Rattle.db_store.specs.Dataset.{Dataset}
-use Rattle.plain_bits.specs.Truth.{bit_of}
-use Rattle.db_store.specs.Layout.{Segment, Row, dataset_in, differ, slots_where}
+use Rattle.db_store.specs.Layout.{Segment, Row, dataset_in}
 use Rattle.db_store.specs.LayoutGrowth.{is_head_of, puts}
 use Rattle.db_store.specs.LaidOut.{head_at, row_at}
 use Rattle.hybrid_view.specs.Live.{Lived, Piece, piece_at, lived_at, IsLived}
 use Rattle.hybrid_view.specs.RowPlaces.{Shows, IsWhole, AllNext}
 use Rattle.hybrid_view.specs.Struck.{touched_places}
 use Rattle.db_value.specs.declared.entry.Change.{Change}
-use Rattle.commit_history.specs.Runs.{Next, next_of}
+use Rattle.commit_history.specs.Runs.{Next}
 use Rattle.hybrid_view.specs.Deltas.{slots_of}
-use Rattle.hybrid_store.specs.Short.{shortest}
-use Rattle.hybrid_store.specs.Kept.{KeptRow, KeptLane, no_kept, kept_row_at, kept_rows, laid_row, next_at, nexts_at}
+use Rattle.bit_rows.specs.Short.{shortest}
+use Rattle.bit_rows.specs.Differences.{AreDifferences}
+use Rattle.bit_rows.specs.Rows.{KeptRow, kept_row_at, laid_row}
+use Rattle.hybrid_store.specs.Kept.{KeptLane, no_kept, kept_rows, nexts_at}
 use Rattle.hybrid_store.specs.Lanes.{KeptList, no_list, segment_of, list_at, kept_at, kept_layout, most_segments}
 
 -- the dataset of branches and segments
@@ -71,15 +72,6 @@ HasRoom more k = length k.seconds + more ≤ k.room
 -- the same branch, with no less room
 abbrev pub Widens : KeptLane → KeptLane → Type 0
 Widens old new = (new ≡ record old { room = new.room }) × (old.room ≤ new.room)
-
--- the slots in which two pieces differ, where the second one is longer
-abbrev pub difference_of : Piece → Piece → List ℕ
-difference_of p q = slots_where (λ slot. differ (bit_of p.bits slot) (bit_of q.bits slot)) (length q.bits)
-
--- what is ready for rows is what pieces and others differ in
-pub record AreDifferences (rows : List KeptRow) (nexts : List Next) (ps qs : List Piece) : Type 0 where
-  pub count : length nexts ≡ length rows
-  pub each : (i : ℕ) → i < length rows → next_at nexts i ≡ next_of (kept_row_at rows i).deltas (shortest (difference_of (piece_at ps i) (piece_at qs i)))
 
 -- what a branch has of a relation after changes, by what it had
 abbrev pub IsNextAt : KeptLane → List Change → ℕ → Lived → Type 0

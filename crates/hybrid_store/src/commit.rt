@@ -17,12 +17,12 @@ ghost use Rattle.hybrid_view.specs.Struck.{touched_places};
 ghost use Rattle.hybrid_store.specs.Kept.{no_kept, kept_rows};
 ghost use Rattle.hybrid_store.specs.Lanes.{list_at, segment_of};
 ghost use Rattle.hybrid_store.specs.Ready.{IsReady, AreLast};
-ghost use Rattle.hybrid_store.specs.Stored.{head_of_lane, AreDifferences, AllDifferences, AllNextIn, AreSmall, IsNextAt};
+ghost use Rattle.bit_rows.specs.Differences.{AreDifferences};
+ghost use Rattle.hybrid_store.specs.Stored.{head_of_lane, AllDifferences, AllNextIn, AreSmall, IsNextAt};
 
-use crate::changed::{next_deltas, rows_put, spots_of};
 use crate::kept::KeptSegments;
-use crate::rows::NextDeltas;
 use crate::store::HybridStore;
+use bit_rows::{NextDeltas, next_deltas, rows_put, spots_of};
 use db_value::{Change, VersionPlace};
 use hybrid_view::{HybridView, LiveRelation, LiveTable};
 use segment::Segment;

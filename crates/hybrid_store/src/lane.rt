@@ -3,9 +3,10 @@ ghost use Rattle.std.specs.Prelude.{◌≡◌, ◌≤◌, ◌<◌, ◌+◌, ◌�
 ghost use Rattle.std.specs.Arc.{arc_value};
 ghost use Rattle.std.proofs.Common.{get_or};
 ghost use Rattle.commit_history.specs.Runs.{next_of};
-ghost use Rattle.hybrid_store.specs.Kept.{kept_rows, kept_row_at, next_at, nexts_at, pushed_row};
+ghost use Rattle.bit_rows.specs.Rows.{kept_row_at, next_at, pushed_row};
+ghost use Rattle.hybrid_store.specs.Kept.{kept_rows, nexts_at};
 
-use crate::rows::{BitRows, NextDeltas};
+use bit_rows::{BitRows, NextDeltas};
 use db_value::{Name, VersionPlace};
 use hybrid_view::{HybridView, LiveTable};
 use std::alloc::{AllocError, Global};

@@ -8,21 +8,18 @@
 //! |---|---|
 //! | `specs/Kept.antt`, `specs/Lanes.antt`, `specs/Store.antt` | what it keeps, and the layout of it |
 //! | `specs/Stored.antt` | what holds of what it keeps |
-//! | `specs/Short.antt` | the shortest bitmap of some slots |
 //! | `src/store.rt`, `src/new.rt` | the store, and a new one |
 //! | `src/kept.rt` | the segments of a relation |
-//! | `src/rows.rt`, `src/lane.rt` | rows of bits with their histories, and a branch |
-//! | `specs/Ready.antt`, `src/commit.rt`, `src/changed.rt` | a commit that is made ready |
+//! | `src/lane.rt` | a branch, with its rows of bits (`bit_rows`) |
+//! | `specs/Ready.antt`, `src/commit.rt` | a commit that is made ready |
 //! | `src/install.rt` | the room that it needs, and adding it |
 #![tactic(auto)]
 
-mod changed;
 mod commit;
 mod install;
 mod kept;
 mod lane;
 mod new;
-mod rows;
 mod store;
 
 pub use commit::HybridPrepared;

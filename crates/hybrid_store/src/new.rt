@@ -11,7 +11,7 @@ ghost use Rattle.hybrid_store.specs.New.{own_at, first_lived};
 
 use crate::kept::KeptSegments;
 use crate::lane::HybridLane;
-use crate::rows::{BitRow, BitRows};
+use bit_rows::{BitRow, BitRows};
 use db_value::{Name, Relation, VersionPlace};
 use hybrid_view::{HybridView, LivePart, LiveRelation, LiveTable};
 use plain_bits::Bits;

@@ -1,5 +1,6 @@
 use Rattle.std.proofs.Common.{◌≡◌, ◌≤◌, ◌<◌, ℕ, [], length, get_or, vec_len}
-use Rattle.hybrid_store.specs.Kept.{kept_row_at, next_at, nexts_at, pushed_row}
+use Rattle.bit_rows.specs.Rows.{kept_row_at, next_at, pushed_row}
+use Rattle.hybrid_store.specs.Kept.{nexts_at}
 use Rattle.hybrid_store.proofs.lane.push_all.Given as goal
 
 abbrev pub invariant-loop-nexts : goal.invariant-loop-nexts

@@ -1,17 +1,16 @@
-use Rattle.std.proofs.Common.{◌≡◌, ℕ, ◌<◌, ◌-◌, ◌++◌, ◌∷◌, [], ◌∙◌, ap, sym, subst, arith, List, Option, length, map, set, get_or}
+use Rattle.std.proofs.Common.{◌≡◌, ℕ, ◌<◌, ◌-◌, ◌++◌, ◌∷◌, [], ◌∙◌, ap, sym, subst, arith, List, length, map, set, get_or}
 use Rattle.std.specs.Arc.{arc_value}
 use Rattle.std.proofs.lemmas.List.{get_or_default, length-map, length_push, length-set}
 use Rattle.std.proofs.lemmas.List.Elements.{All-set, All-weaker}
 use Rattle.db_value.specs.declared.version.VersionPlace.{VersionPlace}
-use Rattle.db_value.specs.declared.entry.Entry.{Entry}
 use Rattle.record_page.specs.Page.{Rows}
 use Rattle.commit_history.specs.Runs.{Next, next_of}
-use Rattle.db_store.specs.Dataset.{Dataset, proper, proper_if, head_place, apply}
+use Rattle.db_store.specs.Dataset.{Dataset, proper, head_place, apply}
 use Rattle.db_store.specs.Sound.{IsSound}
 use Rattle.db_store.specs.Counted.{IsCounted}
 use Rattle.db_store.specs.LaidOut.{IsLaid}
 use Rattle.db_store.specs.LayoutGrowth.{grow_layout}
-use Rattle.db_store.specs.Order.{number_in, numbers_if, number_of, lineage, IsOrdered}
+use Rattle.db_store.specs.Order.{number_in, number_of, lineage, IsOrdered}
 use Rattle.db_store.specs.State.{laid}
 use Rattle.db_store.proofs.OrderMade.{ordered_stays}
 use Rattle.db_store.proofs.SoundLemmas.{sound_stays}
@@ -19,11 +18,11 @@ use Rattle.db_store.proofs.CountedLemmas.{counted_stays}
 use Rattle.db_store.proofs.LaidLemmas.{laid_stays}
 use Rattle.hybrid_view.specs.Live.{Lived}
 use Rattle.store_catalogue.specs.ByName.{AreNumbers}
-use Rattle.store_catalogue.specs.Numbers.{list_if}
-use Rattle.hybrid_store.specs.Kept.{KeptLane, no_kept, kept_row_at, kept_rows, next_at, nexts_at, pushed_row}
-use Rattle.hybrid_store.specs.Lanes.{KeptList, no_list, list_at, kept_at, kept_layout, with_records}
+use Rattle.bit_rows.specs.Rows.{kept_row_at, next_at, pushed_row}
+use Rattle.hybrid_store.specs.Kept.{KeptLane, no_kept, kept_rows, nexts_at}
+use Rattle.hybrid_store.specs.Lanes.{KeptList, no_list, list_at, kept_layout, with_records}
 use Rattle.hybrid_store.specs.Ready.{no_own}
-use Rattle.hybrid_store.specs.Stored.{head_of_lane, kept_dataset, HasRoom, IsStored}
+use Rattle.hybrid_store.specs.Stored.{head_of_lane, kept_dataset, HasRoom}
 use Rattle.hybrid_store.specs.Store.{layout_of, dataset_in}
 use Rattle.hybrid_store.proofs.AddedLemmas.{parts, ready_there, ready_second, last_place, last_made, numbers_added, lineage_added, layout_added, state_added, dataset_added, stored_added, room_after, less_room}
 use Rattle.hybrid_store.proofs.GrownLemmas.{head_there, rows_some, ready_count, ready_counts, ready_each}

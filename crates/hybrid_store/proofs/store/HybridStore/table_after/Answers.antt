@@ -4,7 +4,8 @@ use Rattle.std.proofs.lemmas.List.{map-append, length_push}
 use Rattle.commit_history.specs.Runs.{Next}
 use Rattle.hybrid_view.specs.Live.{Lived, lived_at, IsLived}
 use Rattle.hybrid_store.specs.Kept.{KeptLane, no_kept, kept_rows}
-use Rattle.hybrid_store.specs.Stored.{AreDifferences, AllNextIn, AllDifferences, AreSmall}
+use Rattle.bit_rows.specs.Differences.{AreDifferences}
+use Rattle.hybrid_store.specs.Stored.{AllNextIn, AllDifferences, AreSmall}
 use Rattle.hybrid_store.proofs.TableLemmas.{next_more, lived_more, small_more, ready_more}
 use Rattle.hybrid_store.proofs.store.HybridStore.table_after.Goals as goal
 

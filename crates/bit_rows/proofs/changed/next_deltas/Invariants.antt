@@ -1,10 +1,10 @@
 use Rattle.std.proofs.Common.{◌≡◌, ℕ, ◌<◌, length}
 use Rattle.commit_history.specs.Runs.{next_of}
 use Rattle.hybrid_view.specs.Live.{piece_at}
-use Rattle.hybrid_store.specs.Short.{shortest}
-use Rattle.hybrid_store.specs.Kept.{next_at, kept_row_at}
-use Rattle.hybrid_store.specs.Stored.{difference_of}
-use Rattle.hybrid_store.proofs.changed.next_deltas.Given as goal
+use Rattle.bit_rows.specs.Short.{shortest}
+use Rattle.bit_rows.specs.Rows.{next_at, kept_row_at}
+use Rattle.bit_rows.specs.Differences.{difference_of}
+use Rattle.bit_rows.proofs.changed.next_deltas.Given as goal
 
 abbrev pub invariant-loop-index : goal.invariant-loop-index
 invariant-loop-index l = record {

@@ -1,5 +1,5 @@
 use Rattle.std.proofs.Common.{◌≡◌, take}
-use Rattle.hybrid_store.proofs.rows.BitRows.duplicate.Given as goal
+use Rattle.bit_rows.proofs.rows.BitRows.duplicate.Given as goal
 
 abbrev pub invariant-loop-row : goal.invariant-loop-row
 invariant-loop-row l = l.items.items ≡ take l.row-index l.row-items

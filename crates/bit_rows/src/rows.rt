@@ -3,8 +3,8 @@ ghost use Rattle.std.specs.Prelude.{◌≡◌, ℕ, ◌+◌, ◌-◌, ◌<◌, �
 ghost use Rattle.std.specs.List.{All};
 ghost use Rattle.commit_history.specs.Runs.{next_of};
 ghost use Rattle.hybrid_view.specs.Deltas.{slots_of};
-ghost use Rattle.hybrid_store.specs.Short.{end_of, shortest};
-ghost use Rattle.hybrid_store.specs.Kept.{kept_row_at, next_at, pushed_row};
+ghost use Rattle.bit_rows.specs.Short.{end_of, shortest};
+ghost use Rattle.bit_rows.specs.Rows.{kept_row_at, next_at, pushed_row};
 
 use commit_history::{Delta, History, NextDelta};
 use plain_bits::Bits;
@@ -50,7 +50,7 @@ pub struct BitRow {
 }
 
 impl Model for BitRow {
-    ghost use Rattle.hybrid_store.specs.Kept.{KeptRow, row_code};
+    ghost use Rattle.bit_rows.specs.Rows.{KeptRow, row_code};
 
     ghost Value = { KeptRow };
 
@@ -174,7 +174,7 @@ pub struct BitRows {
 impl Model for BitRows {
     ghost use Rattle.std.specs.Prelude.{List};
     ghost use Rattle.std.specs.Coded.{coded_list};
-    ghost use Rattle.hybrid_store.specs.Kept.{KeptRow, row_code};
+    ghost use Rattle.bit_rows.specs.Rows.{KeptRow, row_code};
 
     ghost Value = { List KeptRow };
 

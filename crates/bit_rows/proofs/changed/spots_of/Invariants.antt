@@ -1,6 +1,6 @@
 use Rattle.std.proofs.Common.{◌≡◌, ◌++◌, ◌+◌, ◌≤◌, drop}
 use Rattle.hybrid_view.specs.RowPlaces.{spots}
-use Rattle.hybrid_store.proofs.changed.spots_of.Given as goal
+use Rattle.bit_rows.proofs.changed.spots_of.Given as goal
 
 abbrev pub invariant-loop-change : goal.invariant-loop-change
 invariant-loop-change l = record {

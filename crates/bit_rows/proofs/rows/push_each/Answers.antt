@@ -1,9 +1,9 @@
 use Rattle.std.proofs.Common.{◌≡◌, ◌∙◌, ℕ, List, length, arith, sym}
 use Rattle.std.proofs.lemmas.List.{get_or_default}
 use Rattle.commit_history.specs.Runs.{Next, next_of}
-use Rattle.hybrid_store.specs.Kept.{KeptRow, no_kept_row, no_next, kept_row_at, next_at, pushed_row}
-use Rattle.hybrid_store.proofs.PushLemmas.{push_below, push_there, push_next, push_within, push_count, push_left, push_same, push_done}
-use Rattle.hybrid_store.proofs.rows.push_each.Goals as goal
+use Rattle.bit_rows.specs.Rows.{KeptRow, no_kept_row, no_next, kept_row_at, next_at, pushed_row}
+use Rattle.bit_rows.proofs.PushLemmas.{push_below, push_there, push_next, push_within, push_count, push_left, push_same, push_done}
+use Rattle.bit_rows.proofs.rows.push_each.Goals as goal
 
 pub push-requires : goal.push-requires
 push-requires c =

@@ -2,8 +2,8 @@ use Rattle.std.proofs.Common.{◌≡◌, ◌≤◌, ◌<◌, ◌-◌, length}
 use Rattle.std.specs.List.{All}
 use Rattle.plain_bits.specs.Truth.{bit_of}
 use Rattle.db_store.specs.Layout.{slots_where}
-use Rattle.hybrid_store.specs.Short.{end_of}
-use Rattle.hybrid_store.proofs.rows.places_of.Given as goal
+use Rattle.bit_rows.specs.Short.{end_of}
+use Rattle.bit_rows.proofs.rows.places_of.Given as goal
 
 abbrev pub invariant-places : goal.invariant-places
 invariant-places l = record {

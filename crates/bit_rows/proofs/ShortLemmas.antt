@@ -9,7 +9,7 @@ use Rattle.commit_history.proofs.Places.{flipped-push}
 use Rattle.db_store.specs.Layout.{slots_where}
 use Rattle.hybrid_view.specs.Deltas.{slots_of}
 use Rattle.hybrid_view.proofs.DeltaLemmas.{slots_more, slots_by}
-use Rattle.hybrid_store.specs.Short.{end_of, shortest}
+use Rattle.bit_rows.specs.Short.{end_of, shortest}
 
 -- ---- slots one after another
 

@@ -3,8 +3,8 @@ ghost use Rattle.std.specs.Prelude.{◌≡◌, ℕ, ◌+◌, ◌-◌, ◌<◌, �
 ghost use Rattle.db_store.specs.LayoutGrowth.{puts};
 ghost use Rattle.hybrid_view.specs.Live.{piece_at};
 ghost use Rattle.hybrid_view.specs.RowPlaces.{spots};
-ghost use Rattle.hybrid_store.specs.Kept.{kept_row_at};
-ghost use Rattle.hybrid_store.specs.Stored.{AreDifferences};
+ghost use Rattle.bit_rows.specs.Rows.{kept_row_at};
+ghost use Rattle.bit_rows.specs.Differences.{AreDifferences};
 
 use crate::rows::{BitRows, NextDeltas};
 use db_value::{Change, ListOf, Record, Records};

@@ -1,6 +1,6 @@
 use Rattle.std.proofs.Common.{◌≡◌, ◌≤◌, ◌<◌, ℕ, length, vec_len}
-use Rattle.hybrid_store.specs.Kept.{kept_row_at, next_at, pushed_row}
-use Rattle.hybrid_store.proofs.rows.push_each.Given as goal
+use Rattle.bit_rows.specs.Rows.{kept_row_at, next_at, pushed_row}
+use Rattle.bit_rows.proofs.rows.push_each.Given as goal
 
 abbrev pub invariant-loop-next : goal.invariant-loop-next
 invariant-loop-next l = record {

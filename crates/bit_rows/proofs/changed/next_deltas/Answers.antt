@@ -4,11 +4,11 @@ use Rattle.plain_bits.specs.Truth.{bit_of, differ as differ_bits}
 use Rattle.commit_history.specs.Runs.{Next, next_of}
 use Rattle.hybrid_view.specs.Live.{Piece, piece_at}
 use Rattle.hybrid_view.specs.Deltas.{slots_of}
-use Rattle.hybrid_store.specs.Short.{shortest}
-use Rattle.hybrid_store.specs.Kept.{KeptRow, next_at, kept_row_at}
-use Rattle.hybrid_store.specs.Stored.{difference_of}
-use Rattle.hybrid_store.proofs.ChangedLemmas.{delta_slots, differences_more}
-use Rattle.hybrid_store.proofs.changed.next_deltas.Goals as goal
+use Rattle.bit_rows.specs.Short.{shortest}
+use Rattle.bit_rows.specs.Rows.{KeptRow, next_at, kept_row_at}
+use Rattle.bit_rows.specs.Differences.{difference_of}
+use Rattle.bit_rows.proofs.ChangedLemmas.{delta_slots, differences_more}
+use Rattle.bit_rows.proofs.changed.next_deltas.Goals as goal
 
 pub loop-index-preserved : goal.loop-index-preserved
 loop-index-preserved c =

@@ -15,9 +15,9 @@ use Rattle.db_store.specs.LayoutGrowth.{put_before, puts}
 use Rattle.hybrid_view.specs.Deltas.{slots_of}
 use Rattle.hybrid_view.specs.RowPlaces.{spot_before, spots}
 use Rattle.commit_history.specs.Runs.{Next, next_of}
-use Rattle.hybrid_store.specs.Short.{shortest}
-use Rattle.hybrid_store.specs.Kept.{KeptRow, no_next, next_at, kept_row_at}
-use Rattle.hybrid_store.specs.Stored.{difference_of}
+use Rattle.bit_rows.specs.Short.{shortest}
+use Rattle.bit_rows.specs.Rows.{KeptRow, no_next, next_at, kept_row_at}
+use Rattle.bit_rows.specs.Differences.{difference_of}
 
 put_first : (b : Bool) (key : ℕ) (f : Option (List Value)) (rest : List Record) → put_before b key f rest ≡ put_before b key f [] ++ rest
 put_first true key (Some f) rest = refl

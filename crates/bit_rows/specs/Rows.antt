@@ -1,0 +1,43 @@
+-- Rows of bits with their histories.
+use Rattle.std.specs.Prelude.{ℕ, ◌++◌, Bool, List, [], ◌∷◌, map, None, refl}
+use Rattle.std.specs.Coded.{Coded, code_by, coded×, coded_ℕ, coded_list, coded_bool}
+use Rattle.std.proofs.Common.{get_or}
+use Rattle.commit_history.specs.Runs.{Next}
+use Rattle.db_store.specs.Layout.{Row}
+use Rattle.hybrid_view.specs.Deltas.{slots_of}
+
+-- a row of bits: its segment, the position at which it begins, and the delta of each position from there on
+pub record KeptRow : Type 0 where
+  pub segment : ℕ
+  pub from : ℕ
+  pub deltas : List (List Bool)
+
+-- so can rows
+abbrev pub row_code : Coded KeptRow
+row_code =
+    code_by (ℕ × (ℕ × List (List Bool))) (coded× coded_ℕ (coded× coded_ℕ (coded_list (coded_list coded_bool))))
+    (λ r. (r.segment, (r.from, r.deltas))) (λ p. record { segment = p.0; from = p.1.0; deltas = p.1.1 }) (λ _. refl)
+
+-- what stands past the last row
+abbrev pub no_kept_row : KeptRow
+no_kept_row = record { segment = 0; from = 0; deltas = [] }
+
+-- a row by its number
+abbrev pub kept_row_at : List KeptRow → ℕ → KeptRow
+kept_row_at rows i = get_or rows i no_kept_row
+
+-- a row as the layout has it
+abbrev pub laid_row : KeptRow → Row
+laid_row s = record { segment = s.segment; from = s.from; deltas = map slots_of s.deltas }
+
+-- what stands past the last row's
+abbrev pub no_next : Next
+no_next = record { delta = record { item = []; count = 0 }; by_16 = None; by_256 = None; by_4096 = None }
+
+-- what is ready for a row, by its number
+abbrev pub next_at : List Next → ℕ → Next
+next_at nexts i = get_or nexts i no_next
+
+-- a row with one delta more
+abbrev pub pushed_row : KeptRow → Next → KeptRow
+pushed_row s next = record s { deltas = s.deltas ++ next.delta.item ∷ [] }
