@@ -27,6 +27,7 @@ FORMS = [(kind, re.compile(form), stage) for kind, form, stage in (
     ("join", r"join (%s) (%s) (%s) (%s)%s" % (NAMED, NAMED, OF, OF, WHERE), "questions"),
     ("minus", r"minus (%s) (%s) (%s)" % (NAMED, OF, OF), "questions"),
     ("graph", r"graph", "merges"),
+    ("segments", r"segments", "segments"),
     ("merge", r"merge (%s)(?: (left|right))?" % NAMED, "merges"),
 )]
 HOLDS = {"=": (0,), "!=": (-1, 1), "<": (-1,), "<=": (-1, 0), ">": (1,), ">=": (0, 1)}
@@ -82,6 +83,9 @@ class Machine:
         self.cells = [{}]  # of a branch, by relation and key, the positions of its changes, and the fields
         self.spelled, self.parents, self.reached = ["master@0"], [()], [1]  # of a version; reached is a set of bits
         self.sessions, self.locks = {}, {}
+        self.pieces = [[[0, 0]] for _ in self.columns]  # of a relation its segments: the branch whose head one is, and how many records it has
+        self.homes = [[[{}] for _ in self.columns]]  # of a branch, by relation and position, the segment of each key's record
+        self.seen = [[[0] for _ in self.columns]]  # of a branch and relation, the segments that it has a row of; the last one is its head
 
     # One line.
 
@@ -277,12 +281,48 @@ class Machine:
             positions.append(position)
             states.append(fields)
         parents = (self.versions[branch][-1],) + (() if now.second is None else (now.second,))
+        self.house(branch, now.changes)
         self.sizes[branch].append([self.size(r) for r in range(len(self.columns))])
         self.versions[branch].append(version)
         self.spelled.append("%s@%d" % (self.names[branch], position))
         self.parents.append(parents)
         self.reached.append(1 << version | self.reached[parents[0]] | self.reached[parents[-1]])
         return "ok %s\n" % self.spelled[-1]
+
+    def house(self, branch, changes):
+        """Each record that a commit puts goes to the head of its branch."""
+        for r, homes in enumerate(self.homes[branch]):
+            head, new = self.seen[branch][r][-1], dict(homes[-1])
+            for (_, key), fields in (change for change in changes.items() if change[0][0] == r):
+                new.pop(key, None)
+                if fields is not None:
+                    new[key] = head
+                    self.pieces[r][head][1] += 1
+            homes.append(new)
+
+    def move_in(self, origin, position):
+        """A new branch gets a head; and so does its origin, if the branch is made of its last version."""
+        new = len(self.homes)
+        self.homes.append([])
+        self.seen.append([])
+        for r, pieces in enumerate(self.pieces):
+            homes = self.homes[origin][r][position]
+            if position == len(self.homes[origin][r]) - 1:
+                pieces[self.seen[origin][r][-1]][0] = None
+                self.seen[origin][r].append(len(pieces))
+                pieces.append([origin, 0])
+            self.homes[new].append([homes])
+            self.seen[new].append([*sorted(set(homes.values())), len(pieces)])
+            pieces.append([new, 0])
+
+    def do_segments(self):
+        self.lock(*self.all_heads())
+        lines = []
+        for r, pieces in enumerate(self.pieces):
+            for number, (head, count) in enumerate(pieces):
+                live = ["%s=%d" % (name, list(self.homes[branch][r][-1].values()).count(number)) for branch, name in enumerate(self.names) if number in self.seen[branch][r]]
+                lines.append("segment %s %d %s records %d live %s\n" % (self.relations[r], number, "internal" if head is None else "head " + self.names[head], count, ",".join(live)))
+        return "%ssegments %d\n" % ("".join(lines), len(lines))
 
     def changed(self):
         return "ok\n" if self.now.begun else self.store()
@@ -310,6 +350,7 @@ class Machine:
         self.origins.append((number, position))
         self.versions.append([self.versions[number][position]])
         self.sizes.append([self.sizes[number][position]])
+        self.move_in(number, position)
         self.cells.append({})
         return "ok %s@0\n" % branch
 

@@ -10,12 +10,15 @@ needs of lines alone.
 import operator, re, sys
 from dataclasses import dataclass
 
-# What of the language is built stage by stage. A line that needs a stage that isn't built is a bad line, and so are `segments` and
-# `checkpoint`: the model has no segments and no files.
+import layout
+
+# What of the language is built stage by stage. A line that needs a stage that isn't built is a bad line, and so is `checkpoint`: the model
+# has no files.
 STAGES = {
     "sessions": "sessions 2 to 64",
     "questions": "scan with in or where, join, minus",
     "merges": "merge, graph",
+    "segments": "segments",
 }
 BUILT = ("sessions", "questions", "merges")
 
@@ -118,7 +121,7 @@ class Statement:
 
 def statement(words):
     match words:
-        case [b"begin"] | [b"commit"] | [b"abort"] | [b"graph"]:
+        case [b"begin"] | [b"commit"] | [b"abort"] | [b"graph"] | [b"segments"]:
             return Statement(words[0].decode())
         case [b"begin", room]:
             return Statement("begin", room=number(room, TOUCHED, 1))
@@ -167,6 +170,8 @@ def stages_of(session, said):
         stages.add("questions")
     if said and said.kind in ("merge", "graph"):
         stages.add("merges")
+    if said and said.kind == "segments":
+        stages.add("segments")
     return stages
 
 
@@ -214,6 +219,7 @@ class State:
         # the versions of each branch by position, branches in the order made; at 0 stands the one from which the branch was made
         self.branches = {b"master": [root]}
         self.made = [root]  # in the order made
+        self.layout = layout.Layout(schema)
 
     def found(self, of):
         branch, position = of
@@ -226,7 +232,18 @@ class State:
             raise Refused(b"5 no version " + spelled(of))
         return versions[position]
 
-    def commit(self, branch, second, tables):
+    def place(self, of):
+        """Of a version that is there, its branch and position."""
+        branch, position = of
+        return branch, len(self.branches[branch]) - 1 if position is None else position
+
+    def branch(self, new, of):
+        origin = self.found(of)
+        self.layout.branch(new, *self.place(of))
+        self.branches[new] = [origin]
+
+    def commit(self, branch, second, tables, touched):
+        self.layout.commit(branch, [(relation, key, key in tables[relation]) for relation, key in touched])
         versions = self.branches[branch]
         made = Version(b"%s@%d" % (branch, len(versions)), [versions[-1]] + ([second] if second else []), tables)
         versions.append(made)
@@ -311,7 +328,7 @@ class Run:
         self.state, self.current = state, current
         self.tables, self.touched, self.second = state.branches[current][-1].tables, set(), None
         self.is_begun, self.room = False, ROOM
-        self.origin = self.new = None  # of a new branch
+        self.new = None  # a new branch, and the name of the version of which it is made
         self.moved = None  # where the session goes on
 
     def answer(self, said):
@@ -369,9 +386,9 @@ class Run:
     def enter(self):
         """Its entry, on the state on which it ran."""
         if self.new is not None:
-            self.state.branches[self.new] = [self.origin]
+            self.state.branch(*self.new)
         elif self.has_version():
-            self.state.commit(self.current, self.second, self.tables)
+            self.state.commit(self.current, self.second, self.tables, self.touched)
 
     # The statements, where they aren't refused early.
 
@@ -391,12 +408,12 @@ class Run:
         return b"ok\n"
 
     def branch(self, said):
-        origin = self.state.found(said.names[0])
+        self.state.found(said.names[0])
         if said.branch in self.state.branches:
             raise Refused(b"14 branch there " + said.branch)
         if len(self.state.branches) == BRANCHES:
             raise Refused(b"15 branches full")
-        self.new, self.origin = said.branch, origin
+        self.new = said.branch, said.names[0]
         return b"ok %s@0\n" % said.branch
 
     def log(self, said):
@@ -407,6 +424,9 @@ class Run:
     def graph(self, said):
         lines = [line for branch in self.state.branches for line in self.state.log(branch)]
         return b"\n".join(lines) + b"\nversions %d\n" % len(self.state.made)
+
+    def segments(self, said):
+        return self.state.layout.lines()
 
     def get(self, said):
         return self.get_of(said, self.tables)
@@ -509,7 +529,7 @@ def needs(state, current, said):
         found.add((current, True))
     if said.kind in ("get", "scan"):
         found.add((current, False))
-    if said.kind in ("scan_heads", "graph"):
+    if said.kind in ("scan_heads", "graph", "segments"):
         found.update((lock, False) for lock in (CATALOGUE, *state.branches))
     if said.kind == "branch":
         found.add((CATALOGUE, True))

@@ -11,7 +11,7 @@ ghost use Rattle.db_store.specs.Found.{plain};
 
 use db_store::View;
 use db_value::{
-    ListOf, Name, Pairs, Pred, PredStop, Rows, Schema, Steps, Terms, VersionName, VersionNames,
+    Name, Pairs, Pred, PredStop, Rows, Schema, SharedList, Steps, Terms, VersionName, VersionNames,
 };
 use multi_scan::{list, scan};
 use std::alloc::{AllocError, Global};
@@ -74,7 +74,7 @@ pub fn plain_names(alloc: Global, names: &[Name]) -> Result<VersionNames, AllocE
     ensures { IfOk result (λ all. all ≡ map plain names.now) }
 {
     let all = plain_items(alloc, names)?;
-    Ok(ListOf::of(all))
+    Ok(SharedList::of(alloc, all)?)
 }
 
 fn list_counted<V: View, L: Ledger>(

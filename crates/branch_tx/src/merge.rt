@@ -41,27 +41,26 @@ fn field_name(schema: &Schema, relation: u8, field: Option<u8>) -> Option<Name>
 
 impl<St: Store> Tx<St> {
     // Takes the changes of a merge that has no conflict.
-    fn adopt(&mut self, from: VersionPlace, changes: &Changes) -> Result<Reply, AllocError>
+    fn adopt(&mut self, from: VersionPlace, changes: &Changes) -> Reply
         requires untouched { self.old.overlays ≡ untouched }
         requires relations { list_all (λ c.
             nat_lt c.relation (length self.old.head)) changes.now ≡ true }
         requires differ { keys_differ changes.now ≡ true }
-        ensures reply { IfOk result (λ r. r ≡ (adopted self.old from changes.now).reply) }
-        ensures left { OnOk result (self.new ≡ with_merge self.old
-            (adopted self.old from changes.now)) }
-        ensures err { OnErr result (self.new ≡ self.old) }
+        ensures reply { result ≡ (adopted self.old from changes.now).reply }
+        ensures left { self.new ≡ with_merge self.old
+            (adopted self.old from changes.now) }
     {
         match self.work.adopt(changes) {
             Ok(()) => {
                 self.second = Some(from);
-                Ok(Reply::Done)
+                Reply::Done
             }
-            Err(WorkStop::TableFull { relation }) => Ok(refused(Refusal::TableFull {
+            Err(WorkStop::TableFull { relation }) => refused(Refusal::TableFull {
                 relation: relation_name(&self.schema, relation),
-            })),
-            Err(WorkStop::Room) => Ok(refused(Refusal::Room {
+            }),
+            Err(WorkStop::Room) => refused(Refusal::Room {
                 room: self.work.room(),
-            })),
+            }),
             Err(_) => unreachable!(),
         }
     }
@@ -98,8 +97,7 @@ impl<St: Store> Tx<St> {
             prefer,
         ) {
             Ok(changes) => {
-                let reply = self.adopt(from, &changes)?;
-                Ok(reply)
+                Ok(self.adopt(from, &changes))
             }
             Err(
                 MergeStop::Conflict {

@@ -1,5 +1,5 @@
 //! Questions of a granted transaction to versions.
-ghost use Rattle.std.specs.Prelude.{◌≡◌, None, Some, length, map, IfOk, OnOk};
+ghost use Rattle.std.specs.Prelude.{◌≡◌, [], None, Some, length, map, IfOk, OnOk};
 ghost use Rattle.branch_tx.specs.Keeping.{over_table};
 ghost use Rattle.branch_tx.specs.Granted.{tx_in, acted};
 
@@ -7,7 +7,7 @@ use crate::Tx;
 use crate::ask::{condition, join_rows, list_rows, minus_rows, plain_names, scan_rows};
 use crate::refuse::{no_column, no_relation, refused};
 use db_store::{Seen, Store};
-use db_value::{ListOf, Name, Pred, Refusal, Reply, Terms, VersionName, VersionNames};
+use db_value::{Name, Pred, Refusal, Reply, SharedList, Terms, VersionName, VersionNames};
 use std::alloc::AllocError;
 use stmt_text::{ScanOver, Stmt};
 
@@ -79,13 +79,22 @@ impl<St: Store> Tx<St> {
         condition(*self.lent.allocator(), &self.schema, relation, terms)
     }
 
+    // The names of a question that names no version.
+    fn no_names(&self) -> Result<VersionNames, AllocError>
+        ensures { IfOk result (λ names. names ≡ []) }
+    {
+        let alloc = *self.lent.allocator();
+        let names = SharedList::of(alloc, Vec::new(alloc))?;
+        Ok(names)
+    }
+
     // The names of all branches, as versions.
     fn head_names(&self) -> Result<VersionNames, AllocError>
         ensures { IfOk result (λ names. names ≡ map plain (names_or_none self.now.heads)) }
     {
         let alloc = *self.lent.allocator();
         match &self.heads {
-            None => Ok(ListOf::of(Vec::new(alloc))),
+            None => self.no_names(),
             Some(heads) => plain_names(alloc, heads.as_slice()),
         }
     }
@@ -118,7 +127,7 @@ impl<St: Store> Tx<St> {
             r ≡ (scanned self.now relation (pred_holds pred.now) ScanOver.Current).reply) }
     {
         let rows = list_rows(*self.lent.allocator(), &self.work, relation, pred)?;
-        let names = ListOf::of(Vec::new(*self.lent.allocator()));
+        let names = self.no_names()?;
         Ok(Reply::Listed { names, rows })
     }
 
@@ -130,7 +139,7 @@ impl<St: Store> Tx<St> {
         match over {
             ScanOver::Current => self.scan_own(relation, pred),
             ScanOver::Named { names } => {
-                let names = names.duplicate()?;
+                let names = names.share()?;
                 self.scan_versions(relation, pred, names)
             }
             ScanOver::Heads => {
@@ -222,7 +231,7 @@ impl<St: Store> Tx<St> {
             return Ok(refused(Refusal::Line));
         };
         let rows = minus_rows(*self.lent.allocator(), &left, &right, relation)?;
-        let names = ListOf::of(Vec::new(*self.lent.allocator()));
+        let names = self.no_names()?;
         Ok(Reply::Listed { names, rows })
     }
 

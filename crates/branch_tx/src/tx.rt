@@ -239,18 +239,17 @@ impl<St: Store> Tx<St> {
     }
 
     // Puts a record whose key isn't there, on a branch that isn't full.
-    fn place(&mut self, relation: u8, name: Name, row: &Record) -> Result<Reply, AllocError>
+    fn place(&mut self, relation: u8, name: Name, row: &Record) -> Reply
         requires { relation < length self.old.schema }
-        ensures reply { IfOk result (λ r. r ≡ (placed self.old relation name row.now).reply) }
-        ensures left { OnOk result (self.new ≡ with_work self.old
-            (placed self.old relation name row.now)) }
-        ensures err { OnErr result (self.new ≡ self.old) }
+        ensures reply { result ≡ (placed self.old relation name row.now).reply }
+        ensures left { self.new ≡ with_work self.old
+            (placed self.old relation name row.now) }
     {
         match self.work.insert(relation, row) {
-            Ok(()) => Ok(Reply::Done),
+            Ok(()) => Reply::Done,
             Err(stop) => {
                 let why = refusal_of(stop, name, row.key, self.work.room());
-                Ok(refused(why))
+                refused(why)
             }
         }
     }
@@ -262,38 +261,32 @@ impl<St: Store> Tx<St> {
         name: Name,
         key: u64,
         fields: &Fields,
-    ) -> Result<Reply, AllocError>
+    ) -> Reply
         requires { relation < length self.old.schema }
-        ensures reply { IfOk result (λ r.
-            r ≡ (inserted self.old relation name key fields.now).reply) }
-        ensures left { OnOk result (self.new ≡ with_work self.old
-            (inserted self.old relation name key fields.now)) }
-        ensures err { OnErr result (self.new ≡ self.old) }
+        ensures reply { result ≡ (inserted self.old relation name key fields.now).reply }
+        ensures left { self.new ≡ with_work self.old
+            (inserted self.old relation name key fields.now) }
     {
         if self.is_full() {
-            return Ok(versions_full(self.current));
+            return versions_full(self.current);
         }
         let fields = *fields;
-        let reply = self.place(relation, name, &Record { key, fields })?;
-        Ok(reply)
+        self.place(relation, name, &Record { key, fields })
     }
 
-    fn insert(&mut self, name: &Name, key: u64, fields: &Fields) -> Result<Reply, AllocError>
-        ensures reply { IfOk result (λ r.
-            r ≡ (acted self.old (Stmt.Insert name.now key fields.now)).reply) }
-        ensures left { OnOk result (self.new ≡ left self.old
-            (Stmt.Insert name.now key fields.now)) }
-        ensures err { OnErr result (self.new ≡ self.old) }
+    fn insert(&mut self, name: &Name, key: u64, fields: &Fields) -> Reply
+        ensures reply { result ≡ (acted self.old (Stmt.Insert name.now key fields.now)).reply }
+        ensures left { self.new ≡ left self.old
+            (Stmt.Insert name.now key fields.now) }
     {
         let Some(relation) = self.relation_of(name) else {
-            return Ok(no_relation(*name));
+            return no_relation(*name);
         };
         let columns = column_count(&self.schema, relation);
         if fields.count() != columns {
-            return Ok(value_count(*name, columns as u32));
+            return value_count(*name, columns as u32);
         }
-        let reply = self.insert_in(relation, *name, key, fields)?;
-        Ok(reply)
+        self.insert_in(relation, *name, key, fields)
     }
 
     // Gives a record new values, on a branch that isn't full.
@@ -303,18 +296,17 @@ impl<St: Store> Tx<St> {
         name: Name,
         key: u64,
         sets: &Sets,
-    ) -> Result<Reply, AllocError>
+    ) -> Reply
         requires { relation < length self.old.schema }
-        ensures reply { IfOk result (λ r. r ≡ (renewed self.old relation name key sets.now).reply) }
-        ensures left { OnOk result (self.new ≡ with_work self.old
-            (renewed self.old relation name key sets.now)) }
-        ensures err { OnErr result (self.new ≡ self.old) }
+        ensures reply { result ≡ (renewed self.old relation name key sets.now).reply }
+        ensures left { self.new ≡ with_work self.old
+            (renewed self.old relation name key sets.now) }
     {
         match self.work.update(relation, key, sets) {
-            Ok(()) => Ok(Reply::Done),
+            Ok(()) => Reply::Done,
             Err(stop) => {
                 let why = refusal_of(stop, name, key, self.work.room());
-                Ok(refused(why))
+                refused(why)
             }
         }
     }
@@ -326,22 +318,19 @@ impl<St: Store> Tx<St> {
         name: Name,
         key: u64,
         sets: &Result<Sets, Name>,
-    ) -> Result<Reply, AllocError>
+    ) -> Reply
         requires { relation < length self.old.schema }
-        ensures reply { IfOk result (λ r.
-            r ≡ (updated_by self.old relation name key sets.now).reply) }
-        ensures left { OnOk result (self.new ≡ with_work self.old
-            (updated_by self.old relation name key sets.now)) }
-        ensures err { OnErr result (self.new ≡ self.old) }
+        ensures reply { result ≡ (updated_by self.old relation name key sets.now).reply }
+        ensures left { self.new ≡ with_work self.old
+            (updated_by self.old relation name key sets.now) }
     {
         match sets {
-            Err(column) => Ok(no_column(*column)),
+            Err(column) => no_column(*column),
             Ok(sets) => {
                 if self.is_full() {
-                    return Ok(versions_full(self.current));
+                    return versions_full(self.current);
                 }
-                let reply = self.renew(relation, name, key, sets)?;
-                Ok(reply)
+                self.renew(relation, name, key, sets)
             }
         }
     }
@@ -356,8 +345,7 @@ impl<St: Store> Tx<St> {
             return Ok(no_relation(*name));
         };
         let sets = self.resolved(relation, sets)?;
-        let reply = self.update_in(relation, *name, key, &sets)?;
-        Ok(reply)
+        Ok(self.update_in(relation, *name, key, &sets))
     }
 
     // New values by the numbers of their columns, or the first column that isn't there.
@@ -374,35 +362,32 @@ impl<St: Store> Tx<St> {
     }
 
     // Takes a record away, on a branch that isn't full.
-    fn remove(&mut self, relation: u8, name: Name, key: u64) -> Result<Reply, AllocError>
+    fn remove(&mut self, relation: u8, name: Name, key: u64) -> Reply
         requires { relation < length self.old.schema }
-        ensures reply { IfOk result (λ r. r ≡ (removed self.old relation name key).reply) }
-        ensures left { OnOk result (self.new ≡ with_work self.old
-            (removed self.old relation name key)) }
-        ensures err { OnErr result (self.new ≡ self.old) }
+        ensures reply { result ≡ (removed self.old relation name key).reply }
+        ensures left { self.new ≡ with_work self.old
+            (removed self.old relation name key) }
     {
         match self.work.delete(relation, key) {
-            Ok(()) => Ok(Reply::Done),
+            Ok(()) => Reply::Done,
             Err(stop) => {
                 let why = refusal_of(stop, name, key, self.work.room());
-                Ok(refused(why))
+                refused(why)
             }
         }
     }
 
-    fn delete(&mut self, name: &Name, key: u64) -> Result<Reply, AllocError>
-        ensures reply { IfOk result (λ r. r ≡ (acted self.old (Stmt.Delete name.now key)).reply) }
-        ensures left { OnOk result (self.new ≡ left self.old (Stmt.Delete name.now key)) }
-        ensures err { OnErr result (self.new ≡ self.old) }
+    fn delete(&mut self, name: &Name, key: u64) -> Reply
+        ensures reply { result ≡ (acted self.old (Stmt.Delete name.now key)).reply }
+        ensures left { self.new ≡ left self.old (Stmt.Delete name.now key) }
     {
         let Some(relation) = self.relation_of(name) else {
-            return Ok(no_relation(*name));
+            return no_relation(*name);
         };
         if self.is_full() {
-            return Ok(versions_full(self.current));
+            return versions_full(self.current);
         }
-        let reply = self.remove(relation, *name, key)?;
-        Ok(reply)
+        self.remove(relation, *name, key)
     }
 
     // The record with a key in the working table.
@@ -493,13 +478,13 @@ impl<St: Store> Tx<St> {
                 relation,
                 key,
                 fields,
-            } => self.insert(relation, *key, fields),
+            } => Ok(self.insert(relation, *key, fields)),
             Stmt::Update {
                 relation,
                 key,
                 sets,
             } => self.update(relation, *key, sets),
-            Stmt::Delete { relation, key } => self.delete(relation, *key),
+            Stmt::Delete { relation, key } => Ok(self.delete(relation, *key)),
             Stmt::Get { relation, key, at } => Ok(self.get(relation, *key, at)),
             Stmt::Scan {
                 relation,

@@ -11,7 +11,7 @@ ghost use Rattle.multi_scan.specs.Cost.{slots_of_all};
 use crate::found::Found;
 use crate::slots::gather;
 use db_store::{View, list_rows};
-use db_value::{ListOf, Marked, Positions, Pred, Record, Rows, Steps};
+use db_value::{Marked, Positions, Pred, Record, Rows, SharedList, Steps};
 use std::alloc::{AllocError, Global};
 use std::sync::ledger::Ledger;
 
@@ -60,21 +60,21 @@ fn join(alloc: Global, found: &[Found]) -> Result<Rows, AllocError>
         })?;
         rest = more;
     }
-    Ok(ListOf::of(rows))
+    Ok(SharedList::of(alloc, rows)?)
 }
 
 // Rows of the one view, with its position.
 fn mark(alloc: Global, rows: &[Record]) -> Result<Rows, AllocError>
     ensures { IfOk result (λ all. all ≡ map marked rows.now) }
 {
-    let mut all = Vec::new(alloc);
+    let mut all = Vec::with_capacity(alloc, rows.len())?;
     for row in rows {
         all.push(Marked {
             row: *row,
             positions: Positions::first_alone(alloc),
         })?;
     }
-    Ok(ListOf::of(all))
+    Ok(SharedList::of(alloc, all)?)
 }
 
 /// The records of a relation for which a condition holds, by key, as rows of the one view.

@@ -6,7 +6,7 @@ use db_value::{Name, Refusal, Reply};
 use std::alloc::AllocError;
 use std::marker::Model;
 
-/// A reply with a copy of it, one to be given and one to be kept. Contracts see it as the reply.
+/// A reply for two owners: one to be given, and the same to be kept. Contracts see it as the reply.
 #[derive(Drop)]
 pub struct Twice {
     reply: Reply,
@@ -32,7 +32,7 @@ impl Twice {
         &self.reply
     }
 
-    /// The reply, and its copy.
+    /// The reply, for both.
     pub fn into_both(self) -> (Reply, Reply)
         ensures reply { result.0 ≡ self }
         ensures copy { result.1 ≡ self }
@@ -42,12 +42,12 @@ impl Twice {
     }
 }
 
-/// A reply with a copy of it. Only a reply with a list takes memory.
+/// A reply for two owners, who share its lists. Only a reply with a list can be refused.
 pub fn copied(reply: Reply) -> Result<Twice, AllocError>
     ensures reply { IfOk result (λ t. t ≡ reply) }
     ensures memory { IsErr result → IsLong reply }
 {
-    match reply.duplicate() {
+    match reply.share() {
         Ok(copy) => Ok(Twice { reply, copy }),
         Err(stop) => Err(stop),
     }

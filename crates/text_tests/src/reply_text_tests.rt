@@ -6,7 +6,7 @@ ghost use Rattle.reply_text.specs.Reply.{NamesItsRows};
 
 use db_value::{
     Fields, LayoutLine, ListOf, Live, LogLine, Marked, Name, Pair, Positions, Record, Refusal,
-    Reply, Schema, VersionName,
+    Reply, Schema, SharedList, VersionName,
 };
 use reply_text::*;
 use std::alloc::Global;
@@ -90,11 +90,11 @@ fn marked(
     })
 }
 
-fn listed(names: Vec<VersionName>, rows: Vec<Marked>) -> Reply {
-    Reply::Listed {
-        names: ListOf::of(names),
-        rows: ListOf::of(rows),
-    }
+fn listed(alloc: Global, names: Vec<VersionName>, rows: Vec<Marked>) -> Result<Reply, Fail> {
+    Ok(Reply::Listed {
+        names: SharedList::of(alloc, names)?,
+        rows: SharedList::of(alloc, rows)?,
+    })
 }
 
 #[test]
@@ -120,48 +120,53 @@ fn answers_changes_and_gets(rt: HostRuntime) -> Result<(), Fail> {
 fn answers_scans_minus_and_joins(rt: HostRuntime) -> Result<(), Fail> {
     let alloc = rt.alloc();
     let whole = listed(
+        alloc,
         Vec::new(alloc),
         vec![in alloc;
             marked(alloc, 1, &[9, 1], 0, &[])?,
             marked(alloc, 2, &[2, 2], 0, &[])?,
         ]?,
-    );
+    )?;
     let text = "> 1 scan items\nrow 1 9 1\nrow 2 2 2\nrows 2\n";
     answers(&rt, alloc, "1 scan items", &whole, text)?;
     let named = listed(
+        alloc,
         vec![in alloc; version("master", Some(1))?]?,
         vec![in alloc; marked(alloc, 1, &[10, 20], 0, &[])?]?,
-    );
+    )?;
     let text = "> 1 scan items in master@1\nrow 1 10 20 in master@1\nrows 1\n";
     answers(&rt, alloc, "1 scan items in master@1", &named, text)?;
     let heads = listed(
+        alloc,
         vec![in alloc; version("master", None)?, version("dev", None)?]?,
         vec![in alloc;
             marked(alloc, 7, &[1, 1], 0, &[1])?,
             marked(alloc, 8, &[5, 5], 0, &[1])?,
         ]?,
-    );
+    )?;
     let text =
         "> 1 scan items in heads\nrow 7 1 1 in master,dev\nrow 8 5 5 in master,dev\nrows 2\n";
     answers(&rt, alloc, "1 scan items in heads", &heads, text)?;
-    let empty = listed(vec![in alloc; version("master", None)?]?, Vec::new(alloc));
+    let empty = listed(alloc, vec![in alloc; version("master", None)?]?, Vec::new(alloc))?;
     let text = "> 1 scan items in heads\nrows 0\n";
     answers(&rt, alloc, "1 scan items in heads", &empty, text)?;
     let apart = listed(
+        alloc,
         vec![in alloc; version("master", Some(2))?, version("master", None)?]?,
         vec![in alloc;
             marked(alloc, 1, &[1, 1], 0, &[])?,
             marked(alloc, 1, &[5, 1], 1, &[])?,
         ]?,
-    );
+    )?;
     let line = "1 scan items in master@2,master where key >= 1 and a != 2";
     let text =
         "> 1 scan items in master@2,master where key >= 1 and a != 2\nrow 1 1 1 in master@2\nrow 1 5 1 in master\nrows 2\n";
     answers(&rt, alloc, line, &apart, text)?;
     let minus = listed(
+        alloc,
         Vec::new(alloc),
         vec![in alloc; marked(alloc, 1, &[5, 1], 0, &[])?]?,
-    );
+    )?;
     let line = "1 minus items master master@2";
     let text = "> 1 minus items master master@2\nrow 1 5 1\nrows 1\n";
     answers(&rt, alloc, line, &minus, text)?;
@@ -171,7 +176,7 @@ fn answers_scans_minus_and_joins(rt: HostRuntime) -> Result<(), Fail> {
         right: fields(&[5, 1])?,
     };
     let joined = Reply::Paired {
-        pairs: ListOf::of(vec![in alloc; pair]?),
+        pairs: SharedList::of(alloc, vec![in alloc; pair]?)?,
     };
     let line = "1 join items items master@1 master";
     let text = "> 1 join items items master@1 master\npair 1 1 1 | 5 1\nrows 1\n";
@@ -191,7 +196,7 @@ fn answers_logs_and_graphs(rt: HostRuntime) -> Result<(), Fail> {
     let branch = name("dev")?;
     let lines = vec![in alloc; LogLine::Same { branch, origin }]?;
     let log = Reply::Versions {
-        lines: ListOf::of(lines),
+        lines: SharedList::of(alloc, lines)?,
         whole: false,
     };
     let text = "> 1 log dev\ndev@0 is master@1\npositions 1\n";
@@ -212,7 +217,7 @@ fn answers_logs_and_graphs(rt: HostRuntime) -> Result<(), Fail> {
         LogLine::Same { branch, origin },
     ]?;
     let graph = Reply::Versions {
-        lines: ListOf::of(lines),
+        lines: SharedList::of(alloc, lines)?,
         whole: true,
     };
     let text =
@@ -244,17 +249,18 @@ fn segment(
 fn answers_segments(rt: HostRuntime) -> Result<(), Fail> {
     let alloc = rt.alloc();
     let shared = vec![in alloc; live("master", 1)?, live("dev", 0)?]?;
+    let lines = vec![in alloc;
+        segment(0, None, 1, shared)?,
+        segment(
+            1,
+            Some(name("master")?),
+            1,
+            vec![in alloc; live("master", 1)?]?
+        )?,
+        segment(2, Some(name("dev")?), 3, vec![in alloc; live("dev", 2)?]?)?,
+    ]?;
     let layout = Reply::Layout {
-        lines: ListOf::of(vec![in alloc;
-            segment(0, None, 1, shared)?,
-            segment(
-                1,
-                Some(name("master")?),
-                1,
-                vec![in alloc; live("master", 1)?]?
-            )?,
-            segment(2, Some(name("dev")?), 3, vec![in alloc; live("dev", 2)?]?)?,
-        ]?),
+        lines: SharedList::of(alloc, lines)?,
     };
     let text =
         "> 1 segments\nsegment items 0 internal records 1 live master=1,dev=0\nsegment items 1 head master records 1 live master=1\nsegment items 2 head dev records 3 live dev=2\nsegments 3\n";

@@ -6,7 +6,7 @@ ghost use Rattle.version_join.specs.Join.{differs, unlike, minus_of};
 
 use crate::look::find_fields;
 use db_store::{View, list_all};
-use db_value::{Fields, ListOf, Marked, Positions, Record, Rows, Steps};
+use db_value::{Fields, Marked, Positions, Record, Rows, SharedList, Steps};
 use std::alloc::{AllocError, Global};
 use std::sync::ledger::Ledger;
 
@@ -42,7 +42,7 @@ fn keep_unlike<V: View, L: Ledger>(
             })?;
         }
     }
-    Ok(ListOf::of(kept))
+    Ok(SharedList::of(alloc, kept)?)
 }
 
 /// The records of a relation of the left view whose record in the right one is absent or different,

@@ -7,7 +7,7 @@ ghost use Rattle.version_join.specs.Join.{pair_with, pairs_of, join_of};
 
 use crate::look::find_fields;
 use db_store::{View, list_rows};
-use db_value::{Fields, ListOf, Pair, Pairs, Pred, Record, Steps};
+use db_value::{Fields, Pair, Pairs, Pred, Record, SharedList, Steps};
 use std::alloc::{AllocError, Global};
 use std::sync::ledger::Ledger;
 
@@ -42,7 +42,7 @@ fn pair_rows<V: View, L: Ledger>(
         let other = find_fields(right, relation, row.key, steps);
         keep_pair(&mut pairs, row, other)?;
     }
-    Ok(ListOf::of(pairs))
+    Ok(SharedList::of(alloc, pairs)?)
 }
 
 /// The records of relation `r` of the left view for which a condition holds, each beside the record

@@ -8,13 +8,13 @@
 //! | `specs/Log.antt` | the log of a branch |
 //! | `specs/Graph.antt` | the graph: the logs of all branches |
 //! | `src/find.rt` | versions by name |
-//! | `src/log.rt`, `src/every.rt` | the log of a branch, and of every branch |
+//! | `src/log.rt`, `src/all_logs.rt` | the log of a branch, and of every branch |
 #![tactic(auto)]
 
-mod every;
+mod all_logs;
 mod find;
 mod log;
 
-pub use every::graph;
+pub use all_logs::graph;
 pub use find::find_version;
 pub use log::log_branch;

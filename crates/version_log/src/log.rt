@@ -5,7 +5,7 @@ ghost use Rattle.db_store.specs.State.{dataset_of};
 ghost use Rattle.version_log.specs.Log.{name_of, name_if, log_line, branch_log, log_of, made_line};
 
 use db_store::Store;
-use db_value::{ListOf, LogLine, Name, Refusal, Reply, VersionName, VersionPlace};
+use db_value::{LogLine, Name, Refusal, Reply, SharedList, VersionName, VersionPlace};
 use std::alloc::{AllocError, Global};
 
 // The name of a version by its place.
@@ -108,7 +108,7 @@ pub fn log_branch<St: Store>(alloc: Global, store: &St, name: &Name) -> Result<R
             let mut lines = Vec::new(alloc);
             push_log(store, branch, &mut lines)?;
             Ok(Reply::Versions {
-                lines: ListOf::of(lines),
+                lines: SharedList::of(alloc, lines)?,
                 whole: false,
             })
         }

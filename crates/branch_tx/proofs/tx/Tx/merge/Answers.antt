@@ -39,24 +39,24 @@ field_name-requires-clause-field g c =
     subst (IsFieldOf (length (columns_at c.self.inside.schema _))) (sym c.in-Err-Conflict.field-is)
     (subst (λ r. IsFieldOf (length (columns_at c.self.inside.schema r)) c.in-Err-Conflict.field) (sym c.in-Err-Conflict.relation-is) h)
 
-pub returns-in_ok-reply-in-Ok-clause-reply : goal.returns-in_ok-reply-in-Ok-clause-reply
-returns-in_ok-reply-in-Ok-clause-reply g c =
+pub returns-in-Ok-clause-reply : goal.returns-in-Ok-clause-reply
+returns-in-Ok-clause-reply g c =
     let old : Granted = c.args.self.now in
     let base = g.St.View.View.table c.args.base.now in
     let right = g.St.View.View.table c.args.right.now in
     let is = c.in-Ok.ensures.changes ∙ ap (λ (x : Granted). table_changes c.args.prefer base (laid x.head x.overlays) right) c.self.view_is in
     let free = ap (λ (x : Granted). table_clashes c.args.prefer base (laid x.head x.overlays) right) (sym c.self.view_is) ∙ c.in-Ok.ensures.free in
-    c.in_ok-reply-in-Ok.ensures.reply
+    c.adopt.ensures.reply
     ∙ ap (λ (o : Outcome (List Overlay)). o.reply) (merged_by old c.requires.untouched c.args.from c.args.prefer base right c.in-Ok.changes (sym c.is_full.ensures ∙ c.if-is_full.false) is free)
 
-pub returns-in_ok-reply-in-Ok-clause-left : goal.returns-in_ok-reply-in-Ok-clause-left
-returns-in_ok-reply-in-Ok-clause-left g c =
+pub returns-in-Ok-clause-left : goal.returns-in-Ok-clause-left
+returns-in-Ok-clause-left g c =
     let old : Granted = c.args.self.now in
     let base = g.St.View.View.table c.args.base.now in
     let right = g.St.View.View.table c.args.right.now in
     let is = c.in-Ok.ensures.changes ∙ ap (λ (x : Granted). table_changes c.args.prefer base (laid x.head x.overlays) right) c.self.view_is in
     let free = ap (λ (x : Granted). table_clashes c.args.prefer base (laid x.head x.overlays) right) (sym c.self.view_is) ∙ c.in-Ok.ensures.free in
-    c.in_ok-reply-in-Ok.ensures.left
+    c.adopt.ensures.left
     ∙ ap (with_merge old) (merged_by old c.requires.untouched c.args.from c.args.prefer base right c.in-Ok.changes (sym c.is_full.ensures ∙ c.if-is_full.false) is free)
 
 pub returns-in-Err-Conflict-clause-reply : goal.returns-in-Err-Conflict-clause-reply

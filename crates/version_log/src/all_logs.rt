@@ -5,7 +5,7 @@ ghost use Rattle.version_log.specs.Graph.{graph_of};
 
 use crate::log::push_log;
 use db_store::Store;
-use db_value::{ListOf, Reply};
+use db_value::{Reply, SharedList};
 use std::alloc::{AllocError, Global};
 
 /// The reply to `graph`.
@@ -17,7 +17,7 @@ pub fn graph<St: Store>(alloc: Global, store: &St) -> Result<Reply, AllocError>
         push_log(store, branch, &mut lines)?;
     }
     Ok(Reply::Versions {
-        lines: ListOf::of(lines),
+        lines: SharedList::of(alloc, lines)?,
         whole: true,
     })
 }

@@ -1,7 +1,7 @@
 use Rattle.std.proofs.Common.{◌≡◌}
 use Rattle.db_store.specs.State.{dataset_of}
 use Rattle.version_log.specs.Graph.{first_logs}
-use Rattle.version_log.proofs.every.graph.Given as goal
+use Rattle.version_log.proofs.all_logs.graph.Given as goal
 
 -- the logs of the branches so far
 abbrev pub invariant-loop-branch : goal.invariant-loop-branch
