@@ -63,6 +63,10 @@ abbrev pub end_of : JournalEnd → End
 end_of (ClosedEnd journal) = closed_at journal.at
 end_of (DamagedEnd at cause) = damaged_at at cause
 
+-- what the code says that it read
+abbrev pub reading_of : List (List ℕ) → JournalEnd → Reading
+reading_of bodies end = record { bodies = bodies; ends = end_of end }
+
 -- a journal that was read up to a closed gate is clean
 abbrev pub SaysClean : JournalEnd → Type 0
 SaysClean (ClosedEnd journal) = journal.clean ≡ true

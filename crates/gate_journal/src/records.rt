@@ -1,15 +1,15 @@
 //! All records of a disk.
 ghost use Rattle.std.specs.Prelude.{◌≡◌, ◌+◌, ◌^◌, ◌≤◌, ◌<◌, List, ℕ, Option, Some, true, length, take, drop, IfOk, OnOk, OnErr, IsErrOf};
-ghost use Rattle.db_outside.specs.Device.{Rose};
+ghost use Rattle.db_outside.specs.Device.{Faulted, IfTold};
 ghost use Rattle.db_outside.specs.Disk.{IsAllOnDisk};
 ghost use Rattle.db_outside.specs.Record.{most_body};
-ghost use Rattle.gate_journal.specs.Found.{IsSuch, EndsWithin, JudgedBy, IsBodyAt, HasSize, told_by, EndsBy, end_of, SaysClean, EndsShut};
+ghost use Rattle.gate_journal.specs.Found.{IsSuch, EndsWithin, JudgedBy, IsBodyAt, HasSize, told_by, EndsBy, reading_of, SaysClean, EndsShut};
 ghost use Rattle.gate_journal.specs.Reading.{Reading, size_in, records_from};
 ghost use Rattle.gate_journal.specs.Reads.{OnlyReads};
 
 use crate::bodies::{Bodies, Body};
 use crate::cause::Cause;
-use crate::journal::Journal;
+use crate::place::Journal;
 use crate::reading::{ReadStop, array_at, bytes_at, length_of};
 use db_outside::{Disk, MOST_BODY};
 use sha2::{Digest, Sha256};
@@ -45,10 +45,10 @@ pub enum Found {
 
 // The length that stands behind a gate.
 fn size_at<D: Disk>(disk: &mut D, at: u64) -> Result<u32, ReadStop>
-    requires { (s : List ℕ) → D.seen disk.old ≡ Some s → at + 4 ≤ length s }
-    ensures told { IfOk result (λ n. (s : List ℕ) → D.seen disk.old ≡ Some s → n ≡ size_in (drop at s)) }
+    requires { IfTold (D.seen disk.old) (λ s. at + 4 ≤ length s) }
+    ensures told { IfOk result (λ n. IfTold (D.seen disk.old) (λ s. n ≡ size_in (drop at s))) }
     ensures reads { OnlyReads D.faults D.writes D.seen D.image D.moment D.since disk.old disk.new }
-    ensures cause { IsErrOf result ReadStop.DiskFault → Rose (D.faults disk.old) (D.faults disk.new) }
+    ensures cause { IsErrOf result ReadStop.DiskFault → Faulted D.faults disk.old disk.new }
 {
     let size: [u8; 4] = array_at(disk, at)?;
     Ok(u32::from_le_bytes(size))
@@ -69,12 +69,12 @@ fn judged(body: Vec<u8>, digest: &[u8; 32]) -> Behind
 
 // The digest at a place and the body of so many bytes behind it.
 fn body_at<D: Disk>(alloc: Global, disk: &mut D, at: u64, size: usize) -> Result<Behind, ReadStop>
-    requires inside { (s : List ℕ) → D.seen disk.old ≡ Some s → at + 32 + size ≤ length s }
+    requires inside { IfTold (D.seen disk.old) (λ s. at + 32 + size ≤ length s) }
     requires fits { at + 32 + size < 2 ^ 64 }
-    ensures told { IfOk result (λ b. (s : List ℕ) → D.seen disk.old ≡ Some s → IsBodyAt b at size s) }
+    ensures told { IfOk result (λ b. IfTold (D.seen disk.old) (λ s. IsBodyAt b at size s)) }
     ensures long { IfOk result (λ b. HasSize b size) }
     ensures reads { OnlyReads D.faults D.writes D.seen D.image D.moment D.since disk.old disk.new }
-    ensures cause { IsErrOf result ReadStop.DiskFault → Rose (D.faults disk.old) (D.faults disk.new) }
+    ensures cause { IsErrOf result ReadStop.DiskFault → Faulted D.faults disk.old disk.new }
 {
     let digest: [u8; 32] = array_at(disk, at)?;
     let body = bytes_at(alloc, disk, at + 32, size)?;
@@ -83,12 +83,12 @@ fn body_at<D: Disk>(alloc: Global, disk: &mut D, at: u64, size: usize) -> Result
 
 // The record behind an open gate: the place behind the gate, and how many bytes the file has there.
 fn record_at<D: Disk>(alloc: Global, disk: &mut D, at: u64, left: u64) -> Result<Behind, ReadStop>
-    requires left { (s : List ℕ) → D.seen disk.old ≡ Some s → at + left ≡ length s }
+    requires left { IfTold (D.seen disk.old) (λ s. at + left ≡ length s) }
     requires fits { at + left < 2 ^ 64 }
-    ensures told { IfOk result (λ b. (s : List ℕ) → D.seen disk.old ≡ Some s → IsSuch b (drop at s)) }
+    ensures told { IfOk result (λ b. IfTold (D.seen disk.old) (λ s. IsSuch b (drop at s))) }
     ensures within { IfOk result (λ b. EndsWithin b left) }
     ensures reads { OnlyReads D.faults D.writes D.seen D.image D.moment D.since disk.old disk.new }
-    ensures cause { IsErrOf result ReadStop.DiskFault → Rose (D.faults disk.old) (D.faults disk.new) }
+    ensures cause { IsErrOf result ReadStop.DiskFault → Faulted D.faults disk.old disk.new }
 {
     if left < HEAD {
         return Ok(Behind::Short);
@@ -104,11 +104,11 @@ fn record_at<D: Disk>(alloc: Global, disk: &mut D, at: u64, left: u64) -> Result
 // What stands at a gate's place, in a file of this length.
 fn found_at<D: Disk>(alloc: Global, disk: &mut D, at: u64, len: u64) -> Result<Found, ReadStop>
     requires there { at < len }
-    requires told { (s : List ℕ) → D.seen disk.old ≡ Some s → len ≡ length s }
-    ensures told { IfOk result (λ f. (s : List ℕ) → D.seen disk.old ≡ Some s → records_from at s ≡ told_by f at s) }
+    requires told { IfTold (D.seen disk.old) (λ s. len ≡ length s) }
+    ensures told { IfOk result (λ f. IfTold (D.seen disk.old) (λ s. records_from at s ≡ told_by f at s)) }
     ensures within { IfOk result (λ f. EndsBy f at len) }
     ensures reads { OnlyReads D.faults D.writes D.seen D.image D.moment D.since disk.old disk.new }
-    ensures cause { IsErrOf result ReadStop.DiskFault → Rose (D.faults disk.old) (D.faults disk.new) }
+    ensures cause { IsErrOf result ReadStop.DiskFault → Faulted D.faults disk.old disk.new }
 {
     let gate: [u8; 1] = array_at(disk, at)?;
     if gate[0] != 1 {
@@ -132,11 +132,13 @@ pub fn read_all<D: Disk>(
     disk: &mut D,
     from: u64,
 ) -> Result<(Bodies, JournalEnd), ReadStop>
-    ensures told { IfOk result (λ r. (s : List ℕ) → D.seen disk.old ≡ Some s → records_from from s ≡ record { bodies = r.0; ends = end_of r.1 }) }
+    ensures told { IfOk result (λ r. IfTold (D.seen disk.old) (λ s.
+        records_from from s ≡ reading_of r.0 r.1)) }
     ensures clean { IfOk result (λ r. SaysClean r.1) }
-    ensures shut { IsAllOnDisk (D.seen disk.old) (D.image disk.old) → IfOk result (λ r. EndsShut (D.image disk.new) r.1) }
+    ensures shut { IsAllOnDisk (D.seen disk.old) (D.image disk.old) →
+        IfOk result (λ r. EndsShut (D.image disk.new) r.1) }
     ensures reads { OnlyReads D.faults D.writes D.seen D.image D.moment D.since disk.old disk.new }
-    ensures cause { IsErrOf result ReadStop.DiskFault → Rose (D.faults disk.old) (D.faults disk.new) }
+    ensures cause { IsErrOf result ReadStop.DiskFault → Faulted D.faults disk.old disk.new }
 {
     let len = match length_of(disk) {
         Ok(len) => len,
