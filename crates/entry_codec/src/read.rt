@@ -4,7 +4,7 @@ ghost use Rattle.std.specs.Int.{w64, from_le_bytes};
 ghost use Rattle.db_store.specs.Fits.{is_before, first_is_before, ascends, makes_version};
 ghost use Rattle.entry_codec.specs.Grammar.{u32_in, place_in, second_in, values_in, fields_in, change_of, is_change, change_in, changes_in, commit_of, counted_in, commit_in, branch_in, entry_in};
 ghost use Rattle.entry_codec.specs.Laws.{IsEntry};
-ghost use Rattle.entry_codec.specs.Spelling.{spelling, field_count, second_size, change_size, changes_size, entry_size};
+ghost use Rattle.entry_codec.specs.Spelling.{BeginsWith, field_count, second_size, change_size, changes_size, entry_size};
 ghost use Rattle.entry_codec.specs.Pushed.{Pushes};
 
 use db_value::{Change, Changes, Entry, Fields, ListOf, Name, VersionPlace};
@@ -106,7 +106,8 @@ fn first_fields(count: u8, b: &[u8]) -> Option<Fields>
 
 // Adds the change at the front, if there is one, and gives how many bytes it has.
 fn push_first(changes: &mut Vec<Change>, b: &[u8]) -> Result<Option<usize>, AllocError>
-    ensures pushed { IfOk result (λ o. Pushes changes.old.items changes.new.items (change_in b.now) o) }
+    ensures pushed { IfOk result (λ o.
+        Pushes changes.old.items changes.new.items (change_in b.now) o) }
     ensures within { IfOk result (λ o. IfSome o (λ n. n ≤ length b.now)) }
 {
     match b {
@@ -282,9 +283,7 @@ fn first_entry(alloc: Global, b: &[u8]) -> Result<Option<(Entry, usize)>, AllocE
 /// The entry at the front of bytes, and how many bytes it has.
 pub fn decode(alloc: Global, bytes: &[u8]) -> Result<(Entry, usize), EntryStop>
     ensures entry { IfOk result (λ r. entry_in bytes.now ≡ Some r.0) }
-    ensures size { IfOk result (λ r. r.1 ≡ entry_size r.0) }
-    ensures within { IfOk result (λ r. r.1 ≤ length bytes.now) }
-    ensures spelled { IfOk result (λ r. bytes.now ≡ spelling r.0 ++ drop r.1 bytes.now) }
+    ensures spelled { IfOk result (λ r. BeginsWith r.0 r.1 bytes.now) }
     ensures rules { IfOk result (λ r. IsEntry r.0) }
 
     // Want of memory may come in place of either answer.

@@ -110,7 +110,8 @@ fn put_commit(
 ) -> Result<(), AllocError>
     requires { length changes.now < 2 ^ 32 }
     ensures ranged { OnOk result (AreRanged changes.now) }
-    ensures bytes { OnOk result (out.new.items ≡ out.old.items ++ spelling (Commit branch second.now changes.now)) }
+    ensures bytes { OnOk result (out.new.items
+        ≡ out.old.items ++ spelling (Commit branch second.now changes.now)) }
 {
     out.push(1)?;
     put_u32(out, branch)?;

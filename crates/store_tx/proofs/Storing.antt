@@ -17,7 +17,7 @@ use Rattle.db_outside.specs.Record.{most_body}
 use Rattle.entry_codec.specs.Spelling.{spelling, entry_size, second_size, change_size, changes_size, field_count, HasFewChanges}
 use Rattle.entry_codec.specs.Grammar.{entries_in}
 use Rattle.entry_codec.specs.Laws.{IsEntry, IsChange, AreChanges, AreFields}
-use Rattle.entry_codec.specs.Logs.{Follows, Opening, MayGive, GivesOneOf, IsNoLater, AddsOnly}
+use Rattle.entry_codec.specs.Logs.{Follows, Opening, MayGive, GivesOneOf, GivesOnly, GoesOn, IsNoLater, AddsOnly, KeepsOneOf, WhereKept}
 use Rattle.db_outside.specs.Device.{Rose}
 use Rattle.store_tx.specs.Stored.{GivesIf, Stores}
 use Rattle.entry_codec.proofs.Back.{size_is, all}
@@ -87,20 +87,19 @@ few_fit d (Branch name origin) fit = tt
 module _
     {L : Type 0} (faults : L → ℕ) (Keeps : L → State → List Entry → Option (List ℕ) → Type 0) (generation : L → ℕ) (moment : L → ℕ × ℕ) (opens_since : L → ℕ × ℕ → Opening → Type 0) (Quiet : L → ℕ × ℕ → Type 0)
     (s : State) (e : Entry) (b : List ℕ) (same : b ≡ spelling e) (fit : fits (dataset_of s) e ≡ true) (is : IsEntry e) (old new : L)
-    (any_moment : (t : State) (es : List Entry) (f : Option (List ℕ)) → Follows t b → Keeps old t es f → (o : Opening) → opens_since new (moment old) o → GivesOneOf (generation old) t es f b o)
-    (quiet : (t : State) (es : List Entry) (f : Option (List ℕ)) → Follows t b → Keeps old t es f → AddsOnly moment Quiet opens_since old new (GivesOneOf (generation old) t es f b))
-    (stays : generation new ≡ generation old) (time : IsNoLater (moment old) (moment new)) (later : faults old ≤ faults new) where
+    (gives : WhereKept Keeps old b (λ t es f h. GivesOnly moment Quiet opens_since old new (GivesOneOf (generation old) t es f b)))
+    (goes_on : GoesOn generation moment old new) (later : faults old ≤ faults new) where
   abbrev follows : Follows s b
   follows = follows_one s e b same fit is
 
   any_now : (es : List Entry) (f : Option (List ℕ)) → Keeps old s es f → (o : Opening) → opens_since new (moment old) o → GivesIf (generation old) s es f (Some e) o
-  any_now es f keeps o opens = subst (λ (x : List ℕ). GivesOneOf (generation old) s es f x o) same (any_moment s es f follows keeps o opens)
+  any_now es f keeps o opens = subst (λ (x : List ℕ). GivesOneOf (generation old) s es f x o) same ((gives s es f follows keeps).any_moment o opens)
 
   quiet_now : (es : List Entry) (f : Option (List ℕ)) → Keeps old s es f → AddsOnly moment Quiet opens_since old new (GivesIf (generation old) s es f (Some e))
-  quiet_now es f keeps = subst (λ (x : List ℕ). AddsOnly moment Quiet opens_since old new (GivesOneOf (generation old) s es f x)) same (quiet s es f follows keeps)
+  quiet_now es f keeps = subst (λ (x : List ℕ). AddsOnly moment Quiet opens_since old new (GivesOneOf (generation old) s es f x)) same (gives s es f follows keeps).quiet
 
   -- it stored the entry
-  pub stores_done : ((t : State) (es : List Entry) (f : Option (List ℕ)) (h : Follows t b) → Keeps old t es f → Keeps new h.state (es ++ h.entries) None)
+  pub stores_done : WhereKept Keeps old b (λ t es f h. Keeps new h.state (es ++ h.entries) None)
       → Stores faults Keeps generation moment opens_since Quiet s false (Some e) old new
   stores_done done = record {
     some = λ bad. absurd (cc bad);
@@ -108,13 +107,13 @@ module _
     any_moment = any_now;
     quiet = quiet_now;
     kept = λ es f keeps. done s es f follows keeps;
-    generation_stays = stays;
-    time = time;
+    generation_stays = goes_on.generation_stays;
+    time = goes_on.time;
     later = later;
   }
 
   -- it failed
-  pub stores_failed : ((t : State) (es : List Entry) (f : Option (List ℕ)) → Follows t b → Keeps old t es f → (g : Option (List ℕ)) × ((g ≡ None) ⊎ (g ≡ f) ⊎ (g ≡ Some b)) × Keeps new t es g) → Rose (faults old) (faults new)
+  pub stores_failed : WhereKept Keeps old b (λ t es f h. KeepsOneOf Keeps new t es f b) → Rose (faults old) (faults new)
       → Stores faults Keeps generation moment opens_since Quiet s true (Some e) old new
   stores_failed failed rose = record {
     some = λ _. refl;
@@ -122,8 +121,8 @@ module _
     any_moment = any_now;
     quiet = quiet_now;
     kept = λ es f keeps. let h = failed s es f follows keeps in (h.0, subst (λ (x : List ℕ). (h.0 ≡ None) ⊎ (h.0 ≡ f) ⊎ (h.0 ≡ Some x)) same h.1, h.2);
-    generation_stays = stays;
-    time = time;
+    generation_stays = goes_on.generation_stays;
+    time = goes_on.time;
     later = later;
   }
 

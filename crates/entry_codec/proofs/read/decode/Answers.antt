@@ -13,7 +13,11 @@ returns-in-Ok-Some-clause-spelled c =
     let are : AreBytes bytes = All-from_get_or (λ (x : ℕ). x < 256) bytes 0 (λ i lt. (c.type_inv.bytes i).fits) in
     let read : entry_in bytes ≡ Some e = search rules in
     let size : c.in-Ok-Some.size ≡ entry_size e = search rules in
-    (spelled bytes e are read).0 ∙ ap (λ (n : ℕ). spelling e ++ drop n bytes) (sym size)
+    record {
+      size = size;
+      within = search rules;
+      spelled = (spelled bytes e are read).0 ∙ ap (λ (n : ℕ). spelling e ++ drop n bytes) (sym size);
+    }
 
 pub returns-in-Ok-Some-clause-rules : goal.returns-in-Ok-Some-clause-rules
 returns-in-Ok-Some-clause-rules c =

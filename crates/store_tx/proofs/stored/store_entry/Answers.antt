@@ -6,25 +6,25 @@ returns-in-Err-clause-stores g c =
     let a = c.append.ensures in
     stores_failed g.J.Log.faults g.J.Log.Keeps g.J.Log.generation g.J.Log.moment g.J.Log.opens_since g.J.Log.Quiet
     (g.St.Store.state c.args.store.now) c.args.entry.now c.in_ok-batch.batch c.in_ok-batch.ensures.bytes c.requires.fits c.in_ok-batch.ensures.within c.args.log.now c.append.new.self
-    a.any_moment a.quiet a.generation a.time a.later c.in-Err.ensures.failed c.in-Err.ensures.cause
+    a.any_moment a.goes_on a.faults.later c.in-Err.ensures.failed c.in-Err.ensures.faults.cause
 
 pub returns-in-Commit-clause-stores : goal.returns-in-Commit-clause-stores
 returns-in-Commit-clause-stores g c =
     let a = c.append.ensures in
     stores_done g.J.Log.faults g.J.Log.Keeps g.J.Log.generation g.J.Log.moment g.J.Log.opens_since g.J.Log.Quiet
     (g.St.Store.state c.args.store.now) c.args.entry.now c.in_ok-batch.batch c.in_ok-batch.ensures.bytes c.requires.fits c.in_ok-batch.ensures.within c.args.log.now c.append.new.self
-    a.any_moment a.quiet a.generation a.time a.later c.in-Ok.ensures.done
+    a.any_moment a.goes_on a.faults.later c.in-Ok.ensures.done
 
 pub returns-in-Err-append-clause-stores : goal.returns-in-Err-append-clause-stores
 returns-in-Err-append-clause-stores g c =
     let a = c.append-in-Branch.ensures in
     stores_failed g.J.Log.faults g.J.Log.Keeps g.J.Log.generation g.J.Log.moment g.J.Log.opens_since g.J.Log.Quiet
     (g.St.Store.state c.args.store.now) c.args.entry.now c.in_ok-batch.batch c.in_ok-batch.ensures.bytes c.requires.fits c.in_ok-batch.ensures.within c.args.log.now c.append-in-Branch.new.self
-    a.any_moment a.quiet a.generation a.time a.later c.in-Err-append.ensures.failed c.in-Err-append.ensures.cause
+    a.any_moment a.goes_on a.faults.later c.in-Err-append.ensures.failed c.in-Err-append.ensures.faults.cause
 
 pub returns-clause-stores : goal.returns-clause-stores
 returns-clause-stores g c =
     let a = c.append-in-Branch.ensures in
     stores_done g.J.Log.faults g.J.Log.Keeps g.J.Log.generation g.J.Log.moment g.J.Log.opens_since g.J.Log.Quiet
     (g.St.Store.state c.args.store.now) c.args.entry.now c.in_ok-batch.batch c.in_ok-batch.ensures.bytes c.requires.fits c.in_ok-batch.ensures.within c.args.log.now c.append-in-Branch.new.self
-    a.any_moment a.quiet a.generation a.time a.later c.in-Ok-append.ensures.done
+    a.any_moment a.goes_on a.faults.later c.in-Ok-append.ensures.done
