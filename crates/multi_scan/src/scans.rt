@@ -86,7 +86,8 @@ pub fn list<V: View, L: Ledger>(
     steps: &mut Steps<L>,
 ) -> Result<Rows, AllocError>
     requires { relation < length (V.table view.now) }
-    ensures rows { IfOk result (λ rows. rows ≡ map marked (rows_where (pred_holds pred.now) relation (V.table view.now))) }
+    ensures rows { IfOk result (λ rows.
+        rows ≡ map marked (rows_where (pred_holds pred.now) relation (V.table view.now))) }
     ensures cost { steps.new ≤ steps.old + slots_of (V.parts_of view.now relation) }
 {
     let rows = list_rows(alloc, view, relation, pred, steps)?;
@@ -105,8 +106,10 @@ pub fn scan<V: View, L: Ledger>(
     steps: &mut Steps<L>,
 ) -> Result<Rows, AllocError>
     requires { All (λ v. relation < length (V.table v)) views.now }
-    ensures rows { IfOk result (λ rows. rows ≡ multi (pred_holds pred.now) relation (map V.table views.now)) }
-    ensures cost { steps.new ≤ steps.old + slots_of_all (map (λ v. V.parts_of v relation) views.now) }
+    ensures rows { IfOk result (λ rows.
+        rows ≡ multi (pred_holds pred.now) relation (map V.table views.now)) }
+    ensures cost { steps.new
+        ≤ steps.old + slots_of_all (map (λ v. V.parts_of v relation) views.now) }
 {
     let found = gather(alloc, views, relation, pred, steps)?;
     let rows = join(alloc, &sorted(found))?;

@@ -34,8 +34,10 @@ fn gather_part<V: View, L: Ledger>(
 ) -> Result<(), AllocError>
     requires relation { relation < length (V.table view.now) }
     requires index { index < length (V.parts_of view.now relation) }
-    ensures found { OnOk result (found.new.items ≡ found.old.items ++ found_in_part (pred_holds pred.now) position (part_at (V.parts_of view.now relation) index)) }
-    ensures cost { steps.new ≤ steps.old + length (part_at (V.parts_of view.now relation) index).slots }
+    ensures found { OnOk result (found.new.items ≡ found.old.items ++ found_in_part
+        (pred_holds pred.now) position (part_at (V.parts_of view.now relation) index)) }
+    ensures cost { steps.new
+        ≤ steps.old + length (part_at (V.parts_of view.now relation) index).slots }
 {
     let info = view.part(relation, index);
     for slot in 0..info.slots {
@@ -55,7 +57,8 @@ fn gather_view<V: View, L: Ledger>(
     steps: &mut Steps<L>,
 ) -> Result<(), AllocError>
     requires { relation < length (V.table view.now) }
-    ensures found { OnOk result (found.new.items ≡ found.old.items ++ found_in_parts (pred_holds pred.now) position (V.parts_of view.now relation)) }
+    ensures found { OnOk result (found.new.items ≡ found.old.items
+        ++ found_in_parts (pred_holds pred.now) position (V.parts_of view.now relation)) }
     ensures cost { steps.new ≤ steps.old + slots_of (V.parts_of view.now relation) }
 {
     for index in 0..view.parts(relation) {
@@ -73,8 +76,10 @@ pub fn gather<V: View, L: Ledger>(
     steps: &mut Steps<L>,
 ) -> Result<Vec<Found>, AllocError>
     requires { All (λ v. relation < length (V.table v)) views.now }
-    ensures found { IfOk result (λ found. found.items ≡ found_in_views (pred_holds pred.now) 0 (map (λ v. V.parts_of v relation) views.now)) }
-    ensures cost { steps.new ≤ steps.old + slots_of_all (map (λ v. V.parts_of v relation) views.now) }
+    ensures found { IfOk result (λ found. found.items
+        ≡ found_in_views (pred_holds pred.now) 0 (map (λ v. V.parts_of v relation) views.now)) }
+    ensures cost { steps.new
+        ≤ steps.old + slots_of_all (map (λ v. V.parts_of v relation) views.now) }
 {
     let mut found = Vec::new(alloc);
     for (index, view) in views.iter().enumerate() {

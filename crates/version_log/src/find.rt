@@ -14,11 +14,14 @@ fn place_at<St: Store>(
     branch: u32,
     position: u64,
 ) -> Result<VersionPlace, Refusal>
-    requires branch { branch_named (dataset_of (St.state store.now)) version.now.branch ≡ Some branch }
+    requires branch { branch_named (dataset_of (St.state store.now)) version.now.branch
+        ≡ Some branch }
     requires position { version.now.position ≡ Some position }
-    ensures found { IfOk result (λ at. found (dataset_of (St.state store.now)) version.now ≡ found_as version.now.position at (table_at (dataset_of (St.state store.now)) at)) }
+    ensures found { IfOk result (λ at. found (dataset_of (St.state store.now)) version.now
+        ≡ found_as version.now.position at (table_at (dataset_of (St.state store.now)) at)) }
     ensures made { IfOk result (λ at. IsMade (dataset_of (St.state store.now)) at) }
-    ensures lack { IfErr result (λ why. lack (found (dataset_of (St.state store.now)) version.now) ≡ Some why) }
+    ensures lack { IfErr result (λ why.
+        lack (found (dataset_of (St.state store.now)) version.now) ≡ Some why) }
 {
     if position > u64::from(store.last(branch)) {
         return Err(Refusal::NoVersion {
@@ -34,9 +37,11 @@ fn place_at<St: Store>(
 
 /// The place of the version with a name, or why there is none.
 pub fn find_version<St: Store>(store: &St, version: &VersionName) -> Result<VersionPlace, Refusal>
-    ensures found { IfOk result (λ at. found (dataset_of (St.state store.now)) version.now ≡ found_as version.now.position at (table_at (dataset_of (St.state store.now)) at)) }
+    ensures found { IfOk result (λ at. found (dataset_of (St.state store.now)) version.now
+        ≡ found_as version.now.position at (table_at (dataset_of (St.state store.now)) at)) }
     ensures made { IfOk result (λ at. IsMade (dataset_of (St.state store.now)) at) }
-    ensures lack { IfErr result (λ why. lack (found (dataset_of (St.state store.now)) version.now) ≡ Some why) }
+    ensures lack { IfErr result (λ why.
+        lack (found (dataset_of (St.state store.now)) version.now) ≡ Some why) }
 {
     let Some(branch) = store.branch(&version.branch) else {
         return Err(Refusal::NoBranch {

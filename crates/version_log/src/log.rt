@@ -50,7 +50,8 @@ fn first_line<St: Store>(store: &St, branch: u32) -> LogLine
 
 // A version that a commit made.
 fn made_line<St: Store>(store: &St, branch: u32, position: u32) -> LogLine
-    requires made { IsMade (dataset_of (St.state store.now)) (record { branch = branch; position = position }) }
+    requires made { IsMade (dataset_of (St.state store.now))
+        (record { branch = branch; position = position }) }
     requires later { 0 < position }
     ensures { result ≡ log_line (dataset_of (St.state store.now)) branch position }
 {
@@ -68,7 +69,8 @@ fn made_line<St: Store>(store: &St, branch: u32, position: u32) -> LogLine
 
 // The version at a position of a branch.
 fn line_at<St: Store>(store: &St, branch: u32, position: u32) -> LogLine
-    requires { IsMade (dataset_of (St.state store.now)) (record { branch = branch; position = position }) }
+    requires { IsMade (dataset_of (St.state store.now))
+        (record { branch = branch; position = position }) }
     ensures { result ≡ log_line (dataset_of (St.state store.now)) branch position }
 {
     if position == 0 {
@@ -85,7 +87,8 @@ pub fn push_log<St: Store>(
     lines: &mut Vec<LogLine>,
 ) -> Result<(), AllocError>
     requires { branch < length (dataset_of (St.state store.now)).branches }
-    ensures { OnOk result (lines.new.items ≡ lines.old.items ++ branch_log (dataset_of (St.state store.now)) branch) }
+    ensures { OnOk result (lines.new.items
+        ≡ lines.old.items ++ branch_log (dataset_of (St.state store.now)) branch) }
 {
     let mut left = store.last(branch);
     lines.push(line_at(store, branch, left))?;
@@ -98,7 +101,8 @@ pub fn push_log<St: Store>(
 
 /// The reply to `log` of a branch.
 pub fn log_branch<St: Store>(alloc: Global, store: &St, name: &Name) -> Result<Reply, AllocError>
-    ensures { IfOk result (λ r. r ≡ log_of (dataset_of (St.state store.now)) name.now (branch_named (dataset_of (St.state store.now)) name.now)) }
+    ensures { IfOk result (λ r. r ≡ log_of (dataset_of (St.state store.now)) name.now
+        (branch_named (dataset_of (St.state store.now)) name.now)) }
 {
     match store.branch(name) {
         None => Ok(Reply::Refused {
