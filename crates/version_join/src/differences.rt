@@ -29,7 +29,8 @@ fn keep_unlike<V: View, L: Ledger>(
     steps: &mut Steps<L>,
 ) -> Result<Rows, AllocError>
     requires { relation < length (V.table right.now) }
-    ensures rows { IfOk result (λ kept. kept ≡ map marked (unlike rows.now (relation_at (V.table right.now) relation))) }
+    ensures rows { IfOk result (λ kept.
+        kept ≡ map marked (unlike rows.now (relation_at (V.table right.now) relation))) }
     ensures cost { steps.new ≤ steps.old + length rows.now }
 {
     let mut kept = Vec::new(alloc);
@@ -57,8 +58,10 @@ pub fn minus<V: View, W: View, L: Ledger>(
 ) -> Result<Rows, AllocError>
     requires left { r < length (V.table left.now) }
     requires right { r < length (W.table right.now) }
-    ensures rows { IfOk result (λ rows. rows ≡ map marked (minus_of (V.table left.now) (W.table right.now) r)) }
-    ensures cost { steps.new ≤ steps.old + slots_of (V.parts_of left.now r) + length (rows_of (relation_at (V.table left.now) r)) }
+    ensures rows { IfOk result (λ rows.
+        rows ≡ map marked (minus_of (V.table left.now) (W.table right.now) r)) }
+    ensures cost { steps.new ≤ steps.old + slots_of (V.parts_of left.now r) + length
+        (rows_of (relation_at (V.table left.now) r)) }
 {
     let rows = list_all(alloc, left, r, steps)?;
     let kept = keep_unlike(alloc, rows.as_slice(), right, r, steps)?;

@@ -34,7 +34,8 @@ fn pair_rows<V: View, L: Ledger>(
     steps: &mut Steps<L>,
 ) -> Result<Pairs, AllocError>
     requires { relation < length (V.table right.now) }
-    ensures pairs { IfOk result (λ pairs. pairs ≡ pairs_of rows.now (relation_at (V.table right.now) relation)) }
+    ensures pairs { IfOk result (λ pairs.
+        pairs ≡ pairs_of rows.now (relation_at (V.table right.now) relation)) }
     ensures cost { steps.new ≤ steps.old + length rows.now }
 {
     let mut pairs = Vec::new(alloc);
@@ -59,8 +60,10 @@ pub fn join<V: View, W: View, L: Ledger>(
 ) -> Result<Pairs, AllocError>
     requires left { r < length (V.table left.now) }
     requires right { s < length (W.table right.now) }
-    ensures pairs { IfOk result (λ pairs. pairs ≡ join_of (pred_holds pred.now) (V.table left.now) r (W.table right.now) s) }
-    ensures cost { steps.new ≤ steps.old + slots_of (V.parts_of left.now r) + length (rows_where (pred_holds pred.now) r (V.table left.now)) }
+    ensures pairs { IfOk result (λ pairs.
+        pairs ≡ join_of (pred_holds pred.now) (V.table left.now) r (W.table right.now) s) }
+    ensures cost { steps.new ≤ steps.old + slots_of (V.parts_of left.now r) + length
+        (rows_where (pred_holds pred.now) r (V.table left.now)) }
 {
     let rows = list_rows(alloc, left, r, pred, steps)?;
     let pairs = pair_rows(alloc, rows.as_slice(), right, s, steps)?;
