@@ -51,7 +51,8 @@ fn relation_refusal(schema: &Schema, name: &Name) -> Option<Refusal>
 
 // Why there is no such relation with so many columns.
 fn count_refusal(schema: &Schema, name: &Name, fields: &Fields) -> Option<Refusal>
-    ensures { result ≡ count_refusal schema.now name.now fields.now (relation_named schema.now name.now) }
+    ensures { result
+        ≡ count_refusal schema.now name.now fields.now (relation_named schema.now name.now) }
 {
     match schema.relation(name) {
         None => Some(Refusal::NoRelation { relation: *name }),
@@ -86,7 +87,8 @@ fn unresolved_refusal(schema: &Schema, relation: u8, sets: &[NamedSet]) -> Optio
 
 // Why there is no such relation with these columns.
 fn set_refusal(schema: &Schema, name: &Name, sets: &[NamedSet]) -> Option<Refusal>
-    ensures { result ≡ set_refusal schema.now name.now sets.now (relation_named schema.now name.now) }
+    ensures { result
+        ≡ set_refusal schema.now name.now sets.now (relation_named schema.now name.now) }
 {
     match schema.relation(name) {
         None => Some(Refusal::NoRelation { relation: *name }),
@@ -124,7 +126,8 @@ fn column_refusal(schema: &Schema, relation: u8, terms: &[Term]) -> Option<Refus
 
 // Why there is no such relation with the columns of a condition.
 fn ask_refusal(schema: &Schema, name: &Name, terms: &[Term]) -> Option<Refusal>
-    ensures { result ≡ ask_refusal schema.now name.now terms.now (relation_named schema.now name.now) }
+    ensures { result
+        ≡ ask_refusal schema.now name.now terms.now (relation_named schema.now name.now) }
 {
     match schema.relation(name) {
         None => Some(Refusal::NoRelation { relation: *name }),
@@ -134,7 +137,8 @@ fn ask_refusal(schema: &Schema, name: &Name, terms: &[Term]) -> Option<Refusal>
 
 // Why one of two relations isn't there, or the first one hasn't the columns of a condition.
 fn join_refusal(schema: &Schema, left: &Name, right: &Name, terms: &[Term]) -> Option<Refusal>
-    ensures { result ≡ join_refusal schema.now left.now right.now terms.now (relation_named schema.now left.now) (relation_named schema.now right.now) }
+    ensures { result ≡ join_refusal schema.now left.now right.now terms.now
+        (relation_named schema.now left.now) (relation_named schema.now right.now) }
 {
     match schema.relation(left) {
         None => Some(Refusal::NoRelation { relation: *left }),

@@ -46,7 +46,8 @@ fn push_position<St: Store>(
     needs: &mut Vec<Need>,
 ) -> Result<(), AllocError>
     requires { branch < length (dataset_of (St.state store.now)).branches }
-    ensures { OnOk result (needs.new.items ≡ needs.old.items ++ found_needs (position_found (dataset_of (St.state store.now)) name.now position (Some branch))) }
+    ensures { OnOk result (needs.new.items ≡ needs.old.items ++ found_needs
+        (position_found (dataset_of (St.state store.now)) name.now position (Some branch))) }
 {
     if position > u64::from(store.last(branch)) {
         return push_shared(needs, branch + 1);
@@ -60,7 +61,8 @@ fn push_found<St: Store>(
     version: &VersionName,
     needs: &mut Vec<Need>,
 ) -> Result<(), AllocError>
-    ensures { OnOk result (needs.new.items ≡ needs.old.items ++ found_needs (found (dataset_of (St.state store.now)) version.now)) }
+    ensures { OnOk result (needs.new.items
+        ≡ needs.old.items ++ found_needs (found (dataset_of (St.state store.now)) version.now)) }
 {
     match store.branch(&version.branch) {
         None => push_shared(needs, CATALOGUE),
@@ -79,7 +81,8 @@ fn push_source<St: Store>(
     needs: &mut Vec<Need>,
 ) -> Result<(), AllocError>
     requires { branch < length (dataset_of (St.state store.now)).branches }
-    ensures { OnOk result (needs.new.items ≡ needs.old.items ++ source_needs (dataset_of (St.state store.now)) branch at.now) }
+    ensures { OnOk result (needs.new.items
+        ≡ needs.old.items ++ source_needs (dataset_of (St.state store.now)) branch at.now) }
 {
     match at {
         None => push_shared(needs, branch + 1),
@@ -93,7 +96,8 @@ fn push_names<St: Store>(
     names: &[VersionName],
     needs: &mut Vec<Need>,
 ) -> Result<(), AllocError>
-    ensures { OnOk result (needs.new.items ≡ needs.old.items ++ names_needs (dataset_of (St.state store.now)) names.now) }
+    ensures { OnOk result (needs.new.items
+        ≡ needs.old.items ++ names_needs (dataset_of (St.state store.now)) names.now) }
 {
     for name in names {
         push_found(store, name, needs)?;
@@ -113,7 +117,8 @@ fn push_branches(needs: &mut Vec<Need>, count: u32) -> Result<(), AllocError>
 
 // The needs of the catalogue and of all branches, behind others.
 fn push_heads<St: Store>(store: &St, needs: &mut Vec<Need>) -> Result<(), AllocError>
-    ensures { OnOk result (needs.new.items ≡ needs.old.items ++ all_needs (dataset_of (St.state store.now))) }
+    ensures { OnOk result (needs.new.items
+        ≡ needs.old.items ++ all_needs (dataset_of (St.state store.now))) }
 {
     push_shared(needs, CATALOGUE)?;
     push_branches(needs, store.branches())
@@ -127,7 +132,8 @@ fn push_scan<St: Store>(
     needs: &mut Vec<Need>,
 ) -> Result<(), AllocError>
     requires { branch < length (dataset_of (St.state store.now)).branches }
-    ensures { OnOk result (needs.new.items ≡ needs.old.items ++ scan_needs (dataset_of (St.state store.now)) branch over.now) }
+    ensures { OnOk result (needs.new.items
+        ≡ needs.old.items ++ scan_needs (dataset_of (St.state store.now)) branch over.now) }
 {
     match over {
         ScanOver::Current => push_shared(needs, branch + 1),
@@ -143,7 +149,8 @@ fn push_two<St: Store>(
     second: &VersionName,
     needs: &mut Vec<Need>,
 ) -> Result<(), AllocError>
-    ensures { OnOk result (needs.new.items ≡ needs.old.items ++ names_needs (dataset_of (St.state store.now)) (first.now ∷ second.now ∷ [])) }
+    ensures { OnOk result (needs.new.items ≡ needs.old.items
+        ++ names_needs (dataset_of (St.state store.now)) (first.now ∷ second.now ∷ [])) }
 {
     push_found(store, first, needs)?;
     push_found(store, second, needs)
@@ -155,7 +162,8 @@ fn push_branch<St: Store>(
     origin: &VersionName,
     needs: &mut Vec<Need>,
 ) -> Result<(), AllocError>
-    ensures { OnOk result (needs.new.items ≡ needs.old.items ++ exclusive 0 ∷ found_needs (found (dataset_of (St.state store.now)) origin.now)) }
+    ensures { OnOk result (needs.new.items ≡ needs.old.items
+        ++ exclusive 0 ∷ found_needs (found (dataset_of (St.state store.now)) origin.now)) }
 {
     push_exclusive(needs, CATALOGUE)?;
     push_found(store, origin, needs)
@@ -163,7 +171,8 @@ fn push_branch<St: Store>(
 
 // The needs of a move to a branch, behind others.
 fn push_on<St: Store>(store: &St, name: &Name, needs: &mut Vec<Need>) -> Result<(), AllocError>
-    ensures { OnOk result (needs.new.items ≡ needs.old.items ++ on_needs (branch_named (dataset_of (St.state store.now)) name.now)) }
+    ensures { OnOk result (needs.new.items
+        ≡ needs.old.items ++ on_needs (branch_named (dataset_of (St.state store.now)) name.now)) }
 {
     match store.branch(name) {
         None => push_shared(needs, CATALOGUE),
@@ -173,7 +182,8 @@ fn push_on<St: Store>(store: &St, name: &Name, needs: &mut Vec<Need>) -> Result<
 
 // The needs of the log of a branch, behind others.
 fn push_log<St: Store>(store: &St, name: &Name, needs: &mut Vec<Need>) -> Result<(), AllocError>
-    ensures { OnOk result (needs.new.items ≡ needs.old.items ++ log_needs (branch_named (dataset_of (St.state store.now)) name.now)) }
+    ensures { OnOk result (needs.new.items
+        ≡ needs.old.items ++ log_needs (branch_named (dataset_of (St.state store.now)) name.now)) }
 {
     match store.branch(name) {
         None => push_shared(needs, CATALOGUE),
@@ -189,7 +199,8 @@ fn push_merge<St: Store>(
     needs: &mut Vec<Need>,
 ) -> Result<(), AllocError>
     requires { branch < length (dataset_of (St.state store.now)).branches }
-    ensures { OnOk result (needs.new.items ≡ needs.old.items ++ merge_needs branch (branch_named (dataset_of (St.state store.now)) name.now)) }
+    ensures { OnOk result (needs.new.items ≡ needs.old.items
+        ++ merge_needs branch (branch_named (dataset_of (St.state store.now)) name.now)) }
 {
     match store.branch(name) {
         None => push_shared(needs, CATALOGUE),
@@ -208,7 +219,8 @@ fn push_stmt<St: Store>(
     needs: &mut Vec<Need>,
 ) -> Result<(), AllocError>
     requires { branch < length (dataset_of (St.state store.now)).branches }
-    ensures { OnOk result (needs.new.items ≡ needs.old.items ++ stmt_needs (dataset_of (St.state store.now)) branch stmt.now) }
+    ensures { OnOk result (needs.new.items
+        ≡ needs.old.items ++ stmt_needs (dataset_of (St.state store.now)) branch stmt.now) }
 {
     match stmt {
         Stmt::On { branch: name } => push_on(store, name, needs),
@@ -238,7 +250,8 @@ pub fn needs_of<St: Store>(
     stmt: &Stmt,
 ) -> Result<Needs, AllocError>
     requires { branch < length (dataset_of (St.state store.now)).branches }
-    ensures { IfOk result (λ ns. ns ≡ needs (dataset_of (St.state store.now)) branch begun changed stmt.now) }
+    ensures { IfOk result (λ ns.
+        ns ≡ needs (dataset_of (St.state store.now)) branch begun changed stmt.now) }
 {
     let mut needs = Vec::new(alloc);
     if !is_early(store.schema(), begun, changed, stmt) {
