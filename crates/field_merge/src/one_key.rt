@@ -10,7 +10,8 @@ use db_value::{Fields, Prefer, Record};
 
 /// Are they one, or both absent?
 pub(crate) fn is_same(a: Option<&Record>, b: Option<&Record>) -> bool
-    ensures { result ≡ same_state (fields_if (option_copied a.entry)) (fields_if (option_copied b.entry)) }
+    ensures { result
+        ≡ same_state (fields_if (option_copied a.entry)) (fields_if (option_copied b.entry)) }
 {
     match a {
         None => b.is_none(),
@@ -34,7 +35,8 @@ fn keep(row: Option<&Record>) -> Merged
 fn is_of_base(base: Option<&Record>, fields: &Fields, column: u8) -> bool
     requires fields { column < length fields.now }
     requires base { AreAsLong (fields_if (option_copied base)) fields.now }
-    ensures { result ≡ is_base (field_if (fields_if (option_copied base.entry)) column) (field_at fields.now column) }
+    ensures { result ≡ is_base (field_if (fields_if (option_copied base.entry)) column)
+        (field_at fields.now column) }
 {
     match base {
         None => false,
@@ -53,7 +55,9 @@ fn side_of(
     requires left { column < length left.now }
     requires right { length right.now ≡ length left.now }
     requires base { AreAsLong (fields_if (option_copied base)) left.now }
-    ensures { preferred result (field_at left.now column) (field_at right.now column) ≡ merge_field prefer (field_if (fields_if (option_copied base.entry)) column) (field_at left.now column) (field_at right.now column) }
+    ensures { preferred result (field_at left.now column) (field_at right.now column)
+        ≡ merge_field prefer (field_if (fields_if (option_copied base.entry)) column)
+        (field_at left.now column) (field_at right.now column) }
 {
     if left.same_at(right, column) {
         return Prefer::Left;
@@ -71,7 +75,8 @@ fn side_of(
 fn merge_records(base: Option<&Record>, left: &Record, right: &Record, prefer: Prefer) -> Merged
     requires right { length right.now.fields ≡ length left.now.fields }
     requires base { AreAsLong (fields_if (option_copied base)) left.now.fields }
-    ensures { result ≡ merged_as left.now.key (of_fields (merge_fields prefer 0 (fields_if (option_copied base.entry)) left.now.fields right.now.fields)) }
+    ensures { result ≡ merged_as left.now.key (of_fields (merge_fields prefer 0
+        (fields_if (option_copied base.entry)) left.now.fields right.now.fields)) }
 {
     let mut fields = left.fields;
     for column in 0..left.fields.count() as u8 {
@@ -101,7 +106,9 @@ fn merge_changed(
     prefer: Prefer,
 ) -> Merged
     requires { AreVersions (option_copied base) (option_copied left) (option_copied right) }
-    ensures { result ≡ merged_as (key_in (option_copied left.entry) (option_copied right.entry)) (merge_changed prefer (fields_if (option_copied base.entry)) (fields_if (option_copied left.entry)) (fields_if (option_copied right.entry))) }
+    ensures { result ≡ merged_as (key_in (option_copied left.entry) (option_copied right.entry))
+        (merge_changed prefer (fields_if (option_copied base.entry))
+        (fields_if (option_copied left.entry)) (fields_if (option_copied right.entry))) }
 {
     if let Some(l) = left {
         if let Some(r) = right {
@@ -124,7 +131,8 @@ pub fn merge3(
     prefer: Prefer,
 ) -> Merged
     requires { AreVersions (option_copied base) (option_copied left) (option_copied right) }
-    ensures { result ≡ merge_rows prefer (option_copied base.entry) (option_copied left.entry) (option_copied right.entry) }
+    ensures { result ≡ merge_rows prefer (option_copied base.entry) (option_copied left.entry)
+        (option_copied right.entry) }
 {
     if is_same(left, right) {
         return keep(left);

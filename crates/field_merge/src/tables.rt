@@ -1,15 +1,10 @@
 //! The merge of three tables.
-ghost use Rattle.std.specs.Prelude.{◌≡◌, ℕ, ◌+◌, ◌<◌, ◌++◌, [], Option, Ok, Err, Some, true, length, IfOk, OnOk};
-ghost use Rattle.std.specs.List.{list_all};
-ghost use Rattle.db_value.specs.Relations.{columns_at};
+ghost use Rattle.std.specs.Prelude.{◌≡◌, ◌<◌, ◌++◌, [], Some, length, IfOk, OnOk};
 ghost use Rattle.db_value.specs.declared.condition.Prefer.TheVariants.{Neither};
-ghost use Rattle.db_store.specs.Table.{relation_at, rows_of, with_changes};
-ghost use Rattle.std.specs.FinMap as finite;
+ghost use Rattle.db_store.specs.Table.{relation_at, rows_of};
 ghost use Rattle.db_store.specs.Counted.{IsTable};
-ghost use Rattle.db_store.specs.Fits.{ascends, change_fits};
-ghost use Rattle.field_merge.specs.declared.stop.MergeStop.TheVariants.{Conflict};
-ghost use Rattle.field_merge.specs.Merge.{merge_key, relation_changes, relation_clashes, table_changes, table_clashes, least_clash};
-ghost use Rattle.field_merge.specs.Named.{IsFieldOf};
+ghost use Rattle.field_merge.specs.Merge.{least_clash};
+ghost use Rattle.field_merge.specs.Results.{AreTables, IfConflict, IsFirstClash, MakesMerge, changes_at, clashes_at};
 
 use crate::MergeStop;
 use crate::walk::merge_rows;
@@ -63,9 +58,12 @@ fn rows_of_all<B: View, L: View, R: View>(
     requires base { relation < length (B.table base.now) }
     requires left { relation < length (L.table left.now) }
     requires right { relation < length (R.table right.now) }
-    ensures base { IfOk result (λ rows. rows.0 ≡ rows_of (relation_at (B.table base.now) relation)) }
-    ensures left { IfOk result (λ rows. rows.1 ≡ rows_of (relation_at (L.table left.now) relation)) }
-    ensures right { IfOk result (λ rows. rows.2 ≡ rows_of (relation_at (R.table right.now) relation)) }
+    ensures base { IfOk result (λ rows.
+        rows.0 ≡ rows_of (relation_at (B.table base.now) relation)) }
+    ensures left { IfOk result (λ rows.
+        rows.1 ≡ rows_of (relation_at (L.table left.now) relation)) }
+    ensures right { IfOk result (λ rows.
+        rows.2 ≡ rows_of (relation_at (R.table right.now) relation)) }
 {
     let base = rows_at(alloc, base, relation)?;
     let left = rows_at(alloc, left, relation)?;
@@ -85,14 +83,17 @@ fn merge_relation<B: View, L: View, R: View>(
     all: &mut Vec<Change>,
 ) -> Result<(), MergeStop>
     requires relation { relation < length schema.now }
-    requires base { IsTable schema.now (B.table base.now) }
-    requires left { IsTable schema.now (L.table left.now) }
-    requires right { IsTable schema.now (R.table right.now) }
-    ensures changes { OnOk result (all.new.items ≡ all.old.items ++ relation_changes prefer relation (relation_at (B.table base.now) relation) (relation_at (L.table left.now) relation) (relation_at (R.table right.now) relation)) }
-    ensures free { OnOk result (relation_clashes prefer relation (relation_at (B.table base.now) relation) (relation_at (L.table left.now) relation) (relation_at (R.table right.now) relation) ≡ []) }
-    ensures conflict { (r k : ℕ) (f : Option ℕ) → result ≡ Err (Conflict r k f)
-        → least_clash (relation_clashes prefer relation (relation_at (B.table base.now) relation) (relation_at (L.table left.now) relation) (relation_at (R.table right.now) relation)) ≡ Some (record { relation = r; key = k; field = f }) }
-    ensures asked { (r k : ℕ) (f : Option ℕ) → result ≡ Err (Conflict r k f) → prefer ≡ Neither }
+    requires tables { AreTables schema.now (B.table base.now) (L.table left.now)
+        (R.table right.now) }
+    ensures changes { OnOk result (all.new.items ≡ all.old.items
+        ++ changes_at prefer (B.table base.now) (L.table left.now) (R.table right.now) relation) }
+    ensures free { OnOk result
+        (clashes_at prefer (B.table base.now) (L.table left.now) (R.table right.now) relation
+        ≡ []) }
+    ensures conflict { IfConflict result (λ clash. least_clash
+        (clashes_at prefer (B.table base.now) (L.table left.now) (R.table right.now) relation)
+        ≡ Some clash) }
+    ensures asked { IfConflict result (λ _. prefer ≡ Neither) }
 {
     match rows_of_all(alloc, base, left, right, relation) {
         Err(AllocError) => Err(MergeStop::Memory),
@@ -120,17 +121,10 @@ pub fn merge_tables<B: View, L: View, R: View>(
     requires base { IsTable schema.now (B.table base.now) }
     requires left { IsTable schema.now (L.table left.now) }
     requires right { IsTable schema.now (R.table right.now) }
-    ensures changes { IfOk result (λ c. c ≡ table_changes prefer (B.table base.now) (L.table left.now) (R.table right.now)) }
-    ensures free { OnOk result (table_clashes prefer (B.table base.now) (L.table left.now) (R.table right.now) ≡ []) }
-    ensures made { IfOk result (λ c. (r key : ℕ) → r < length schema.now
-        → merge_key prefer (relation_at (B.table base.now) r) (relation_at (L.table left.now) r) (relation_at (R.table right.now) r) key ≡ Ok (finite.get (relation_at (with_changes (L.table left.now) c) r) key)) }
-    ensures order { IfOk result (λ c. ascends c ≡ true) }
-    ensures fit { IfOk result (λ c. list_all (change_fits schema.now) c ≡ true) }
-    ensures conflict { (r k : ℕ) (f : Option ℕ) → result ≡ Err (Conflict r k f)
-        → least_clash (table_clashes prefer (B.table base.now) (L.table left.now) (R.table right.now)) ≡ Some (record { relation = r; key = k; field = f }) }
-    ensures asked { (r k : ℕ) (f : Option ℕ) → result ≡ Err (Conflict r k f) → prefer ≡ Neither }
-    ensures relation { (r k : ℕ) (f : Option ℕ) → result ≡ Err (Conflict r k f) → r < length schema.now }
-    ensures field { (r k : ℕ) (f : Option ℕ) → result ≡ Err (Conflict r k f) → IsFieldOf (length (columns_at schema.now r)) f }
+    ensures merged { IfOk result (MakesMerge schema.now prefer
+        (B.table base.now) (L.table left.now) (R.table right.now)) }
+    ensures conflict { IfConflict result (IsFirstClash schema.now prefer
+        (B.table base.now) (L.table left.now) (R.table right.now)) }
 {
     let mut all = Vec::new(alloc);
     for relation in 0..relation_count(schema) {

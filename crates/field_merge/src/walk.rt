@@ -1,8 +1,8 @@
 //! Three lists of records by key, walked side by side.
-ghost use Rattle.std.specs.Prelude.{◌≡◌, ℕ, ◌++◌, [], ◌∷◌, Option, Ok, Err, Some, OnOk, option_copied};
+ghost use Rattle.std.specs.Prelude.{◌≡◌, ◌++◌, [], ◌∷◌, Ok, Some, OnOk, option_copied};
 ghost use Rattle.db_value.specs.declared.condition.Prefer.TheVariants.{Neither};
-ghost use Rattle.field_merge.specs.declared.stop.MergeStop.TheVariants.{Conflict};
 ghost use Rattle.field_merge.specs.Merge.{change_where, clash_where, least_clash};
+ghost use Rattle.field_merge.specs.Results.{IfConflict};
 ghost use Rattle.field_merge.specs.Rows.{fields_if, merge_records, AreVersions};
 ghost use Rattle.field_merge.specs.Walk.{record_changes, record_clashes, first_at, behind, first_key, lesser, least_key, AreSides};
 
@@ -75,7 +75,8 @@ fn list_change(
     row: Option<&Record>,
     all: &mut Vec<Change>,
 ) -> Result<(), AllocError>
-    ensures { OnOk result (all.new.items ≡ all.old.items ++ change_where relation key (fields_if (option_copied left.entry)) (Ok (fields_if (option_copied row.entry)))) }
+    ensures { OnOk result (all.new.items ≡ all.old.items ++ change_where relation key
+        (fields_if (option_copied left.entry)) (Ok (fields_if (option_copied row.entry)))) }
 {
     if is_same(row, left) {
         return Ok(());
@@ -99,10 +100,15 @@ fn merge_key(
     all: &mut Vec<Change>,
 ) -> Result<(), MergeStop>
     requires { AreVersions (option_copied base) (option_copied left) (option_copied right) }
-    ensures changes { OnOk result (all.new.items ≡ all.old.items ++ change_where relation key (fields_if (option_copied left.entry)) (merge_records prefer (option_copied base.entry) (option_copied left.entry) (option_copied right.entry))) }
-    ensures free { OnOk result (clash_where relation key (merge_records prefer (option_copied base.entry) (option_copied left.entry) (option_copied right.entry)) ≡ []) }
-    ensures conflict { (r k : ℕ) (f : Option ℕ) → result ≡ Err (Conflict r k f) → clash_where relation key (merge_records prefer (option_copied base.entry) (option_copied left.entry) (option_copied right.entry)) ≡ record { relation = r; key = k; field = f } ∷ [] }
-    ensures asked { (r k : ℕ) (f : Option ℕ) → result ≡ Err (Conflict r k f) → prefer ≡ Neither }
+    ensures changes { OnOk result (all.new.items ≡ all.old.items
+        ++ change_where relation key (fields_if (option_copied left.entry)) (merge_records prefer
+        (option_copied base.entry) (option_copied left.entry) (option_copied right.entry))) }
+    ensures free { OnOk result (clash_where relation key (merge_records prefer
+        (option_copied base.entry) (option_copied left.entry) (option_copied right.entry)) ≡ []) }
+    ensures conflict { IfConflict result (λ clash. clash_where relation key (merge_records prefer
+        (option_copied base.entry) (option_copied left.entry) (option_copied right.entry))
+        ≡ clash ∷ []) }
+    ensures asked { IfConflict result (λ _. prefer ≡ Neither) }
 {
     match merge3(base, left, right, prefer) {
         Merged::Conflict { field } => Err(MergeStop::Conflict {
@@ -127,10 +133,12 @@ pub fn merge_rows(
     all: &mut Vec<Change>,
 ) -> Result<(), MergeStop>
     requires { AreSides base.now left.now right.now }
-    ensures changes { OnOk result (all.new.items ≡ all.old.items ++ record_changes prefer relation base.now left.now right.now) }
+    ensures changes { OnOk result (all.new.items
+        ≡ all.old.items ++ record_changes prefer relation base.now left.now right.now) }
     ensures free { OnOk result (record_clashes prefer relation base.now left.now right.now ≡ []) }
-    ensures conflict { (r k : ℕ) (f : Option ℕ) → result ≡ Err (Conflict r k f) → least_clash (record_clashes prefer relation base.now left.now right.now) ≡ Some (record { relation = r; key = k; field = f }) }
-    ensures asked { (r k : ℕ) (f : Option ℕ) → result ≡ Err (Conflict r k f) → prefer ≡ Neither }
+    ensures conflict { IfConflict result (λ clash.
+        least_clash (record_clashes prefer relation base.now left.now right.now) ≡ Some clash) }
+    ensures asked { IfConflict result (λ _. prefer ≡ Neither) }
 {
     let (mut base, mut left, mut right) = (base, left, right);
     'keys: while let Some(key) = least_key(base, left, right) {

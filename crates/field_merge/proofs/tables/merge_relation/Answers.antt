@@ -12,7 +12,7 @@ merge_rows-requires g c =
       left_is = c.as_slice-in-Ok.ensures ∙ c.in-Ok.ensures.left;
       right_is = c.as_slice-in-Ok-2.ensures ∙ c.in-Ok.ensures.right;
     } in
-    sides_are c.args.schema.now c.args.relation (g.B.View.table c.args.base.now) (g.L.View.table c.args.left.now) (g.R.View.table c.args.right.now) _ _ _ c.requires.relation c.requires.base c.requires.left c.requires.right are
+    sides_are c.args.schema.now c.args.relation (g.B.View.table c.args.base.now) (g.L.View.table c.args.left.now) (g.R.View.table c.args.right.now) _ _ _ c.requires.relation c.requires.tables.of_base c.requires.tables.of_left c.requires.tables.of_right are
 
 pub returns-in-Ok-clause-changes : goal.returns-in-Ok-clause-changes
 returns-in-Ok-clause-changes g c =

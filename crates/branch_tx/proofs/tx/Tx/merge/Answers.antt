@@ -1,4 +1,4 @@
-use Rattle.std.proofs.Common.{◌≡◌, nat_lt, true, Err, length, List, ap, sym, ◌∙◌, subst}
+use Rattle.std.proofs.Common.{◌≡◌, ◌<◌, nat_lt, true, Err, length, List, ap, sym, ◌∙◌, subst}
 use Rattle.std.specs.List.{list_all}
 use Rattle.db_value.specs.Relations.{columns_at}
 use Rattle.db_value.specs.declared.entry.Change.{Change}
@@ -27,15 +27,25 @@ adopt-requires-clause-relations g c =
     let left : Table = laid (g.St.View.View.table c.self.inside.work.view) (overlays_of c.self.inside.work) in
     let long : length left ≡ length c.args.self.now.head = ap (λ (x : Granted). length (laid x.head x.overlays)) c.self.view_is ∙ ap length (laid_is c.args.self.now c.requires.untouched) in
     subst (λ n. list_all (λ (x : Change). nat_lt x.relation n) c.in-Ok.changes ≡ true) long
-    (ap (list_all (λ (x : Change). nat_lt x.relation (length left))) c.in-Ok.ensures.changes
+    (ap (list_all (λ (x : Change). nat_lt x.relation (length left))) c.in-Ok.ensures.merged.changes
     ∙ merged_within c.args.prefer (g.St.View.View.table c.args.base.now) left (g.St.View.View.table c.args.right.now))
 
 pub adopt-requires-clause-differ : goal.adopt-requires-clause-differ
-adopt-requires-clause-differ g c = ascending_differ c.in-Ok.changes c.in-Ok.ensures.order
+adopt-requires-clause-differ g c = ascending_differ c.in-Ok.changes c.in-Ok.ensures.merged.order
+
+pub relation_name-requires : goal.relation_name-requires
+relation_name-requires g c =
+    let h = (c.merge_tables.ensures.conflict c.in-Err-Conflict.relation c.in-Err-Conflict.key c.in-Err-Conflict.field (c.in-Err-Conflict.is ∙ ap Err c.in-Err-Conflict.field-0-is)).relation_there in
+    subst (λ r. r < length c.self.inside.schema) (sym c.in-Err-Conflict.relation-is) h
+
+pub field_name-requires-clause-relation : goal.field_name-requires-clause-relation
+field_name-requires-clause-relation g c =
+    let h = (c.merge_tables.ensures.conflict c.in-Err-Conflict.relation c.in-Err-Conflict.key c.in-Err-Conflict.field (c.in-Err-Conflict.is ∙ ap Err c.in-Err-Conflict.field-0-is)).relation_there in
+    subst (λ r. r < length c.self.inside.schema) (sym c.in-Err-Conflict.relation-is) h
 
 pub field_name-requires-clause-field : goal.field_name-requires-clause-field
 field_name-requires-clause-field g c =
-    let h = c.merge_tables.ensures.field c.in-Err-Conflict.relation c.in-Err-Conflict.key c.in-Err-Conflict.field (c.in-Err-Conflict.is ∙ ap Err c.in-Err-Conflict.field-0-is) in
+    let h = (c.merge_tables.ensures.conflict c.in-Err-Conflict.relation c.in-Err-Conflict.key c.in-Err-Conflict.field (c.in-Err-Conflict.is ∙ ap Err c.in-Err-Conflict.field-0-is)).field_there in
     subst (IsFieldOf (length (columns_at c.self.inside.schema _))) (sym c.in-Err-Conflict.field-is)
     (subst (λ r. IsFieldOf (length (columns_at c.self.inside.schema r)) c.in-Err-Conflict.field) (sym c.in-Err-Conflict.relation-is) h)
 
@@ -44,8 +54,8 @@ returns-in-Ok-clause-reply g c =
     let old : Granted = c.args.self.now in
     let base = g.St.View.View.table c.args.base.now in
     let right = g.St.View.View.table c.args.right.now in
-    let is = c.in-Ok.ensures.changes ∙ ap (λ (x : Granted). table_changes c.args.prefer base (laid x.head x.overlays) right) c.self.view_is in
-    let free = ap (λ (x : Granted). table_clashes c.args.prefer base (laid x.head x.overlays) right) (sym c.self.view_is) ∙ c.in-Ok.ensures.free in
+    let is = c.in-Ok.ensures.merged.changes ∙ ap (λ (x : Granted). table_changes c.args.prefer base (laid x.head x.overlays) right) c.self.view_is in
+    let free = ap (λ (x : Granted). table_clashes c.args.prefer base (laid x.head x.overlays) right) (sym c.self.view_is) ∙ c.in-Ok.ensures.merged.free in
     c.adopt.ensures.reply
     ∙ ap (λ (o : Outcome (List Overlay)). o.reply) (merged_by old c.requires.untouched c.args.from c.args.prefer base right c.in-Ok.changes (sym c.is_full.ensures ∙ c.if-is_full.false) is free)
 
@@ -54,8 +64,8 @@ returns-in-Ok-clause-left g c =
     let old : Granted = c.args.self.now in
     let base = g.St.View.View.table c.args.base.now in
     let right = g.St.View.View.table c.args.right.now in
-    let is = c.in-Ok.ensures.changes ∙ ap (λ (x : Granted). table_changes c.args.prefer base (laid x.head x.overlays) right) c.self.view_is in
-    let free = ap (λ (x : Granted). table_clashes c.args.prefer base (laid x.head x.overlays) right) (sym c.self.view_is) ∙ c.in-Ok.ensures.free in
+    let is = c.in-Ok.ensures.merged.changes ∙ ap (λ (x : Granted). table_changes c.args.prefer base (laid x.head x.overlays) right) c.self.view_is in
+    let free = ap (λ (x : Granted). table_clashes c.args.prefer base (laid x.head x.overlays) right) (sym c.self.view_is) ∙ c.in-Ok.ensures.merged.free in
     c.adopt.ensures.left
     ∙ ap (with_merge old) (merged_by old c.requires.untouched c.args.from c.args.prefer base right c.in-Ok.changes (sym c.is_full.ensures ∙ c.if-is_full.false) is free)
 
@@ -66,7 +76,7 @@ returns-in-Err-Conflict-clause-reply g c =
     let right = g.St.View.View.table c.args.right.now in
     let clash : Clash = record { relation = c.in-Err-Conflict.relation; key = c.in-Err-Conflict.key; field = c.in-Err-Conflict.field } in
     let least = ap (λ (x : Granted). least_clash (table_clashes c.args.prefer base (laid x.head x.overlays) right)) (sym c.self.view_is)
-    ∙ c.merge_tables.ensures.conflict clash.relation clash.key clash.field (c.in-Err-Conflict.is ∙ ap Err c.in-Err-Conflict.field-0-is) in
+    ∙ (c.merge_tables.ensures.conflict clash.relation clash.key clash.field (c.in-Err-Conflict.is ∙ ap Err c.in-Err-Conflict.field-0-is)).least in
     let name = c.relation_name.ensures ∙ ap (relation_name c.self.inside.schema) c.in-Err-Conflict.relation-is ∙ ap (λ (x : Granted). relation_name x.schema clash.relation) c.self.view_is in
     let field = c.field_name.ensures ∙ (λ i. field_name c.self.inside.schema (c.in-Err-Conflict.relation-is i) (c.in-Err-Conflict.field-is i)) ∙ ap (λ (x : Granted). field_name x.schema clash.relation clash.field) c.self.view_is in
     c.refused.ensures
@@ -80,5 +90,5 @@ returns-in-Err-Conflict-clause-left g c =
     let right = g.St.View.View.table c.args.right.now in
     let clash : Clash = record { relation = c.in-Err-Conflict.relation; key = c.in-Err-Conflict.key; field = c.in-Err-Conflict.field } in
     let least = ap (λ (x : Granted). least_clash (table_clashes c.args.prefer base (laid x.head x.overlays) right)) (sym c.self.view_is)
-    ∙ c.merge_tables.ensures.conflict clash.relation clash.key clash.field (c.in-Err-Conflict.is ∙ ap Err c.in-Err-Conflict.field-0-is) in
+    ∙ (c.merge_tables.ensures.conflict clash.relation clash.key clash.field (c.in-Err-Conflict.is ∙ ap Err c.in-Err-Conflict.field-0-is)).least in
     ap (with_merge old) (conflicting old c.requires.untouched c.args.from c.args.prefer base right clash (sym c.is_full.ensures ∙ c.if-is_full.false) least)
