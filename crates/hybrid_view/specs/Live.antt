@@ -63,6 +63,10 @@ no_piece = record { segment = 0; rows = record { fields = 0; records = [] }; bit
 abbrev pub piece_at : List Piece → ℕ → Piece
 piece_at ps i = get_or ps i no_piece
 
+-- each piece of this segment has P
+abbrev pub EachOf : ℕ → List Piece → (Piece → Type 0) → Type 0
+EachOf segment ps P = (i : ℕ) → i < length ps → (piece_at ps i).segment ≡ segment → P (piece_at ps i)
+
 -- the pieces stand by ascending segment
 abbrev pub rises : ℕ → List Piece → Bool
 rises low [] = true

@@ -18,6 +18,7 @@ live_slots : (slot : ℕ) (xs : List Record) (p : ℕ → Bool) → live_rows (s
 live_slots slot [] p = refl
 live_slots slot (x ∷ xs) p = ap (λ ys. cond (p slot) (x ∷ ys) ys) (live_slots (suc slot) xs p)
 
+-- the live records of the parts are those of the pieces
 pub rows_in_parts : (ps : List Piece) → rows_in (map part_of ps) ≡ live_pieces ps
 rows_in_parts [] = refl
 rows_in_parts (p ∷ ps) =
@@ -29,6 +30,7 @@ none_here : (b : Bool) (n : ℕ) → cond b 1 0 + n ≡ 0 → (b ≡ false) × (
 none_here true n e = absurd (omega (arith, e))
 none_here false n e = (refl, omega (arith, e))
 
+-- a key that no record has gives no fields
 pub times_none : (key : ℕ) (xs : List Record) → times key xs ≡ 0 → fields_in key xs ≡ None
 times_none key [] e = refl
 times_none key (x ∷ xs) e =
@@ -39,6 +41,7 @@ fewer : (b : Bool) (n : ℕ) → cond b 1 0 + n ≤ 1 → n ≤ 1
 fewer true n h = omega (arith, h)
 fewer false n h = omega (arith, h)
 
+-- records of which no two have one key are apart
 pub apart_from_times : (xs : List Record) → ((key : ℕ) → times key xs ≤ 1) → Apart xs
 apart_from_times [] t = tt
 apart_from_times (x ∷ xs) t = (
@@ -49,12 +52,14 @@ apart_from_times (x ∷ xs) t = (
     rest : cond (x.key == x.key) 1 0 + times x.key xs ≡ 1 + times x.key xs → cond (x.key == x.key) 1 0 + times x.key xs ≤ 1 → times x.key xs ≡ 0
     rest e h = omega (arith, e, h)
 
+-- the live records of a relation are its rows, in some order
 pub lived_rows_are : (l : Lived) → IsLived l → IsPermutation (rows_in (parts_in l)) (rows_of (contents_in l))
 lived_rows_are l is =
     subst (λ (xs : List Record). IsPermutation xs (rows_of (contents_in l))) (sym (rows_in_parts l.pieces))
     (same_fields (live_pieces l.pieces) (rows_of (contents_in l)) (apart_from_times (live_pieces l.pieces) is.apart) (apart_rows (contents_in l))
     (λ q. sym (fields_rows (contents_in l) q ∙ get_contents (live_pieces l.pieces) q)))
 
+-- so are those of each relation of a version
 pub live_rows_are : (ls : List Lived) (r : ℕ) → AllLived ls → r < length (table_of ls) → IsPermutation (rows_in (parts_in (lived_at ls r))) (rows_of (relation_at (table_of ls) r))
 live_rows_are ls r all h =
     let n = length-map ls contents_in in

@@ -9,9 +9,10 @@ struck [] segment slot = false
 struck (None ∷ os) segment slot = struck os segment slot
 struck (Some x ∷ os) segment slot = (x.0 == segment && x.1 == slot) || struck os segment slot
 
--- the places of the keys that changes of a relation touch
+-- the place of the key of a change, if it is one of the relation
 abbrev pub touched_place : List Piece → ℕ → Change → Option (ℕ × ℕ)
 touched_place ps r c = cond (c.relation == r) (place_of ps c.key) None
 
+-- the places of the keys that changes of a relation touch
 abbrev pub touched_places : List Piece → List Change → ℕ → List (Option (ℕ × ℕ))
 touched_places ps cs r = map (touched_place ps r) cs

@@ -8,7 +8,8 @@ use std::alloc::AllocError;
 
 // Makes the bit of a place false, where the place is of the segment.
 fn clear_at(bits: &mut Bits, segment: u32, place: &Option<(u32, u32)>)
-    ensures bits { (slot : ℕ) → bit_of bits.new slot ≡ (bit_of bits.old slot && not (struck (place.now ∷ []) segment slot)) }
+    ensures bits { (slot : ℕ) → bit_of bits.new slot
+        ≡ (bit_of bits.old slot && not (struck (place.now ∷ []) segment slot)) }
     ensures len { length bits.new ≡ length bits.old }
 {
     match place {
@@ -23,7 +24,8 @@ fn clear_at(bits: &mut Bits, segment: u32, place: &Option<(u32, u32)>)
 
 /// The bits of a segment without those of some places.
 pub fn cleared(bits: &Bits, segment: u32, places: &[Option<(u32, u32)>]) -> Result<Bits, AllocError>
-    ensures bits { IfOk result (λ b. (slot : ℕ) → bit_of b slot ≡ (bit_of bits.now slot && not (struck places.now segment slot))) }
+    ensures bits { IfOk result (λ b. (slot : ℕ)
+        → bit_of b slot ≡ (bit_of bits.now slot && not (struck places.now segment slot))) }
     ensures len { IfOk result (λ b. length b ≡ length bits.now) }
 {
     let mut new = bits.duplicate()?;
@@ -38,7 +40,8 @@ pub fn cleared(bits: &Bits, segment: u32, places: &[Option<(u32, u32)>]) -> Resu
 pub fn put_bits(bits: &mut Bits, from: u32, to: u32) -> Result<(), AllocError>
     requires behind { length bits.old ≤ from }
     requires order { from ≤ to }
-    ensures bits { OnOk result ((slot : ℕ) → bit_of bits.new slot ≡ cond (nat_lt slot from) (bit_of bits.old slot) (nat_lt slot to)) }
+    ensures bits { OnOk result ((slot : ℕ)
+        → bit_of bits.new slot ≡ cond (nat_lt slot from) (bit_of bits.old slot) (nat_lt slot to)) }
     ensures len { OnOk result (length bits.new ≡ to) }
 {
     bits.grow(to)?;
@@ -51,7 +54,8 @@ pub fn put_bits(bits: &mut Bits, from: u32, to: u32) -> Result<(), AllocError>
 /// The bits in which two bitmaps differ.
 pub fn difference(old: &Bits, new: &Bits) -> Result<Bits, AllocError>
     requires { length old.now ≤ length new.now }
-    ensures bits { IfOk result (λ d. (slot : ℕ) → bit_of d slot ≡ differ (bit_of old.now slot) (bit_of new.now slot)) }
+    ensures bits { IfOk result (λ d. (slot : ℕ)
+        → bit_of d slot ≡ differ (bit_of old.now slot) (bit_of new.now slot)) }
     ensures len { IfOk result (λ d. length d ≡ length new.now) }
 {
     let mut delta = old.duplicate()?;

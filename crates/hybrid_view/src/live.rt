@@ -5,7 +5,7 @@ ghost use Rattle.hybrid_view.specs.Struck.{touched_place, touched_places};
 ghost use Rattle.hybrid_view.specs.RowPlaces.{AllNext};
 ghost use Rattle.std.specs.FinMap as finite;
 ghost use Rattle.db_store.specs.Parts.{part_at, slot_at};
-ghost use Rattle.hybrid_view.specs.Live.{Piece, empty_lived, has_live, begun_pieces, contents_in, parts_in, piece_at, IsLived};
+ghost use Rattle.hybrid_view.specs.Live.{EachOf, Piece, empty_lived, has_live, begun_pieces, contents_in, parts_in, piece_at, IsLived};
 ghost use Rattle.key_index.specs.Places.{with_changes};
 
 use crate::part::LivePart;
@@ -76,10 +76,12 @@ impl LiveRelation {
     pub fn find(&self, key: u64) -> Option<Spot>
         ensures none { IfNone result (finite.get (contents_in self.now) key ≡ None) }
         ensures part { IfSome result (λ s. s.part < length (parts_in self.now)) }
-        ensures slot { IfSome result (λ s. s.slot < length (part_at (parts_in self.now) s.part).slots) }
+        ensures slot { IfSome result (λ s.
+            s.slot < length (part_at (parts_in self.now) s.part).slots) }
         ensures live { IfSome result (λ s. (slot_at (parts_in self.now) s.part s.slot).1 ≡ true) }
         ensures key { IfSome result (λ s. (slot_at (parts_in self.now) s.part s.slot).0.key ≡ key) }
-        ensures fields { IfSome result (λ s. finite.get (contents_in self.now) key ≡ Some (slot_at (parts_in self.now) s.part s.slot).0.fields) }
+        ensures fields { IfSome result (λ s. finite.get (contents_in self.now) key
+            ≡ Some (slot_at (parts_in self.now) s.part s.slot).0.fields) }
     {
         match self.index.find(key) {
             None => None,
@@ -154,8 +156,9 @@ impl LiveRelation {
         head: u32,
         rows: &Records,
     ) -> Result<Vec<LivePart>, AllocError>
-        requires fields { (i : ℕ) → i < length self.now.pieces → (piece_at self.now.pieces i).segment ≡ head → AreWide (piece_at self.now.pieces i).rows.fields rows.now }
-        requires few { (i : ℕ) → i < length self.now.pieces → (piece_at self.now.pieces i).segment ≡ head → length (piece_at self.now.pieces i).rows.records + length rows.now < 2 ^ 32 }
+        requires fields { EachOf head self.now.pieces (λ p. AreWide p.rows.fields rows.now) }
+        requires few { EachOf head self.now.pieces (λ p.
+            length p.rows.records + length rows.now < 2 ^ 32) }
         ensures { IfOk result (λ v. AllNext places.now head rows.now self.now.pieces v.items) }
     {
         let mut parts = Vec::with_capacity(alloc, self.parts.len())?;
@@ -178,10 +181,14 @@ impl LiveRelation {
         spots: &SpotChanges,
         count: u32,
     ) -> Result<LiveRelation, AllocError>
-        requires fields { (i : ℕ) → i < length self.now.pieces → (piece_at self.now.pieces i).segment ≡ head → AreWide (piece_at self.now.pieces i).rows.fields rows.now }
-        requires few { (i : ℕ) → i < length self.now.pieces → (piece_at self.now.pieces i).segment ≡ head → length (piece_at self.now.pieces i).rows.records + length rows.now < 2 ^ 32 }
-        requires lived { (qs : List Piece) → AllNext (touched_places self.now.pieces changes.now relation) head rows.now self.now.pieces qs → IsLived (record { pieces = qs; places = with_changes self.now.places spots.now; count = count }) }
-        ensures parts { IfOk result (λ l. AllNext (touched_places self.now.pieces changes.now relation) head rows.now self.now.pieces l.pieces) }
+        requires fields { EachOf head self.now.pieces (λ p. AreWide p.rows.fields rows.now) }
+        requires few { EachOf head self.now.pieces (λ p.
+            length p.rows.records + length rows.now < 2 ^ 32) }
+        requires lived { (qs : List Piece) →
+            AllNext (touched_places self.now.pieces changes.now relation) head rows.now self.now.pieces qs →
+            IsLived (record { pieces = qs; places = with_changes self.now.places spots.now; count = count }) }
+        ensures parts { IfOk result (λ l.
+            AllNext (touched_places self.now.pieces changes.now relation) head rows.now self.now.pieces l.pieces) }
         ensures places { IfOk result (λ l. l.places ≡ with_changes self.now.places spots.now) }
         ensures count { IfOk result (λ l. l.count ≡ count) }
     {
@@ -194,8 +201,9 @@ impl LiveRelation {
     /// What a new branch of this version has: the parts in which something is live, a head of its own,
     /// and the index as it is. All of it is shared.
     pub fn begun(&self, alloc: Global, head: LivePart) -> Result<LiveRelation, AllocError>
-        requires { IsLived (record { pieces = begun_pieces self.now.pieces head; places = self.now.places; count = self.now.count }) }
-        ensures { IfOk result (λ l. l ≡ record { pieces = begun_pieces self.now.pieces head; places = self.now.places; count = self.now.count }) }
+        requires { IsLived (record self.now { pieces = begun_pieces self.now.pieces head }) }
+        ensures { IfOk result (λ l.
+            l ≡ record self.now { pieces = begun_pieces self.now.pieces head }) }
     {
         let mut parts = Vec::new(alloc);
         for part in &self.parts {
@@ -208,8 +216,8 @@ impl LiveRelation {
 
     /// What a branch has that gets another head: one part more.
     pub fn with_head(&self, alloc: Global, head: LivePart) -> Result<LiveRelation, AllocError>
-        requires { IsLived (record { pieces = self.now.pieces ++ head ∷ []; places = self.now.places; count = self.now.count }) }
-        ensures { IfOk result (λ l. l ≡ record { pieces = self.now.pieces ++ head ∷ []; places = self.now.places; count = self.now.count }) }
+        requires { IsLived (record self.now { pieces = self.now.pieces ++ head ∷ [] }) }
+        ensures { IfOk result (λ l. l ≡ record self.now { pieces = self.now.pieces ++ head ∷ [] }) }
     {
         let mut parts = copies(alloc, &self.parts)?;
         parts.push(head)?;
@@ -231,7 +239,8 @@ fn copies(alloc: Global, parts: &[LivePart]) -> Result<Vec<LivePart>, AllocError
 
 // Puts a part behind others, where something of it is live.
 fn push_live(parts: &mut Vec<LivePart>, part: &LivePart) -> Result<(), AllocError>
-    ensures { OnOk result (parts.new.items ≡ parts.old.items ++ cond (has_live part.now) (part.now ∷ []) []) }
+    ensures { OnOk result (parts.new.items
+        ≡ parts.old.items ++ cond (has_live part.now) (part.now ∷ []) []) }
 {
     if part.has_live() {
         parts.push(part.duplicate()?)?;

@@ -40,7 +40,8 @@ impl LivePart {
 
     /// A segment with its number, and which records of it are live.
     pub fn of(segment: u32, records: Arc<Segment>, bits: Arc<Bits>) -> LivePart
-        ensures { result ≡ record { segment = segment; rows = arc_value records; bits = arc_value bits } }
+        ensures { result
+            ≡ record { segment = segment; rows = arc_value records; bits = arc_value bits } }
     {
         LivePart {
             segment,
@@ -178,7 +179,8 @@ impl LivePart {
     ) -> Result<LivePart, AllocError>
         requires covers { length self.now.bits ≤ length self.now.rows.records }
         requires fields { self.now.segment ≡ head → AreWide self.now.rows.fields rows.now }
-        requires few { self.now.segment ≡ head → length self.now.rows.records + length rows.now < 2 ^ 32 }
+        requires few { self.now.segment ≡ head
+            → length self.now.rows.records + length rows.now < 2 ^ 32 }
         ensures { IfOk result (λ p. Next places.now head rows.now self.now p) }
     {
         if self.segment == head {
