@@ -46,8 +46,10 @@ impl Model for Delta {
 // Puts a word after the others, unless it is zero.
 fn push_word(words: &mut Vec<DeltaWord>, at: u32, word: u64) -> Result<(), AllocError>
     ensures bits { OnOk result ((place : ℕ)
-        → bit_in words.new.items place ≡ differ (word_bit at word place) (bit_in words.old.items place)) }
-    ensures within { (len : ℕ) → All (IsWithin len) words.old.items → 64 * at < len → FitsAt at word len
+        → bit_in words.new.items place
+        ≡ differ (word_bit at word place) (bit_in words.old.items place)) }
+    ensures within { (len : ℕ) → All (IsWithin len) words.old.items → 64 * at < len
+        → FitsAt at word len
         → OnOk result (All (IsWithin len) words.new.items) }
 {
     if word != 0 {
@@ -58,7 +60,8 @@ fn push_word(words: &mut Vec<DeltaWord>, at: u32, word: u64) -> Result<(), Alloc
 
 // The words of a bitmap that are not zero.
 fn words_in(alloc: Global, bits: &Bits) -> Result<Vec<DeltaWord>, AllocError>
-    ensures bits { IfOk result (λ words. (place : ℕ) → bit_in words.items place ≡ bit_of bits.now place) }
+    ensures bits { IfOk result (λ words. (place : ℕ)
+        → bit_in words.items place ≡ bit_of bits.now place) }
     ensures within { IfOk result (λ words. All (IsWithin (length bits.now)) words.items) }
 {
     let mut words = Vec::new(alloc);

@@ -70,7 +70,8 @@ fn is_head_of(fields: u8, count: u16) -> bool
 fn is_padded(bytes: &[u8]) -> bool
     requires long { length bytes.now ≡ PAGE_BYTES }
     requires head { is_head (fields_in bytes.now) (count_in bytes.now) ≡ true }
-    ensures { result ≡ (are_zero (take 13 (drop 3 bytes.now)) && are_zero (drop (end_in bytes.now) bytes.now)) }
+    ensures { result
+        ≡ (are_zero (take 13 (drop 3 bytes.now)) && are_zero (drop (end_in bytes.now) bytes.now)) }
 {
     let end = HEAD_BYTES + count_of(bytes) as usize * size_of(width_of(bytes));
     all_zero(&bytes[3..HEAD_BYTES]) && all_zero(&bytes[end..])

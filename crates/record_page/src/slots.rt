@@ -18,7 +18,8 @@ pub(crate) fn blank(alloc: Global, fields: u8) -> Result<Vec<u8>, AllocError>
     requires some { 0 < fields }
     requires few { fields ≤ 15 }
     ensures page { IfOk result (λ bytes. is_page bytes.items ≡ true) }
-    ensures rows { IfOk result (λ bytes. rows_in bytes.items ≡ record { fields = fields; records = [] }) }
+    ensures rows { IfOk result (λ bytes.
+        rows_in bytes.items ≡ record { fields = fields; records = [] }) }
 {
     let mut bytes = Vec::with_capacity(alloc, PAGE_BYTES)?;
     bytes.extend_from_slice(&[0, 0, fields])?;
@@ -70,8 +71,10 @@ pub(crate) fn push_record(bytes: &mut [u8], row: &Record) -> Result<u16, PageFul
     ensures slot { IfOk result (λ slot. slot ≡ length (rows_in bytes.old).records) }
     ensures page { is_page bytes.new ≡ true }
     ensures pushed { OnOk result (rows_in bytes.new ≡ with_record (rows_in bytes.old) row.now) }
-    ensures room { OnOk result (length (rows_in bytes.old).records < capacity (rows_in bytes.old).fields) }
-    ensures full { OnErr result (capacity (rows_in bytes.old).fields ≤ length (rows_in bytes.old).records) }
+    ensures room { OnOk result (length (rows_in bytes.old).records
+        < capacity (rows_in bytes.old).fields) }
+    ensures full { OnErr result (capacity (rows_in bytes.old).fields
+        ≤ length (rows_in bytes.old).records) }
     ensures same { OnErr result (bytes.new ≡ bytes.old) }
 {
     let count = many_in(bytes);

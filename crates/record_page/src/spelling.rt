@@ -147,7 +147,8 @@ fn put_values(values: &[i64], to: &mut [u8])
 /// Puts a record in the first bytes.
 pub(crate) fn put_record(row: &Record, to: &mut [u8])
     requires { record_size (length row.now.fields) ≤ length to.old }
-    ensures put { to.new ≡ record_bytes row.now ++ drop (record_size (length row.now.fields)) to.old }
+    ensures put { to.new
+        ≡ record_bytes row.now ++ drop (record_size (length row.now.fields)) to.old }
     ensures is { IsRecord (length row.now.fields) row.now }
 {
     put_key(row.key, to);

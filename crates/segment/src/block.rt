@@ -53,7 +53,8 @@ impl Model for Blocks {
 
 /// Puts further links to the same things after those in `to`.
 pub(crate) fn share<T: Drop>(to: &mut Vec<Arc<T>>, links: &[Arc<T>]) -> Result<(), AllocError>
-    ensures { OnOk result (map arc_value to.new.items ≡ map arc_value to.old.items ++ map arc_value links.now) }
+    ensures { OnOk result (map arc_value to.new.items
+        ≡ map arc_value to.old.items ++ map arc_value links.now) }
 {
     to.reserve(links.len())?;
     for link in links {
@@ -69,7 +70,8 @@ pub(crate) fn front_of(
     count: usize,
 ) -> Result<Vec<Arc<Page>>, AllocError>
     requires { count ≤ length links.now }
-    ensures { IfOk result (λ front. map arc_value front.items ≡ take count (map arc_value links.now)) }
+    ensures { IfOk result (λ front.
+        map arc_value front.items ≡ take count (map arc_value links.now)) }
 {
     // One more than there are, for the page that is put after them.
     let mut front = Vec::with_capacity(alloc, count + 1)?;
@@ -83,8 +85,10 @@ pub(crate) fn put_page(
     links: &mut Vec<Arc<Page>>,
     page: Page,
 ) -> Result<(), AllocError>
-    ensures put { OnOk result (map arc_value links.new.items ≡ map arc_value links.old.items ++ page ∷ []) }
-    ensures either { (map arc_value links.new.items ≡ map arc_value links.old.items) ⊎ (map arc_value links.new.items ≡ map arc_value links.old.items ++ page ∷ []) }
+    ensures put { OnOk result (map arc_value links.new.items
+        ≡ map arc_value links.old.items ++ page ∷ []) }
+    ensures either { (map arc_value links.new.items ≡ map arc_value links.old.items)
+        ⊎ (map arc_value links.new.items ≡ map arc_value links.old.items ++ page ∷ []) }
 {
     let page = Arc::new(alloc, page)?;
     links.push(page)?;

@@ -60,7 +60,8 @@ impl Segment {
     pub fn extended(&self, rows: &Records) -> Result<Segment, AllocError>
         requires fields { AreWide self.now.fields rows.now }
         requires few { length self.now.records + length rows.now < 2 ^ 32 }
-        ensures { IfOk result (λ s. s ≡ record self.now { records = self.now.records ++ rows.now }) }
+        ensures { IfOk result (λ s.
+            s ≡ record self.now { records = self.now.records ++ rows.now }) }
     {
         let len = self.len() + rows.as_slice().len() as u32;
         let mut tail = self.opened()?;

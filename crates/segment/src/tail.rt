@@ -29,7 +29,8 @@ pub(crate) struct Tail {
 // Whether there is a last page that isn't full.
 fn has_room(fields: u8, links: &[Arc<Page>]) -> bool
     ensures some { result ≡ true → 0 < length links.now }
-    ensures full { result ≡ false → 0 < length links.now → capacity fields ≤ length (page_at (map arc_value links.now) (length links.now - 1)).records }
+    ensures full { result ≡ false → 0 < length links.now → capacity fields
+        ≤ length (page_at (map arc_value links.now) (length links.now - 1)).records }
 {
     if links.is_empty() {
         return false;
@@ -49,7 +50,8 @@ impl Tail {
     ) -> Result<Tail, AllocError>
         requires laid { IsLaid fields (arc_value blocks.now) (map arc_value links.now) }
         requires some { 0 < length links.now }
-        ensures rows { IfOk result (λ t. rows_in t ≡ records_of (pages_of (arc_value blocks.now) ++ map arc_value links.now)) }
+        ensures rows { IfOk result (λ t.
+            rows_in t ≡ records_of (pages_of (arc_value blocks.now) ++ map arc_value links.now)) }
         ensures fields { IfOk result (λ t. t.fields ≡ fields) }
     {
         let count = links.len() - 1;
@@ -73,8 +75,10 @@ impl Tail {
         links: &[Arc<Page>],
     ) -> Result<Tail, AllocError>
         requires laid { IsLaid fields (arc_value blocks.now) (map arc_value links.now) }
-        requires full { AreAllFull fields (pages_of (arc_value blocks.now) ++ map arc_value links.now) }
-        ensures rows { IfOk result (λ t. rows_in t ≡ records_of (pages_of (arc_value blocks.now) ++ map arc_value links.now)) }
+        requires full { AreAllFull fields
+            (pages_of (arc_value blocks.now) ++ map arc_value links.now) }
+        ensures rows { IfOk result (λ t.
+            rows_in t ≡ records_of (pages_of (arc_value blocks.now) ++ map arc_value links.now)) }
         ensures fields { IfOk result (λ t. t.fields ≡ fields) }
     {
         let last = Page::new(alloc, fields)?;
@@ -97,7 +101,8 @@ impl Tail {
         links: &[Arc<Page>],
     ) -> Result<Tail, AllocError>
         requires { IsLaid fields (arc_value blocks.now) (map arc_value links.now) }
-        ensures rows { IfOk result (λ t. rows_in t ≡ records_of (pages_of (arc_value blocks.now) ++ map arc_value links.now)) }
+        ensures rows { IfOk result (λ t.
+            rows_in t ≡ records_of (pages_of (arc_value blocks.now) ++ map arc_value links.now)) }
         ensures fields { IfOk result (λ t. t.fields ≡ fields) }
     {
         if has_room(fields, links) {
