@@ -27,7 +27,7 @@ reading-preserved g c = record {
       let n = c.in-Ok.n in
       let took : length (take n c.take_most.new.buffer) ≡ n = length-take-le n c.take_most.new.buffer (omega (arith, c.in-Ok.ensures.count.0, c.take_most.ensures.same)) in
       omega (arith, e.len, took, c.in-Ok.ensures.count.1, c.reading.invariant.most);
-  later = omega arith;
+  later = omega (arith, c.take_most.ensures.faults.later);
 }
 
 pub returns-in-Err-clause-front : goal.returns-in-Err-clause-front
