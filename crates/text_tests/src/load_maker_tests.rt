@@ -1,0 +1,65 @@
+//! Load scripts. The texts and the sums were made by another program.
+use load_maker::script_of;
+use std::test::Fail;
+
+#[test]
+fn the_first_scripts(rt: HostRuntime) -> Result<(), Fail> {
+    let cases = [
+        (0, "relation items a b\nend\n1 scan items in heads\n"),
+        (
+            1,
+            "relation items a b\nend\n2 insert items 4774 774 0\n1 scan items in heads\n",
+        ),
+        (
+            2,
+            "relation items a b\nend\n2 insert items 7740 740 0\n3 insert items 1882 882 0\n1 scan items in heads\n",
+        ),
+        (
+            3,
+            "relation items a b\nend\n2 insert items 7059 59 0\n3 insert items 5963 963 0\n4 insert items 9715 715 0\n1 scan items in heads\n",
+        ),
+        (
+            9,
+            "relation items a b\nend\n2 insert items 7563 563 0\n3 insert items 5041 41 0\n4 insert items 5272 272 0\n1 insert items 3940 940 0\n2 insert items 3715 715 0\n3 update items 3027 a=27\n4 delete items 4108\n1 get items 3267\n2 insert items 1739 739 0\n1 scan items in heads\n",
+        ),
+    ];
+    for (n, expected) in cases {
+        let script = script_of(rt.alloc(), n)?;
+        assert!(rt;
+            script.as_slice() == expected.as_bytes(),
+            "the script of {n}"
+        );
+    }
+    Ok(())
+}
+
+// A sum that tells the order of bytes.
+fn sum_of(bytes: &[u8]) -> u64 {
+    let mut sum = 0u64;
+    for byte in bytes {
+        sum = sum
+            .wrapping_mul(1_099_511_628_211)
+            .wrapping_add(u64::from(*byte));
+    }
+    sum
+}
+
+#[test]
+fn long_scripts(rt: HostRuntime) -> Result<(), Fail> {
+    let cases = [
+        (512, 12_301, 8_690_516_680_475_139_718u64),
+        (20_000, 478_792, 17_935_673_103_481_957_622),
+    ];
+    for (n, length, sum) in cases {
+        let script = script_of(rt.alloc(), n)?;
+        assert!(rt;
+            script.as_slice().len() == length,
+            "the script of {n}: its length"
+        );
+        assert!(rt;
+            sum_of(script.as_slice()) == sum,
+            "the script of {n}: its bytes"
+        );
+    }
+    Ok(())
+}
