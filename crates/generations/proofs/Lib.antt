@@ -1,0 +1,10 @@
+pub mod Back
+pub mod Both
+pub mod Creating
+pub mod Entries
+pub mod Looking
+pub mod Opening
+pub mod Picking
+pub mod Reopening
+pub mod Told
+pub mod Walks

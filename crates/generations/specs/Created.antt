@@ -1,0 +1,50 @@
+-- The files of a new dataset.
+use Rattle.std.specs.Prelude.{◌≡◌, ◌⊎◌, ◌+◌, ◌<◌, ℕ, Bool, true, false, List, [], ◌∷◌, ◌++◌, length}
+use Rattle.std.specs.Int.{w64, to_le_bytes}
+use Rattle.sha2.specs.Sha256.{sha256}
+use Rattle.db_value.specs.declared.schema.Relation.{Relation}
+use Rattle.db_outside.specs.declared.disk.Disk.{Ghosts}
+use Rattle.generations.specs.declared.dataset.Dataset.{Dataset}
+use Rattle.generations.specs.declared.new.CreateStop.{CreateStop}
+use Rattle.generations.specs.declared.new.CreateStop.TheVariants.{AlreadyThere, DiskFault, Memory}
+use Rattle.generations.specs.Datasets.{generation_in, entries_read_in, counted_in, place_in}
+use Rattle.new_image.specs.Image.{image_of}
+
+-- behind the gate: the rest of the mark, generation 1, the image's length and digest, and the image
+abbrev pub behind_gate : List ℕ → List ℕ
+behind_gate image = ((((68 ∷ 69 ∷ 67 ∷ 73 ∷ 66 ∷ 69 ∷ 76 ∷ 49 ∷ []) ++ to_le_bytes w64 1) ++ to_le_bytes w64 (length image)) ++ sha256 image) ++ image
+
+-- an open gate, and that
+abbrev pub new_front : List Relation → List ℕ
+new_front rs = 1 ∷ behind_gate (image_of rs)
+
+-- a new dataset: file 0 counts, with generation 1, no entry was read, and its first record goes behind the image
+pub record IsNew {D : Type 0} {g : Ghosts D} (d : Dataset D g) (rs : List Relation) : Type 0 where
+  pub counted : counted_in d ≡ 0
+  pub generation : generation_in d ≡ 1
+  pub entries_read : entries_read_in d ≡ 0
+  pub place : place_in d ≡ 57 + length (image_of rs)
+
+-- both files are empty
+abbrev pub AreEmpty : List ℕ → List ℕ → Type 0
+AreEmpty c d = (c ≡ []) × (d ≡ [])
+
+-- a file isn't empty
+abbrev pub IsOneThere : List ℕ → List ℕ → Type 0
+IsOneThere c d = (0 < length c) ⊎ (0 < length d)
+
+-- whether a file is empty
+abbrev pub IsEmptyBy : Bool → List ℕ → Type 0
+IsEmptyBy true c = c ≡ []
+IsEmptyBy false c = 0 < length c
+
+-- whether both files are
+abbrev pub AreEmptyBy : Bool → List ℕ → List ℕ → Type 0
+AreEmptyBy true c d = AreEmpty c d
+AreEmptyBy false c d = IsOneThere c d
+
+-- why no dataset was made
+abbrev pub IsCreateStop : CreateStop → List ℕ → List ℕ → Type 0
+IsCreateStop AlreadyThere c d = IsOneThere c d
+IsCreateStop DiskFault c d = Unit {0}
+IsCreateStop Memory c d = Unit {0}

@@ -1,0 +1,92 @@
+//! A dataset, opened again.
+ghost use Rattle.std.specs.Prelude.{◌≡◌, true, cond, IfOk, IfErr};
+ghost use Rattle.db_outside.specs.Disk.{InAll};
+ghost use Rattle.gate_journal.specs.Gate.{IsShut};
+ghost use Rattle.generations.specs.declared.look.OpenStop.TheVariants.{DiskFault};
+ghost use Rattle.generations.specs.Datasets.{pair_in};
+ghost use Rattle.generations.specs.Looks.{IsOpenStop};
+ghost use Rattle.generations.specs.Pairs.{disk_of, IfTold, RoseInOne, BothOnlyRead};
+ghost use Rattle.generations.specs.Reopens.{Reopens};
+
+use crate::dataset::Dataset;
+use crate::file::File;
+use crate::look::{Looked, OpenStop, look};
+use crate::pair::Pair;
+use crate::store::DatasetStore;
+use db_outside::Disk;
+use gate_journal::Journal;
+use std::alloc::Global;
+
+// The dataset of these parts.
+fn assembled<D: Disk>(
+    disks: Pair<D>,
+    second: bool,
+    generation: u64,
+    journal: Journal,
+    entries_read: u64,
+) -> Dataset<D>
+    requires clean { journal.clean ≡ true }
+    requires shut { InAll (D.image (disk_of second disks)) (IsShut journal.at) }
+    ensures disk { result.file.disk ≡ cond second disks.second disks.first }
+    ensures beside { result.beside ≡ cond second disks.first disks.second }
+    ensures journal { result.file.journal ≡ journal }
+    ensures second { result.second ≡ second }
+    ensures generation { result.generation ≡ generation }
+    ensures entries_read { result.entries_read ≡ entries_read }
+{
+    let Pair {
+        first,
+        second: other,
+    } = disks;
+    if second {
+        return Dataset {
+            file: File {
+                disk: other,
+                journal,
+            },
+            beside: first,
+            second,
+            generation,
+            entries_read,
+        };
+    }
+    Dataset {
+        file: File {
+            disk: first,
+            journal,
+        },
+        beside: other,
+        second,
+        generation,
+        entries_read,
+    }
+}
+
+/// Opens two files. It writes nothing, and gives both disks back if it stops.
+pub fn reopen<D: Disk>(
+    alloc: Global,
+    disks: Pair<D>,
+) -> Result<(Dataset<D>, DatasetStore), (OpenStop, Pair<D>)>
+    ensures opens { IfOk result (λ r. IfTold D.Disk disks (Reopens r.0 r.1)) }
+    ensures reads { IfOk result (λ r. BothOnlyRead D.Disk disks (pair_in r.0)) }
+
+    ensures stop { IfErr result (λ e. IfTold D.Disk disks (IsOpenStop e.0)) }
+    ensures cause { IfErr result (λ e. e.0 ≡ DiskFault → RoseInOne D.Disk disks e.1) }
+    ensures only_read { IfErr result (λ e. BothOnlyRead D.Disk disks e.1) }
+{
+    let mut disks = disks;
+    match look(alloc, &mut disks) {
+        Err(stop) => Err((stop, disks)),
+        Ok(looked) => {
+            let Looked {
+                second,
+                generation,
+                journal,
+                store,
+                entries,
+            } = looked;
+            let dataset = assembled(disks, second, generation, journal, entries);
+            Ok((dataset, store))
+        }
+    }
+}

@@ -1,0 +1,115 @@
+//! A dataset in two files.
+ghost use Rattle.std.specs.Prelude.{◌≡◌};
+ghost use Rattle.generations.specs.Datasets.{pair_in, generation_in, entries_read_in, counted_in, place_in};
+
+use crate::file::File;
+use crate::pair::Pair;
+use db_outside::{Batch, Disk, Failed};
+use db_store::Store;
+use entry_codec::Log;
+
+/// A dataset in two files, of which one counts.
+#[derive(Drop)]
+pub struct Dataset<D: Disk> {
+    pub(crate) file: File<D>,
+    pub(crate) beside: D,
+    pub(crate) second: bool,
+    pub(crate) generation: u64,
+    pub(crate) entries_read: u64,
+}
+
+impl<D: Disk> Dataset<D> {
+    /// The two files.
+    pub fn into_disks(self) -> Pair<D>
+        ensures { result ≡ pair_in self }
+    {
+        let Dataset {
+            file,
+            beside,
+            second,
+            generation: _,
+            entries_read: _,
+        } = self;
+        let File { disk, journal: _ } = file;
+        if second {
+            return Pair {
+                first: beside,
+                second: disk,
+            };
+        }
+        Pair {
+            first: disk,
+            second: beside,
+        }
+    }
+
+    /// The number of its image, which is 1 after the dataset was made.
+    pub fn generation(&self) -> u64
+        ensures { result ≡ generation_in self.now }
+    {
+        self.generation
+    }
+
+    /// How many entries were read from records when it was opened.
+    pub fn entries_read(&self) -> u64
+        ensures { result ≡ entries_read_in self.now }
+    {
+        self.entries_read
+    }
+
+    /// The number of the file that counts, 0 or 1.
+    pub fn counted(&self) -> u8
+        ensures { result ≡ counted_in self.now }
+    {
+        if self.second { 1 } else { 0 }
+    }
+
+    /// The place of the gate behind the last record.
+    pub fn place(&self) -> u64
+        ensures { result ≡ place_in self.now }
+    {
+        self.file.journal.at
+    }
+}
+
+/// A dataset keeps all that a log may keep. Its count of faults is that of both disks.
+impl<D: Disk + Drop, St: Store> Log<St> for Dataset<D> {
+    ghost use Rattle.std.specs.Prelude.{◌≡◌, ◌+◌};
+    ghost use Rattle.db_outside.specs.Disk.{InAll};
+    ghost use Rattle.db_outside.specs.Count.{counted};
+    ghost use Rattle.generations.specs.Fronts.{Keeps, IsBeside};
+    ghost use Rattle.generations.specs.Given.{Opens};
+    ghost use Rattle.generations.specs.LogLaws.{kept_gives, counts_both};
+
+    ghost faults = { λ l. D.faults l.file.disk + D.faults l.beside };
+
+    ghost Keeps = { λ l s es f. Keeps l.second l.generation l.file.journal.at l.file.journal.clean (D.image l.file.disk) (D.image l.beside) s es f };
+
+    ghost generation = { λ l. l.generation };
+
+    ghost moment = { λ l. (D.moment l.file.disk, D.moment l.beside) };
+
+    ghost opens_now = { λ l o. Opens l.second (D.image l.file.disk) (D.image l.beside) o };
+
+    ghost opens_since = { λ l t o. Opens l.second (D.since l.file.disk t.0) (D.since l.beside t.1) o };
+
+    ghost Quiet = { λ l t. InAll (D.since l.beside t.1) (IsBeside l.second l.generation) };
+
+    fn append(&mut self, batch: &Batch) -> Result<(), Failed> {
+        self.file.append(batch)?;
+        Ok(())
+    }
+
+    fn fault_count(&self) -> u64 {
+        self.file
+            .disk
+            .fault_count()
+            .saturating_add(self.beside.fault_count())
+    }
+
+    ghost kept_opens = { λ l s es f keeps o opens. kept_gives l.second l.generation l.file.journal.at l.file.journal.clean (D.image l.file.disk) (D.image l.beside) s es f keeps o opens };
+
+    ghost counts_now = { λ l t o le opens. counts_both l.second (D.image l.file.disk) (D.image l.beside) (D.since l.file.disk t.0) (D.since l.beside t.1) o (λ c now. D.Disk.counts_now l.file.disk t.0 c le.0 now) (λ c now. D.Disk.counts_now l.beside t.1 c le.1 now) opens };
+
+    ghost only_now = { λ l o opens. counts_both l.second (D.since l.file.disk (D.moment l.file.disk)) (D.since l.beside (D.moment l.beside)) (D.image l.file.disk) (D.image l.beside) o (λ c now. D.Disk.only_now l.file.disk c now) (λ c now. D.Disk.only_now l.beside c now) opens };
+}
