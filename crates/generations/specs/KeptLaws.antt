@@ -5,7 +5,7 @@ use Rattle.db_outside.specs.Disk.{Begins, LeavesOnly, InAll}
 use Rattle.db_outside.proofs.Moments.{started, joined, weakened}
 use Rattle.db_outside.specs.Record.{ready, record_of}
 use Rattle.gate_journal.specs.Gate.{IsShut, IsBehind, IsOpen, IsNoneOrWhole}
-use Rattle.gate_journal.specs.Leaves.{IsFrontOf, AppendLeaves, RepairLeaves}
+use Rattle.gate_journal.specs.Leaves.{IsFrontOf, AppendLeaves, RepairLeaves, LeavesRepaired}
 use Rattle.gate_journal.proofs.Gates.{none_or_whole, ready_there, shut_after}
 use Rattle.generations.specs.Ends.{with_record, Ends, MayEnd, EndsInOneOf, IsKept}
 
@@ -150,26 +150,26 @@ module _ {D : Type 0} (moment : D → ℕ) (since : D → ℕ → List ℕ → T
   pub at_rest : (clean : Bool) → ((c : List ℕ) → since old (moment old) c → image old c) → IsKept at clean (image old) a f → LeavesOnly moment since old old (MayEnd a f)
   at_rest clean only kept = started moment since old (MayEnd a f) (λ c left. kept_opens at clean (image old) a f kept c (only c left))
 
-  pub repairs : (clean : Bool) → clean ≡ false → IsKept at clean (image old) a f → ((b : List ℕ) → InAll (image old) (IsBehind at (ready b)) → LeavesOnly moment since old new (RepairLeaves at (ready b) (image old)))
+  pub repairs : (clean : Bool) → clean ≡ false → IsKept at clean (image old) a f → LeavesOnly moment since old new (LeavesRepaired at (image old))
       → LeavesOnly moment since old new (MayEnd a f)
   repairs clean is kept any =
       let shut_not = subst (λ q. IsKept at q (image old) a f) is kept in
       let b = shut_not.behind refl in
-      weakened moment since old new (RepairLeaves at (ready b.0) (image old)) (MayEnd a f) (any b.0 b.2) (λ c leaves. in_repair at (image old) a f b.0 c b.1 shut_not leaves)
+      weakened moment since old new (LeavesRepaired at (image old)) (MayEnd a f) any (λ c leaves. in_repair at (image old) a f b.0 c b.1 shut_not (leaves b.0 b.2))
 
-  pub repair_done : (clean : Bool) → clean ≡ false → IsKept at clean (image old) a f → ((b : List ℕ) → InAll (image old) (IsBehind at (ready b)) → LeavesOnly moment since old new (RepairLeaves at (ready b) (image old)))
+  pub repair_done : (clean : Bool) → clean ≡ false → IsKept at clean (image old) a f → LeavesOnly moment since old new (LeavesRepaired at (image old))
       → ((c : List ℕ) → image new c → since new (moment old) c) → InAll (image new) (IsShut at) → IsKept at true (image new) a None
   repair_done clean is kept any counts shut =
       let shut_not = subst (λ q. IsKept at q (image old) a f) is kept in
       let b = shut_not.behind refl in
-      after_repair at (image old) (image new) a f b.0 shut_not (λ c now. (any b.0 b.2).each c (counts c now)) shut
+      after_repair at (image old) (image new) a f b.0 shut_not (λ c now. any.each c (counts c now) b.0 b.2) shut
 
-  pub repair_failed : (clean : Bool) → clean ≡ false → IsKept at clean (image old) a f → ((b : List ℕ) → InAll (image old) (IsBehind at (ready b)) → LeavesOnly moment since old new (RepairLeaves at (ready b) (image old)))
+  pub repair_failed : (clean : Bool) → clean ≡ false → IsKept at clean (image old) a f → LeavesOnly moment since old new (LeavesRepaired at (image old))
       → ((c : List ℕ) → image new c → since new (moment old) c) → IsKept at false (image new) a f
   repair_failed clean is kept any counts =
       let shut_not = subst (λ q. IsKept at q (image old) a f) is kept in
       let b = shut_not.behind refl in
-      still_unclean at (image old) (image new) a f b.0 shut_not (λ c now. (any b.0 b.2).each c (counts c now))
+      still_unclean at (image old) (image new) a f b.0 shut_not (λ c now. any.each c (counts c now) b.0 b.2)
 
 -- a repair and then an append
 pub both : {D : Type 0} (moment : D → ℕ) (since : D → ℕ → List ℕ → Type 0) (image : D → List ℕ → Type 0) (old mid new : D) (at : ℕ) (a : List ℕ) (f : Option (List ℕ)) (b : List ℕ)

@@ -31,15 +31,14 @@ pub returns-in_err-append-clause-failed : goal.returns-in_err-append-clause-fail
 returns-in_err-append-clause-failed g c = on_err c.from_residual-in_err-append.result (λ a f kept.
     let clean = same_kept c.make_clean.new.self.journal.at c.make_clean.new.self.journal.at c.make_clean.new.self.journal.clean true (g.D.Disk.image c.make_clean.new.self.disk) a None
     refl c.in_ok-make_clean.ensures.clean (c.in_ok-make_clean.ensures.done a f kept) in
-    let shut = λ (is : c.append.new.self.clean ≡ true). subst (λ (n : ℕ). InAll (g.D.Disk.image c.append.new.disk) (IsShut n)) c.in_err-append.ensures.stays (c.append.ensures.shut is) in
     let either = failed_either c.make_clean.new.self.journal.at (g.D.Disk.image c.make_clean.new.self.disk) (g.D.Disk.image c.append.new.disk) a None c.args.batch.now c.append.new.self.clean clean
     (λ i now. c.append.ensures.any_moment.each i (g.met.D.Disk.counts_now c.append.new.disk (g.D.Disk.moment c.make_clean.new.self.disk) i c.append.ensures.any_moment.later now))
-    shut c.in_err-append.ensures.behind in
+    c.in_err-append.ensures.failed.shut c.in_err-append.ensures.failed.behind in
     let which : (either.0 ≡ None) ⊎ (either.0 ≡ f) ⊎ (either.0 ≡ Some c.args.batch.now) = ⊎_elim (λ p. inl p) (λ p. inr (inr p)) either.1 in (
       either.0,
       which,
       same_kept c.make_clean.new.self.journal.at c.append.new.self.at c.append.new.self.clean c.append.new.self.clean (g.D.Disk.image c.append.new.disk) a either.0
-          (sym c.in_err-append.ensures.stays) refl either.2,
+          (sym c.in_err-append.ensures.failed.stays) refl either.2,
     ))
 
 pub returns-clause-done : goal.returns-clause-done
@@ -48,16 +47,15 @@ returns-clause-done g c a f kept =
     refl c.in_ok-make_clean.ensures.clean (c.in_ok-make_clean.ensures.done a f kept) in
     let is_longer = longer c.make_clean.new.self.journal.at (g.D.Disk.image c.make_clean.new.self.disk) (g.D.Disk.image c.append.new.disk) a None c.args.batch.now c.append.new.self.at clean
     (λ i now. c.append.ensures.any_moment.each i (g.met.D.Disk.counts_now c.append.new.disk (g.D.Disk.moment c.make_clean.new.self.disk) i c.append.ensures.any_moment.later now))
-    c.in_ok-append.ensures.record c.in_ok-append.ensures.moved (c.append.ensures.shut c.in_ok-append.ensures.clean) in
-    same_kept c.append.new.self.at c.append.new.self.at true c.append.new.self.clean (g.D.Disk.image c.append.new.disk) _ None refl (sym c.in_ok-append.ensures.clean) is_longer
+    c.in_ok-append.ensures.appended.opened c.in_ok-append.ensures.appended.moved c.in_ok-append.ensures.appended.next.shut in
+    same_kept c.append.new.self.at c.append.new.self.at true c.append.new.self.clean (g.D.Disk.image c.append.new.disk) _ None refl (sym c.in_ok-append.ensures.appended.next.clean) is_longer
 
 pub invariant_of-self : goal.invariant_of-self
 invariant_of-self g c = record {
-  shut = c.append.ensures.shut;
-  there = λ unclean i now.
-      let wrong : c.append.new.self.clean ≡ true → ⊥ = λ ok. let bad : true ≡ false = sym ok ∙ unclean in cc bad in
-      let stays : c.append.new.self.at ≡ c.make_clean.new.self.journal.at = by_result c.append.result c.append.ensures.clean c.append.ensures.stays (λ ok. absurd (wrong ok)) (λ s. s) in
-      let behind : InAll (g.D.Disk.image c.append.new.disk) (IsBehind c.make_clean.new.self.journal.at (ready c.args.batch.now)) =
-      by_result c.append.result c.append.ensures.clean c.append.ensures.behind (λ ok. absurd (wrong ok)) (λ b. b unclean) in
-      omega (arith, stays, ready_there c.make_clean.new.self.journal.at c.args.batch.now i (behind i now));
+  shut = λ is. by_result c.append.result c.append.ensures.appended c.append.ensures.failed
+      (λ done. done.next.shut)
+      (λ failed. subst (λ (n : ℕ). InAll (g.D.Disk.image c.append.new.disk) (IsShut n)) (sym failed.stays) (failed.shut is));
+  there = λ unclean i now. by_result c.append.result c.append.ensures.appended c.append.ensures.failed
+      (λ done. let bad : true ≡ false = sym done.next.clean ∙ unclean in cc bad)
+      (λ failed. omega (arith, failed.stays, ready_there c.make_clean.new.self.journal.at c.args.batch.now i (failed.behind unclean i now)));
 }
