@@ -1,3 +1,4 @@
 pub mod Short
 pub mod Rows
+pub mod Kept
 pub mod Differences

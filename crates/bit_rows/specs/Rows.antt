@@ -5,6 +5,8 @@ use Rattle.std.proofs.Common.{get_or}
 use Rattle.commit_history.specs.Runs.{Next}
 use Rattle.db_store.specs.Layout.{Row}
 use Rattle.hybrid_view.specs.Deltas.{slots_of}
+use Rattle.hybrid_view.specs.Live.{Piece}
+use Rattle.bit_rows.specs.Short.{shortest}
 
 -- a row of bits: its segment, the position at which it begins, and the delta of each position from there on
 pub record KeptRow : Type 0 where
@@ -41,3 +43,20 @@ next_at nexts i = get_or nexts i no_next
 -- a row with one delta more
 abbrev pub pushed_row : KeptRow → Next → KeptRow
 pushed_row s next = record s { deltas = s.deltas ++ next.delta.item ∷ [] }
+
+-- the row that a new branch begins of a piece, at its position 0
+abbrev pub begun_row : Piece → KeptRow
+begun_row p = record { segment = p.segment; from = 0; deltas = shortest (slots_of p.bits) ∷ [] }
+
+-- one row more, and for how many rows in all there is room with it
+pub record MoreRow : Type 0 where
+  pub row : KeptRow
+  pub room : ℕ
+
+-- these can be told apart
+abbrev pub more_code : Coded MoreRow
+more_code = code_by (KeptRow × ℕ) (coded× row_code coded_ℕ) (λ m. (m.row, m.room)) (λ p. record { row = p.0; room = p.1 }) (λ _. refl)
+
+-- what stands past the last one
+abbrev pub no_more : MoreRow
+no_more = record { row = no_kept_row; room = 0 }

@@ -5,8 +5,14 @@
 //! `next_deltas`, which makes these ready. A delta is the shortest bitmap of its slots (`specs/Short.antt`).
 #![tactic(auto)]
 
+mod begun;
 mod changed;
+mod lane;
+mod more;
 mod rows;
 
+pub use begun::rows_begun;
 pub use changed::{next_deltas, rows_put, spots_of};
+pub use lane::HybridLane;
+pub use more::MoreRows;
 pub use rows::{BitRow, BitRows, NextDeltas};

@@ -6,6 +6,7 @@ ghost use Rattle.hybrid_view.specs.Deltas.{slots_of};
 ghost use Rattle.bit_rows.specs.Short.{end_of, shortest};
 ghost use Rattle.bit_rows.specs.Rows.{kept_row_at, next_at, pushed_row};
 
+use crate::more::{MoreRows, add_row};
 use commit_history::{Delta, History, NextDelta};
 use plain_bits::Bits;
 use std::alloc::{AllocError, Global};
@@ -222,6 +223,14 @@ impl BitRows {
         ensures each { (i : ℕ) → i < length self.old → kept_row_at self.new i ≡ pushed_row (kept_row_at self.old i) (next_at nexts i) }
     {
         push_each(&mut self.items, nexts.items);
+    }
+
+    /// Adds the row of another head. It takes no memory.
+    pub fn add(&mut self, more: MoreRows)
+        requires { length self.old < more.room }
+        ensures { self.new ≡ self.old ++ more.row ∷ [] }
+    {
+        add_row(&mut self.items, more);
     }
 
     /// The same rows with histories of their own.

@@ -16,7 +16,7 @@ use Rattle.db_store.proofs.SegmentLemmas.{at_relation}
 use Rattle.hybrid_view.specs.Live.{Lived, lived_at}
 use Rattle.commit_history.specs.Runs.{Next}
 use Rattle.db_value.specs.Relations.{columns_at}
-use Rattle.hybrid_store.specs.Kept.{nexts_at}
+use Rattle.bit_rows.specs.Kept.{nexts_at}
 use Rattle.hybrid_store.specs.Ready.{IsMadeAt, IsMadeOf, IsNextOf, IsReady, no_own}
 use Rattle.hybrid_store.proofs.ReadyLemmas.{made_lasts}
 

@@ -6,7 +6,7 @@ use Rattle.db_value.specs.declared.version.VersionPlace.{VersionPlace}
 use Rattle.db_store.specs.Layout.{no_lane, lane_at, segments_at, rows_at}
 use Rattle.db_store.proofs.SegmentLemmas.{at_relation}
 use Rattle.bit_rows.specs.Rows.{laid_row}
-use Rattle.hybrid_store.specs.Kept.{KeptLane, no_kept, kept_rows}
+use Rattle.bit_rows.specs.Kept.{KeptLane, no_kept, kept_rows}
 use Rattle.hybrid_store.specs.Lanes.{KeptList, no_list, segment_of, lane_of, kept_layout}
 
 -- a branch of the layout is what is kept of it

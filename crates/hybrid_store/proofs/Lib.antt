@@ -12,3 +12,12 @@ pub mod CommitLayout
 pub mod InstallLemmas
 pub mod GrownLemmas
 pub mod AddedLemmas
+pub mod BegunRows
+pub mod BegunKept
+pub mod BranchLayout
+pub mod BranchStored
+pub mod TurnedLemmas
+pub mod AddedBranch
+pub mod SameLemmas
+pub mod BeginLemmas
+pub mod PrepareLemmas

@@ -17,7 +17,7 @@ use Rattle.hybrid_view.specs.Live.{Lived, piece_at, lived_at}
 use Rattle.hybrid_view.specs.RowPlaces.{Shows}
 use Rattle.hybrid_view.proofs.EmptyLemmas.{empty_is_lived}
 use Rattle.bit_rows.specs.Rows.{KeptRow, kept_row_at, laid_row}
-use Rattle.hybrid_store.specs.Kept.{KeptLane, no_kept, kept_rows, first_row}
+use Rattle.bit_rows.specs.Kept.{KeptLane, no_kept, kept_rows, first_row}
 use Rattle.hybrid_view.specs.Deltas.{slots_of}
 use Rattle.bit_rows.specs.Short.{shortest}
 use Rattle.hybrid_store.specs.Lanes.{KeptRecords, KeptList, no_list, most_segments, segment_of, list_at, kept_at, lane_of, kept_layout}

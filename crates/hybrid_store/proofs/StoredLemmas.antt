@@ -6,7 +6,7 @@ use Rattle.db_value.specs.declared.version.VersionPlace.{VersionPlace}
 use Rattle.db_store.specs.Table.{Table}
 use Rattle.db_store.specs.Dataset.{Branch, no_branch, branch_at, no_version, version_at}
 use Rattle.db_store.specs.Layout.{no_lane, branch_of, versions_from, table_in}
-use Rattle.hybrid_store.specs.Kept.{KeptLane, no_kept}
+use Rattle.bit_rows.specs.Kept.{KeptLane, no_kept}
 use Rattle.hybrid_store.specs.Lanes.{KeptList, lane_of, kept_layout}
 use Rattle.hybrid_store.specs.Stored.{kept_dataset}
 

@@ -13,7 +13,7 @@ use Rattle.hybrid_view.specs.RowPlaces.{Next, AllNext}
 use Rattle.record_page.specs.Page.{Rows}
 use Rattle.hybrid_store.specs.Ready.{AreLast, no_own}
 use Rattle.commit_history.specs.Runs.{Next as NextDelta}
-use Rattle.hybrid_store.specs.Kept.{KeptLane, kept_rows, nexts_at}
+use Rattle.bit_rows.specs.Kept.{KeptLane, kept_rows, nexts_at}
 use Rattle.bit_rows.specs.Differences.{AreDifferences}
 use Rattle.hybrid_store.specs.Stored.{AllDifferences, IsNextAt, AllNextIn, AreSmall}
 

@@ -1,5 +1,5 @@
 -- The layout of what a store keeps.
-use Rattle.std.specs.Prelude.{ℕ, List, [], map, set, Option, None, refl}
+use Rattle.std.specs.Prelude.{ℕ, ◌≤◌, ◌++◌, List, [], ◌∷◌, map, set, Option, Some, None, refl}
 use Rattle.std.specs.Coded.{Coded, code_by, coded×, coded_ℕ, coded_list, coded_option}
 use Rattle.std.proofs.Common.{get_or}
 use Rattle.record_page.specs.Page.{Rows, rows_code}
@@ -7,7 +7,7 @@ use Rattle.db_value.specs.declared.schema.Relation.{Relation}
 use Rattle.db_value.specs.declared.version.VersionPlace.{VersionPlace}
 use Rattle.db_store.specs.Layout.{Segment, Lane, Layout, by_relation}
 use Rattle.bit_rows.specs.Rows.{laid_row}
-use Rattle.hybrid_store.specs.Kept.{KeptLane, kept_rows}
+use Rattle.bit_rows.specs.Kept.{KeptLane, kept_rows}
 
 -- a segment, and the branch whose head it is
 pub record KeptRecords : Type 0 where
@@ -72,3 +72,19 @@ list_at segments r = (get_or segments r no_list).all
 -- the segments of a relation after one of them got these records
 abbrev pub with_records : KeptList → ℕ → Rows → KeptList
 with_records k s own = record k { all = set k.all s (record (kept_at k.all s) { rows = own }) }
+
+-- the segments with another one, the head of a branch
+abbrev pub with_head : KeptList → ℕ → Rows → KeptList
+with_head k b own = record k { all = k.all ++ record { head = Some b; rows = own } ∷ [] }
+
+-- the same after the head of a branch became internal
+abbrev pub turned_list : KeptList → ℕ → ℕ → Rows → KeptList
+turned_list k s b own = with_head (record k { all = set k.all s (record (kept_at k.all s) { head = None }) }) b own
+
+-- the segments of a relation, with no regard to room
+abbrev pub all_of : KeptList → List KeptRecords
+all_of k = k.all
+
+-- there is room for all segments that there can be
+abbrev pub HasMost : KeptList → Type 0
+HasMost k = most_segments ≤ k.room

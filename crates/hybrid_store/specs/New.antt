@@ -1,6 +1,8 @@
 -- What a new store keeps.
-use Rattle.std.specs.Prelude.{ℕ, List, []}
+use Rattle.std.specs.Prelude.{◌≡◌, ℕ, ◌<◌, List, [], length}
 use Rattle.std.proofs.Common.{get_or}
+use Rattle.db_value.specs.Relations.{columns_at}
+use Rattle.db_value.specs.declared.schema.Relation.{Relation}
 use Rattle.record_page.specs.Page.{Rows}
 use Rattle.hybrid_view.specs.Live.{Lived, empty_lived}
 
@@ -11,3 +13,8 @@ own_at owns r = get_or owns r (record { fields = 0; records = [] })
 -- what master has at first of a relation: its head, segment 0
 abbrev pub first_lived : Rows → Lived
 first_lived own = empty_lived (record { segment = 0; rows = own; bits = [] })
+
+-- heads without records, one for each relation
+pub record AreEmpty (schema : List Relation) (owns : List Rows) : Type 0 where
+  pub count : length owns ≡ length schema
+  pub each : (r : ℕ) → r < length schema → own_at owns r ≡ record { fields = length (columns_at schema r); records = [] }

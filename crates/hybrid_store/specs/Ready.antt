@@ -17,7 +17,7 @@ use Rattle.hybrid_view.specs.RowPlaces.{Shows, IsWhole}
 use Rattle.commit_history.specs.Runs.{Next, next_of}
 use Rattle.bit_rows.specs.Short.{shortest}
 use Rattle.bit_rows.specs.Rows.{next_at}
-use Rattle.hybrid_store.specs.Kept.{nexts_at}
+use Rattle.bit_rows.specs.Kept.{nexts_at}
 use Rattle.hybrid_store.specs.Stored.{AreSmall}
 
 -- the slots of a row that a commit of branch c changes

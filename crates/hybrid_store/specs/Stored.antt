@@ -17,7 +17,7 @@ use Rattle.hybrid_view.specs.Deltas.{slots_of}
 use Rattle.bit_rows.specs.Short.{shortest}
 use Rattle.bit_rows.specs.Differences.{AreDifferences}
 use Rattle.bit_rows.specs.Rows.{KeptRow, kept_row_at, laid_row}
-use Rattle.hybrid_store.specs.Kept.{KeptLane, no_kept, kept_rows, nexts_at}
+use Rattle.bit_rows.specs.Kept.{KeptLane, no_kept, kept_rows, nexts_at}
 use Rattle.hybrid_store.specs.Lanes.{KeptList, no_list, segment_of, list_at, kept_at, kept_layout, most_segments}
 
 -- the dataset of branches and segments
@@ -84,3 +84,19 @@ AllNextIn k cs n ls = (r : ℕ) → r < n → IsNextAt k cs r (lived_at ls r)
 -- and what is ready for its rows
 abbrev pub AllDifferences : KeptLane → List (List Next) → ℕ → List Lived → Type 0
 AllDifferences k nexts n ls = (r : ℕ) → r < n → AreDifferences (kept_rows k r) (nexts_at nexts r) (lived_at k.head r).pieces (lived_at ls r).pieces
+
+-- a branch with no regard to its room
+abbrev pub roomless : KeptLane → KeptLane
+roomless k = record k { room = 0 }
+
+-- what a version has of a relation: pieces that show the rows of its branch at its position
+pub record IsSeenAt (ss : List Segment) (columns n : ℕ) (rows : List Row) (l : Lived) : Type 0 where
+  pub shown : Show ss n rows l.pieces
+  pub lived : IsLived l
+  pub small : AreSmall l
+  pub fields : (i : ℕ) → i < length l.pieces → (piece_at l.pieces i).rows.fields ≡ columns
+
+-- what the version at a position of a branch has of all relations
+pub record IsSeen (schema : List Relation) (segments : List KeptList) (k : KeptLane) (n : ℕ) (view : List Lived) : Type 0 where
+  pub wide : length view ≡ length schema
+  pub at : (r : ℕ) → r < length schema → IsSeenAt (map segment_of (list_at segments r)) (length (columns_at schema r)) n (map laid_row (kept_rows k r)) (lived_at view r)

@@ -14,9 +14,9 @@ ghost use Rattle.db_store.specs.LayoutGrowth.{puts};
 ghost use Rattle.hybrid_view.specs.Live.{lived_at, piece_at, contents_in, IsLived};
 ghost use Rattle.hybrid_view.specs.RowPlaces.{AllNext};
 ghost use Rattle.hybrid_view.specs.Struck.{touched_places};
-ghost use Rattle.hybrid_store.specs.Kept.{no_kept, kept_rows};
+ghost use Rattle.bit_rows.specs.Kept.{no_kept, kept_rows};
 ghost use Rattle.hybrid_store.specs.Lanes.{list_at, segment_of};
-ghost use Rattle.hybrid_store.specs.Ready.{IsReady, AreLast};
+ghost use Rattle.hybrid_store.specs.Ready.{AreLast};
 ghost use Rattle.bit_rows.specs.Differences.{AreDifferences};
 ghost use Rattle.hybrid_store.specs.Stored.{head_of_lane, AllDifferences, AllNextIn, AreSmall, IsNextAt};
 
@@ -46,9 +46,10 @@ pub struct HybridPrepared {
 
 impl HybridStore {
     ghost use Rattle.hybrid_store.specs.Store.{dataset_in, state_of};
+    ghost use Rattle.hybrid_store.specs.Prepared.{Prepares};
 
     // The segments of a relation.
-    fn list(&self, relation: u8) -> &KeptSegments
+    pub(crate) fn list(&self, relation: u8) -> &KeptSegments
         requires { relation < length self.now.schema }
         ensures { result.now.all ≡ list_at self.now.segments.items relation }
     {
@@ -69,7 +70,7 @@ impl HybridStore {
     }
 
     // What a branch has of a relation.
-    fn lived(&self, branch: u32, relation: u8) -> &LiveRelation
+    pub(crate) fn lived(&self, branch: u32, relation: u8) -> &LiveRelation
         requires branch { branch < length self.now.lanes.items }
         requires relation { relation < length self.now.schema }
         ensures { result.now ≡ lived_at (get_or self.now.lanes.items branch no_kept).head relation }
@@ -185,7 +186,7 @@ impl HybridStore {
         changes: &[Change],
     ) -> Result<HybridPrepared, AllocError>
         requires { fits (dataset_in self.now) (Commit branch second changes.now) ≡ true }
-        ensures { IfOk result (λ p. IsReady p.branch p.second p.deltas.items (arc_value p.head.table) (map arc_value p.records.items) (state_of self.now) (Commit branch second changes.now)) }
+        ensures { IfOk result (λ p. Prepares p (state_of self.now) (Commit branch second changes.now)) }
     {
         let mut deltas = Vec::new(self.alloc);
         let table = self.table_after(branch, changes, &mut deltas)?;

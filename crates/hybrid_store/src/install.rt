@@ -6,15 +6,15 @@ ghost use Rattle.std.proofs.Common.{get_or};
 ghost use Rattle.db_value.specs.declared.entry.Entry.{Entry};
 ghost use Rattle.db_store.specs.Fits.{fits, IsCommit};
 ghost use Rattle.db_store.specs.State.{grow};
-ghost use Rattle.hybrid_store.specs.Kept.{kept_rows};
+ghost use Rattle.bit_rows.specs.Kept.{kept_rows};
 ghost use Rattle.hybrid_store.specs.Lanes.{no_list, list_at, with_records};
-ghost use Rattle.hybrid_store.specs.Ready.{IsReady, no_own};
+ghost use Rattle.hybrid_store.specs.Ready.{no_own};
 ghost use Rattle.hybrid_store.specs.Stored.{head_of_lane, HasRoom, Widens};
 
 use crate::commit::HybridPrepared;
 use crate::kept::KeptSegments;
-use crate::lane::HybridLane;
 use crate::store::HybridStore;
+use bit_rows::HybridLane;
 use db_value::{Entry, VersionPlace};
 use segment::Segment;
 use std::alloc::AllocError;
@@ -54,6 +54,7 @@ fn put_records(segments: &mut Vec<KeptSegments>, lane: &HybridLane, mut records:
 
 impl HybridStore {
     ghost use Rattle.hybrid_store.specs.Store.{dataset_in, state_of, spare_of};
+    ghost use Rattle.hybrid_store.specs.Prepared.{Prepares};
 
     // Makes room for one version more on every branch.
     fn raise(&mut self) -> Result<(), AllocError>
@@ -79,7 +80,7 @@ impl HybridStore {
     pub fn prepare(&mut self, entry: &Entry) -> Result<HybridPrepared, AllocError>
         requires fits { fits (dataset_in self.old) entry.now ≡ true }
         requires commit { IsCommit entry.now }
-        ensures ready { IfOk result (λ p. IsReady p.branch p.second p.deltas.items (arc_value p.head.table) (map arc_value p.records.items) (state_of self.old) entry.now) }
+        ensures ready { IfOk result (λ p. Prepares p (state_of self.old) entry.now) }
         ensures raised { OnOk result (spare_of self.new ≡ spare_of self.old + 1) }
         ensures state { state_of self.new ≡ state_of self.old }
         ensures spare { OnErr result (spare_of self.new ≡ spare_of self.old) }
@@ -92,9 +93,8 @@ impl HybridStore {
     /// Adds the commit. It takes no memory, and uses up one of spare.
     pub fn install(&mut self, prepared: HybridPrepared)
         requires spare { 0 < spare_of self.old }
-        requires ready { (e : Entry) × IsReady prepared.branch prepared.second prepared.deltas.items (arc_value prepared.head.table) (map arc_value prepared.records.items) (state_of self.old) e }
-        ensures grown { (e : Entry) → IsReady prepared.branch prepared.second prepared.deltas.items (arc_value prepared.head.table) (map arc_value prepared.records.items) (state_of self.old) e
-            → state_of self.new ≡ grow (state_of self.old) e }
+        requires ready { (e : Entry) × Prepares prepared (state_of self.old) e }
+        ensures grown { (e : Entry) → Prepares prepared (state_of self.old) e → state_of self.new ≡ grow (state_of self.old) e }
         ensures spare { spare_of self.new + 1 ≡ spare_of self.old }
     {
         let HybridPrepared {

@@ -1,7 +1,7 @@
 //! The segments of a relation.
 ghost use Rattle.std.specs.Prelude.{◌≡◌, ◌≤◌, ◌<◌, ◌++◌, ◌∷◌, [], length, set, IfOk, Some, None};
 ghost use Rattle.std.specs.Arc.{arc_value};
-ghost use Rattle.hybrid_store.specs.Lanes.{most_segments, kept_at};
+ghost use Rattle.hybrid_store.specs.Lanes.{most_segments, kept_at, with_head, turned_list};
 
 use segment::Segment;
 use std::alloc::{AllocError, Global};
@@ -117,18 +117,20 @@ impl KeptSegments {
         self.items[segment as usize].records = records;
     }
 
-    /// The segment is the head of no branch from now on.
-    pub fn close(&mut self, segment: u32)
-        requires { segment < length self.old.all }
-        ensures { self.new ≡ record self.old { all = set self.old.all segment (record (kept_at self.old.all segment) { head = None }) } }
+    /// Adds another head of a branch: the one before becomes internal. It takes no memory.
+    pub fn turn(&mut self, segment: u32, branch: u32, records: Arc<Segment>)
+        requires segment { segment < length self.old.all }
+        requires room { length self.old.all < self.old.room }
+        ensures { self.new ≡ turned_list self.old segment branch (arc_value records) }
     {
         self.items[segment as usize].head = None;
+        self.add(branch, records);
     }
 
     /// Adds the head of a branch. It takes no memory.
     pub fn add(&mut self, branch: u32, records: Arc<Segment>)
         requires { length self.old.all < self.old.room }
-        ensures { self.new ≡ record self.old { all = self.old.all ++ record { head = Some branch; rows = arc_value records } ∷ [] } }
+        ensures { self.new ≡ with_head self.old branch (arc_value records) }
     {
         self.items.push_reserved(KeptSegment {
             head: Some(branch),

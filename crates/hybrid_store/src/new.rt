@@ -5,13 +5,12 @@ ghost use Rattle.std.proofs.Common.{get_or};
 ghost use Rattle.db_value.specs.Relations.{columns_at, has_columns, is_counted};
 ghost use Rattle.db_store.specs.Dataset.{root};
 ghost use Rattle.hybrid_view.specs.Live.{lived_at};
-ghost use Rattle.hybrid_store.specs.Kept.{first_row};
+ghost use Rattle.bit_rows.specs.Kept.{first_row};
 ghost use Rattle.hybrid_store.specs.Lanes.{no_list, most_segments};
 ghost use Rattle.hybrid_store.specs.New.{own_at, first_lived};
 
 use crate::kept::KeptSegments;
-use crate::lane::HybridLane;
-use bit_rows::{BitRow, BitRows};
+use bit_rows::{BitRow, BitRows, HybridLane};
 use db_value::{Name, Relation, VersionPlace};
 use hybrid_view::{HybridView, LivePart, LiveRelation, LiveTable};
 use plain_bits::Bits;

@@ -18,13 +18,13 @@ ghost use Rattle.db_store.specs.State.{laid};
 ghost use Rattle.hybrid_view.specs.Live.{table_of, parts_in, lived_at};
 ghost use Rattle.store_catalogue.specs.Numbers.{list_if};
 ghost use Rattle.store_catalogue.specs.ByName.{AreNumbers};
-ghost use Rattle.hybrid_store.specs.Kept.{no_kept};
+ghost use Rattle.bit_rows.specs.Kept.{no_kept};
 ghost use Rattle.hybrid_store.specs.Lanes.{kept_layout};
 ghost use Rattle.hybrid_store.specs.Stored.{kept_dataset, IsStored, HasRoom};
 
 use crate::kept::KeptSegments;
-use crate::lane::HybridLane;
 use crate::new::{ROOT, new_heads, new_lane, new_segments};
+use bit_rows::HybridLane;
 use db_store::Parents;
 use db_value::{Change, Entry, Name, Schema, VersionPlace};
 use hybrid_view::HybridView;
@@ -33,7 +33,7 @@ use store_catalogue::{BranchNames, changes_fit, is_within, makes_version, new_gr
 use version_graph::Graph;
 
 /// The most branches.
-const MOST_BRANCHES: usize = 1024;
+pub(crate) const MOST_BRANCHES: usize = 1024;
 
 /// The most versions of a branch.
 const MOST_VERSIONS: usize = 65_536;

@@ -1,5 +1,5 @@
 use Rattle.std.proofs.Common.{◌≡◌, ◌∷◌, [], ℕ, ◌<◌, length, get_or}
-use Rattle.hybrid_store.specs.Kept.{first_row}
+use Rattle.bit_rows.specs.Kept.{first_row}
 use Rattle.hybrid_store.proofs.new.new_rows.Given as goal
 
 abbrev pub invariant-loop-relation : goal.invariant-loop-relation

@@ -4,7 +4,7 @@ use Rattle.std.proofs.lemmas.List.{length-map}
 use Rattle.db_store.specs.Counts.{after}
 use Rattle.db_store.specs.Table.{relation_at, with_changes}
 use Rattle.hybrid_view.specs.Live.{Lived, contents_in, lived_at, table_of}
-use Rattle.hybrid_store.specs.Kept.{KeptLane, no_kept}
+use Rattle.bit_rows.specs.Kept.{KeptLane, no_kept}
 use Rattle.hybrid_store.proofs.CommitLemmas.{fit_few, fit_ascends, count_small, branch_there, keys_after}
 use Rattle.hybrid_store.proofs.store.HybridStore.count_with.Goals as goal
 

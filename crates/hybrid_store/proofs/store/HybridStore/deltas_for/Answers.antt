@@ -1,7 +1,7 @@
 use Rattle.std.proofs.Common.{◌≡◌, ◌<◌, ◌≤◌, ◌-◌, ◌^◌, ◌∙◌, ap, sym, subst, arith, length, get_or, ℕ, List}
 use Rattle.hybrid_view.specs.Live.{Lived, piece_at, lived_at}
 use Rattle.bit_rows.specs.Rows.{KeptRow, kept_row_at}
-use Rattle.hybrid_store.specs.Kept.{KeptLane, no_kept, kept_rows}
+use Rattle.bit_rows.specs.Kept.{KeptLane, no_kept, kept_rows}
 use Rattle.bit_rows.specs.Differences.{AreDifferences}
 use Rattle.hybrid_store.proofs.CommitLemmas.{branch_there, pieces_count, deltas_few}
 use Rattle.hybrid_store.proofs.store.HybridStore.deltas_for.Goals as goal

@@ -2,7 +2,7 @@ use Rattle.std.proofs.Common.{◌≡◌, ◌<◌, ◌∙◌, ap, sym, subst, len
 use Rattle.std.specs.Arc.{arc_value}
 use Rattle.db_store.specs.Parts.{AreOf}
 use Rattle.hybrid_view.specs.Live.{Lived, table_of, parts_in, lived_at}
-use Rattle.hybrid_store.specs.Kept.{KeptLane, no_kept}
+use Rattle.bit_rows.specs.Kept.{KeptLane, no_kept}
 use Rattle.hybrid_store.specs.Store.{state_of}
 use Rattle.hybrid_store.proofs.HeadLemmas.{head_is, head_parts}
 use Rattle.hybrid_store.proofs.store.HybridStore.head.Goals as goal

@@ -3,7 +3,7 @@ use Rattle.std.proofs.lemmas.List.{get_or_default}
 use Rattle.db_value.specs.declared.record.Record.{Record}
 use Rattle.record_page.specs.Page.{Rows}
 use Rattle.bit_rows.specs.Rows.{KeptRow, kept_row_at}
-use Rattle.hybrid_store.specs.Kept.{KeptLane, no_kept, kept_rows}
+use Rattle.bit_rows.specs.Kept.{KeptLane, no_kept, kept_rows}
 use Rattle.hybrid_store.specs.Lanes.{KeptRecords, no_rows, list_at}
 use Rattle.hybrid_store.specs.Stored.{head_of_lane}
 use Rattle.hybrid_store.proofs.CommitLemmas.{head_there, head_records}

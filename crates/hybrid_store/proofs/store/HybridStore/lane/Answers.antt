@@ -1,6 +1,6 @@
 use Rattle.std.proofs.Common.{◌≡◌, ◌∙◌, ap, arith, length, get_or}
 use Rattle.std.proofs.lemmas.List.{get_or_default}
-use Rattle.hybrid_store.specs.Kept.{KeptLane, no_kept}
+use Rattle.bit_rows.specs.Kept.{KeptLane, no_kept}
 use Rattle.hybrid_store.proofs.StoredLemmas.{kept_count, kept_name, kept_base, kept_versions}
 use Rattle.hybrid_store.proofs.store.HybridStore.lane.Goals as goal
 

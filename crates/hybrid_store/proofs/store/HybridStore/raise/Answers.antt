@@ -10,7 +10,7 @@ use Rattle.db_store.specs.Layout.{dataset_in as layout_dataset}
 use Rattle.db_store.specs.LaidOut.{IsLaid}
 use Rattle.db_store.specs.State.{laid}
 use Rattle.store_catalogue.specs.ByName.{AreNumbers}
-use Rattle.hybrid_store.specs.Kept.{KeptLane}
+use Rattle.bit_rows.specs.Kept.{KeptLane}
 use Rattle.hybrid_store.specs.Lanes.{lane_of, kept_layout}
 use Rattle.hybrid_store.specs.Stored.{kept_dataset, HasRoom, Widens, IsStored}
 use Rattle.hybrid_store.specs.Store.{layout_of, dataset_in}

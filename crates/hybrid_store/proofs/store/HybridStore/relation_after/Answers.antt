@@ -10,7 +10,7 @@ use Rattle.db_store.specs.LayoutGrowth.{puts}
 use Rattle.hybrid_view.specs.Struck.{touched_places}
 use Rattle.hybrid_view.specs.RowPlaces.{AllNext, spots}
 use Rattle.hybrid_view.specs.Live.{Lived, piece_at, lived_at, contents_in, IsLived}
-use Rattle.hybrid_store.specs.Kept.{KeptLane, no_kept}
+use Rattle.bit_rows.specs.Kept.{KeptLane, no_kept}
 use Rattle.hybrid_store.specs.Lanes.{segment_of, list_at}
 use Rattle.hybrid_store.specs.Stored.{head_of_lane}
 use Rattle.hybrid_store.proofs.CommitLemmas.{put_fields, put_room, lived_after, small_after, branch_there}

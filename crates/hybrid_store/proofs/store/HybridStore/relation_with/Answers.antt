@@ -5,7 +5,7 @@ use Rattle.db_store.specs.LayoutGrowth.{puts}
 use Rattle.hybrid_view.specs.Struck.{touched_places}
 use Rattle.hybrid_view.specs.RowPlaces.{AllNext}
 use Rattle.hybrid_view.specs.Live.{Lived, piece_at, lived_at}
-use Rattle.hybrid_store.specs.Kept.{KeptLane, no_kept}
+use Rattle.bit_rows.specs.Kept.{KeptLane, no_kept}
 use Rattle.hybrid_store.specs.Stored.{head_of_lane, AreSmall}
 use Rattle.hybrid_store.proofs.TableLemmas.{next_same}
 use Rattle.hybrid_store.proofs.CommitLemmas.{branch_there}

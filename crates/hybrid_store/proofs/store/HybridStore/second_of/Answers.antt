@@ -1,5 +1,5 @@
 use Rattle.std.proofs.Common.{◌∙◌, ap, arith, length, get_or, None}
-use Rattle.hybrid_store.specs.Kept.{KeptLane}
+use Rattle.bit_rows.specs.Kept.{KeptLane}
 use Rattle.hybrid_store.proofs.StoredLemmas.{kept_count, kept_second}
 use Rattle.hybrid_store.proofs.store.HybridStore.second_of.Goals as goal
 

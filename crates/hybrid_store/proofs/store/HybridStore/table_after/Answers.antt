@@ -3,7 +3,7 @@ use Rattle.std.specs.Arc.{arc_value}
 use Rattle.std.proofs.lemmas.List.{map-append, length_push}
 use Rattle.commit_history.specs.Runs.{Next}
 use Rattle.hybrid_view.specs.Live.{Lived, lived_at, IsLived}
-use Rattle.hybrid_store.specs.Kept.{KeptLane, no_kept, kept_rows}
+use Rattle.bit_rows.specs.Kept.{KeptLane, no_kept, kept_rows}
 use Rattle.bit_rows.specs.Differences.{AreDifferences}
 use Rattle.hybrid_store.specs.Stored.{AllNextIn, AllDifferences, AreSmall}
 use Rattle.hybrid_store.proofs.TableLemmas.{next_more, lived_more, small_more, ready_more}

@@ -1,7 +1,7 @@
 use Rattle.std.proofs.Common.{◌≡◌, ℕ, ◌<◌, length, map, get_or}
 use Rattle.std.specs.Arc.{arc_value}
 use Rattle.hybrid_view.specs.Live.{lived_at, IsLived}
-use Rattle.hybrid_store.specs.Kept.{no_kept}
+use Rattle.bit_rows.specs.Kept.{no_kept}
 use Rattle.hybrid_store.specs.Stored.{AllNextIn, AllDifferences, AreSmall}
 use Rattle.hybrid_store.proofs.store.HybridStore.table_after.Given as goal
 

@@ -2,9 +2,9 @@ use Rattle.std.proofs.Common.{◌≡◌, ◌∙◌, ◌<◌, ℕ, List, [], leng
 use Rattle.std.proofs.lemmas.List.{get_or_default}
 use Rattle.commit_history.specs.Runs.{Next, next_of}
 use Rattle.bit_rows.specs.Rows.{KeptRow, kept_row_at, next_at, pushed_row}
-use Rattle.hybrid_store.specs.Kept.{nexts_at}
+use Rattle.bit_rows.specs.Kept.{nexts_at}
 use Rattle.bit_rows.proofs.PushLemmas.{push_below, push_there, push_next, push_within, push_count, push_left, push_same, push_done}
-use Rattle.hybrid_store.proofs.lane.push_all.Goals as goal
+use Rattle.bit_rows.proofs.lane.push_all.Goals as goal
 
 pub push-requires-clause-count : goal.push-requires-clause-count
 push-requires-clause-count c =

@@ -1,7 +1,7 @@
 use Rattle.std.proofs.Common.{◌≡◌, ◌≤◌, ◌<◌, ℕ, [], length, get_or, vec_len}
 use Rattle.bit_rows.specs.Rows.{kept_row_at, next_at, pushed_row}
-use Rattle.hybrid_store.specs.Kept.{nexts_at}
-use Rattle.hybrid_store.proofs.lane.push_all.Given as goal
+use Rattle.bit_rows.specs.Kept.{nexts_at}
+use Rattle.bit_rows.proofs.lane.push_all.Given as goal
 
 abbrev pub invariant-loop-nexts : goal.invariant-loop-nexts
 invariant-loop-nexts l = record {

@@ -4,9 +4,10 @@ ghost use Rattle.std.specs.Arc.{arc_value};
 ghost use Rattle.std.proofs.Common.{get_or};
 ghost use Rattle.commit_history.specs.Runs.{next_of};
 ghost use Rattle.bit_rows.specs.Rows.{kept_row_at, next_at, pushed_row};
-ghost use Rattle.hybrid_store.specs.Kept.{kept_rows, nexts_at};
+ghost use Rattle.bit_rows.specs.Kept.{kept_rows, nexts_at, more_at};
 
-use bit_rows::{BitRows, NextDeltas};
+use crate::more::MoreRows;
+use crate::rows::{BitRows, NextDeltas};
 use db_value::{Name, VersionPlace};
 use hybrid_view::{HybridView, LiveTable};
 use std::alloc::{AllocError, Global};
@@ -27,7 +28,7 @@ pub struct HybridLane {
 impl Model for HybridLane {
     ghost use Rattle.std.specs.Prelude.{vec_capacity};
     ghost use Rattle.std.specs.Arc.{arc_value};
-    ghost use Rattle.hybrid_store.specs.Kept.{KeptLane, lane_code};
+    ghost use Rattle.bit_rows.specs.Kept.{KeptLane, lane_code};
 
     ghost Value = { KeptLane };
 
@@ -50,6 +51,19 @@ fn push_all(rows: &mut Vec<BitRows>, mut deltas: Vec<NextDeltas>)
     while let Some(nexts) = deltas.pop() {
         let relation = deltas.len();
         rows[relation].push(nexts);
+    }
+}
+
+// Adds to the rows of each relation one more.
+fn add_rows(rows: &mut Vec<BitRows>, mut more: Vec<MoreRows>)
+    requires count { length more.items ≡ length rows.old.items }
+    requires room { (r : ℕ) → r < length rows.old.items → length (get_or rows.old.items r []) < (more_at more.items r).room }
+    ensures count { length rows.new.items ≡ length rows.old.items }
+    ensures each { (r : ℕ) → r < length rows.old.items → get_or rows.new.items r [] ≡ get_or rows.old.items r [] ++ (more_at more.items r).row ∷ [] }
+{
+    while let Some(next) = more.pop() {
+        let relation = more.len();
+        rows[relation].add(next);
     }
 }
 
@@ -153,6 +167,19 @@ impl HybridLane {
     {
         push_all(&mut self.rows, deltas);
         self.seconds.push_reserved(second);
+        self.head = head;
+    }
+
+    /// Gives it another head: a row more in each relation, and what its last version has with it. It takes no
+    /// memory.
+    pub fn turn(&mut self, more: Vec<MoreRows>, head: HybridView)
+        requires count { length more.items ≡ length self.old.rows }
+        requires room { (r : ℕ) → r < length self.old.rows → length (kept_rows self.old r) < (more_at more.items r).room }
+        ensures lane { self.new ≡ record self.old { rows = self.new.rows; head = arc_value head.table } }
+        ensures count { length self.new.rows ≡ length self.old.rows }
+        ensures each { (r : ℕ) → r < length self.old.rows → kept_rows self.new r ≡ kept_rows self.old r ++ (more_at more.items r).row ∷ [] }
+    {
+        add_rows(&mut self.rows, more);
         self.head = head;
     }
 

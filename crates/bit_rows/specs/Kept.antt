@@ -6,7 +6,7 @@ use Rattle.db_value.specs.declared.version.VersionPlace.{VersionPlace}
 use Rattle.commit_history.specs.Runs.{Next}
 use Rattle.db_store.specs.Dataset.{root}
 use Rattle.hybrid_view.specs.Live.{Lived, lived_code}
-use Rattle.bit_rows.specs.Rows.{KeptRow, row_code}
+use Rattle.bit_rows.specs.Rows.{KeptRow, row_code, MoreRow, no_more}
 
 -- a branch: the second parents of its versions, its rows by relation, what its last version has, and for how many versions there is room
 pub record KeptLane : Type 0 where
@@ -47,3 +47,7 @@ nexts_at nexts r = get_or nexts r []
 -- the row of master's first head, at first
 abbrev pub first_row : KeptRow
 first_row = record { segment = 0; from = 0; deltas = [] ∷ [] }
+
+-- one more row, by its relation
+abbrev pub more_at : List MoreRow → ℕ → MoreRow
+more_at more r = get_or more r no_more

@@ -1,0 +1,20 @@
+//! The rows that a new branch begins.
+ghost use Rattle.std.specs.Prelude.{◌≡◌, map, IfOk};
+ghost use Rattle.bit_rows.specs.Rows.{begun_row};
+
+use crate::rows::{BitRow, BitRows};
+use hybrid_view::LiveRelation;
+use std::alloc::{AllocError, Global};
+
+/// The rows that a new branch begins of the parts that it has, one for each.
+pub fn rows_begun(alloc: Global, live: &LiveRelation) -> Result<BitRows, AllocError>
+    ensures { IfOk result (λ rows. rows ≡ map begun_row live.now.pieces) }
+{
+    let mut rows = Vec::new(alloc);
+    for index in 0..live.parts() {
+        let part = live.part(index);
+        let row = BitRow::begin(alloc, part.segment(), 0, part.bits())?;
+        rows.push(row)?;
+    }
+    Ok(BitRows::of(rows))
+}

@@ -1,0 +1,208 @@
+-- What is made ready for a new branch is ready for it.
+use Rattle.std.proofs.Common.{◌≡◌, ◌≢◌, ℕ, suc, ◌+◌, ◌-◌, ◌*◌, ◌^◌, ◌<◌, ◌≤◌, ◌==◌, cond, Bool, true, false, List, [], ◌∷◌, ◌++◌, length, map, set, get_or, Option, Some, None, refl, arith, ap, sym, ◌∙◌, subst}
+use Rattle.std.proofs.lemmas.List.{length-map, length-set, length_push, get_or_push}
+use Rattle.std.proofs.lemmas.Bool.{eqb-true}
+use Rattle.db_value.specs.Relations.{columns_at}
+use Rattle.db_value.specs.declared.schema.Relation.{Relation}
+use Rattle.db_value.specs.declared.version.VersionPlace.{VersionPlace}
+use Rattle.db_value.specs.declared.entry.Entry.TheVariants.{Branch as NewBranch}
+use Rattle.record_page.specs.Page.{Rows}
+use Rattle.db_store.specs.Dataset.{branch_at}
+use Rattle.db_store.specs.Fits.{fits}
+use Rattle.db_store.specs.Layout.{Segment, Row, Lane, Layout, no_lane, lane_at, segments_at, rows_at}
+use Rattle.db_store.specs.LayoutGrowth.{is_head_of, segments_with, new_head, rows_begun, is_last, last_in, made_at, with_branch, lane_with, lane_begun}
+use Rattle.db_store.specs.LaidOut.{IsLaid, AreRowsOf, head_at, row_at}
+use Rattle.db_store.proofs.LayoutLaw.{made_there}
+use Rattle.db_store.proofs.LaidLemmas.{laid_stays}
+use Rattle.db_store.proofs.SegmentLemmas.{at_relation}
+use Rattle.db_store.proofs.SoundLemmas.{branch_parts}
+use Rattle.hybrid_view.specs.Live.{Lived, lived_at, piece_at, begun_pieces, IsLived}
+use Rattle.bit_rows.specs.Rows.{KeptRow, laid_row, begun_row, MoreRow}
+use Rattle.bit_rows.specs.Kept.{KeptLane, no_kept, kept_rows}
+use Rattle.hybrid_store.specs.Lanes.{KeptList, segment_of, list_at, lane_of, kept_layout}
+use Rattle.hybrid_store.specs.New.{own_at}
+use Rattle.hybrid_store.specs.Begun.{head_piece, empty_head, lived_begun, lived_turned, turned_row, begun_in, turned_in, AreBegun, AreTurned}
+use Rattle.hybrid_store.specs.Ready.{no_own}
+use Rattle.hybrid_store.specs.ReadyBranch.{short_row, IsBegunAt, IsTurnedAt}
+use Rattle.hybrid_store.specs.Stored.{kept_dataset, Show, AreSmall, IsSeenAt, IsSeen, IsKeptAt, IsStored}
+use Rattle.hybrid_store.proofs.LayoutLemmas.{lane_kept, segments_kept, rows_kept}
+use Rattle.hybrid_store.proofs.BegunKept.{begun_rows, begun_is_lived, begun_kept, turned_lived, turned_kept}
+use Rattle.hybrid_store.proofs.BranchStored.{with_count, rows_of_lane}
+use Rattle.hybrid_store.proofs.StoredLemmas.{kept_count, kept_base}
+use Rattle.hybrid_store.proofs.TurnedLemmas.{short_rows}
+
+-- how many heads come before that of a new branch
+abbrev pub more_of : Bool → ℕ
+more_of q = cond q 1 0
+
+head_number : (q : Bool) (ss : List Segment) (n : ℕ) → n ≡ length ss → n + cond q 1 0 ≡ new_head q ss
+head_number true ss n e = omega (arith, e)
+head_number false ss n e = omega (arith, e)
+
+module _ (schema : List Relation) (lanes : List KeptLane) (order : List VersionPlace) (segments : List KeptList) (is : IsStored schema lanes segments) (whole : IsLaid (kept_layout schema lanes order segments)) (few : length lanes < 1024)
+    (name : List ℕ) (origin : VersionPlace) (q : Bool) (there : origin.branch < length lanes) (made : origin.position < length (get_or lanes origin.branch no_kept).seconds)
+    (after : IsLaid (with_branch (kept_layout schema lanes order segments) q name origin)) (owns : List Rows)
+    (empty : (r : ℕ) → r < length schema → own_at owns r ≡ record { fields = length (columns_at schema r); records = [] }) where
+  abbrev k : KeptLane
+  k = get_or lanes origin.branch no_kept
+
+  abbrev l : Layout
+  l = kept_layout schema lanes order segments
+
+  abbrev ss : ℕ → List Segment
+  ss r = map segment_of (list_at segments r)
+
+  apart : origin.branch ≢ length lanes
+  apart e = absurd (omega (arith, e, there))
+
+  before : (r : ℕ) → r < length schema → AreRowsOf (map segment_of (list_at segments r)) origin.branch (length (get_or lanes origin.branch no_kept).seconds) (map laid_row (kept_rows (get_or lanes origin.branch no_kept) r))
+  before r g = rows_of_lane schema lanes order segments whole origin.branch there r g
+
+  free : (r : ℕ) → r < length schema → (s : ℕ) → s < length (map segment_of (list_at segments r)) → is_head_of (length lanes) (head_at (map segment_of (list_at segments r)) s) ≡ false
+  free r g s h =
+      let e = segments_kept schema lanes order segments r g in
+      let n = length-map lanes (lane_of schema) in
+      subst (λ (xs : List Segment). s < length xs → is_head_of (length lanes) (head_at xs s) ≡ false) e (λ lt. whole.heads r s (length lanes) g lt (omega (arith, n))) h
+
+  few_segments : (r : ℕ) → r < length schema → length (segments_with q origin.branch (length lanes) (map segment_of (list_at segments r))) < 2 ^ 32 - 1
+  few_segments r g =
+      let w = with_count q origin.branch (length lanes) (ss r) in
+      let m = length-map (list_at segments r) segment_of in
+      let f = is.few r g in
+      omega (arith, w, m, f, few)
+
+  here : lane_at (kept_layout schema lanes order segments) origin.branch ≡ lane_of schema (get_or lanes origin.branch no_kept)
+  here = lane_kept schema lanes order segments origin.branch there
+
+  rows_here : (r : ℕ) → r < length schema → rows_at (lane_at (kept_layout schema lanes order segments) origin.branch) r ≡ map laid_row (kept_rows (get_or lanes origin.branch no_kept) r)
+  rows_here r g = ap (λ (x : Lane). rows_at x r) here ∙ rows_kept schema k r g
+
+  segments_here : (r : ℕ) → r < length schema → segments_at (kept_layout schema lanes order segments).segments r ≡ map segment_of (list_at segments r)
+  segments_here r g = segments_kept schema lanes order segments r g
+
+  count : length (kept_layout schema lanes order segments).lanes ≡ length lanes
+  count = length-map lanes (lane_of schema)
+
+  behind : (r : ℕ) → r < length schema
+      → AreRowsOf (segments_with q origin.branch (length lanes) (map segment_of (list_at segments r))) (length lanes) 1 (rows_begun q origin.position (map segment_of (list_at segments r)) (map laid_row (kept_rows (get_or lanes origin.branch no_kept) r)))
+  behind r g =
+      let w : Layout = with_branch l q name origin in
+      let olds : List Lane = set l.lanes origin.branch (lane_with l q (lane_at l origin.branch) origin.position) in
+      let new : Lane = lane_begun l q name origin in
+      let ls = length-set l.lanes origin.branch (lane_with l q (lane_at l origin.branch) origin.position) in
+      let m : length olds ≡ length lanes = ls ∙ count in
+      let lp = length_push olds new in
+      let at : lane_at w (length lanes) ≡ new = get_or_push olds new no_lane (length lanes) m in
+      let base = (after.lanes (length lanes) (omega (arith, lp, m))).rows r g in
+      let one = subst (λ (x : Lane). AreRowsOf (segments_at w.segments r) (length lanes) (length x.seconds) (rows_at x r)) at base in
+      let rows : rows_at new r ≡ rows_begun q origin.position (map segment_of (list_at segments r)) (map laid_row (kept_rows k r)) =
+      at_relation schema (λ x. rows_begun q origin.position (segments_at l.segments x) (rows_at (lane_at l origin.branch) x)) r [] g ∙ (λ j. rows_begun q origin.position (segments_here r g j) (rows_here r g j)) in
+      let wide : segments_at w.segments r ≡ segments_with q origin.branch (length lanes) (map segment_of (list_at segments r)) =
+      at_relation schema (λ x. segments_with q origin.branch (length l.lanes) (segments_at l.segments x)) r [] g ∙ (λ j. segments_with q origin.branch (count j) (segments_here r g j)) in
+      subst (λ (xs : List Segment). AreRowsOf xs (length lanes) 1 (rows_begun q origin.position (map segment_of (list_at segments r)) (map laid_row (kept_rows k r)))) wide
+      (subst (λ (xs : List Row). AreRowsOf (segments_at w.segments r) (length lanes) 1 xs) rows one)
+
+  module _ (view : List Lived) (seen : IsSeen schema segments (get_or lanes origin.branch no_kept) origin.position view) where
+    begun_is : (r : ℕ) → r < length schema → begun_in segments (cond q 1 0) owns view r ≡ lived_begun (lived_at view r) (empty_head (new_head q (map segment_of (list_at segments r))) (length (columns_at schema r)))
+    begun_is r g = λ i. lived_begun (lived_at view r) (head_piece (head_number q (ss r) (length (list_at segments r)) (sym (length-map (list_at segments r) segment_of)) i) (empty r g i))
+
+    -- what is asked of what a new branch has
+    pub begun_ready : (r : ℕ) → r < length schema → IsLived (begun_in segments (cond q 1 0) owns view r)
+    begun_ready r g =
+        let s = seen.at r g in
+        subst IsLived (sym (begun_is r g))
+        (begun_is_lived q origin.branch (length lanes) origin.position (length k.seconds) (length (columns_at schema r)) (ss r) apart (free r g) (few_segments r g) (map laid_row (kept_rows k r)) (lived_at view r) made (before r g) (behind r g) s.lived s.shown s.small s.fields)
+
+    -- it is ready for the new branch
+    pub begun_at : (r : ℕ) → r < length schema → (news : List KeptRow) (lv : Lived) → lv ≡ begun_in segments (cond q 1 0) owns view r → news ≡ map begun_row (begun_in segments (cond q 1 0) owns view r).pieces
+        → IsBegunAt (segments_at (kept_layout schema lanes order segments).segments r) q (length (columns_at schema r)) origin.branch (length (kept_layout schema lanes order segments).lanes) origin.position (rows_at (lane_at (kept_layout schema lanes order segments) origin.branch) r) news lv (get_or owns r no_own)
+    begun_at r g news lv e f =
+        let s = seen.at r g in
+        let columns : ℕ = length (columns_at schema r) in
+        let b : ℕ = origin.branch in
+        let n : ℕ = origin.position in
+        let head = empty_head (new_head q (ss r)) columns in
+        let lived : lv ≡ lived_begun (lived_at view r) head = e ∙ begun_is r g in
+        let rows : news ≡ map begun_row (begun_pieces (lived_at view r).pieces head) = f ∙ ap (λ (x : Lived). map begun_row x.pieces) (begun_is r g) in
+        let at : IsBegunAt (ss r) q columns b (length lanes) n (map laid_row (kept_rows k r)) news lv (get_or owns r no_own) = record {
+          begun = ap (map laid_row) rows ∙ begun_rows q b (length lanes) n (length k.seconds) columns (ss r) apart (free r g) (few_segments r g) (map laid_row (kept_rows k r)) (lived_at view r) made (before r g) (behind r g) s.lived s.shown s.small s.fields;
+          kept = subst (λ (x : Lived). IsKeptAt (segments_with q b (length lanes) (ss r)) columns (length lanes) 0 news x) (sym lived)
+              (subst (λ (xs : List KeptRow). IsKeptAt (segments_with q b (length lanes) (ss r)) columns (length lanes) 0 xs (lived_begun (lived_at view r) head)) (sym rows)
+              (begun_kept q b (length lanes) n (length k.seconds) columns (ss r) apart (free r g) (few_segments r g) (map laid_row (kept_rows k r)) (lived_at view r) made (before r g) (behind r g) s.lived s.shown s.small s.fields));
+          empty = empty r g;
+        } in
+        subst (λ c. IsBegunAt (segments_at l.segments r) q columns b c n (rows_at (lane_at l b) r) news lv (get_or owns r no_own)) (sym count)
+        (subst (λ (xs : List Segment). IsBegunAt xs q columns b (length lanes) n (rows_at (lane_at l b) r) news lv (get_or owns r no_own)) (sym (segments_here r g))
+        (subst (λ (xs : List Row). IsBegunAt (ss r) q columns b (length lanes) n xs news lv (get_or owns r no_own)) (sym (rows_here r g)) at))
+
+  -- ---- another head of the origin
+
+  module _ (last : origin.position ≡ length (get_or lanes origin.branch no_kept).seconds - 1) where
+    kept_at_last : (r : ℕ) → r < length schema → IsKeptAt (map segment_of (list_at segments r)) (length (columns_at schema r)) origin.branch origin.position (kept_rows (get_or lanes origin.branch no_kept) r) (lived_at (get_or lanes origin.branch no_kept).head r)
+    kept_at_last r g = subst (λ n. IsKeptAt (ss r) (length (columns_at schema r)) origin.branch n (kept_rows k r) (lived_at k.head r)) (sym last) ((is.each origin.branch there).at r g)
+
+    few_now : (r : ℕ) → r < length schema → length (map segment_of (list_at segments r)) + 1 < 2 ^ 32 - 1
+    few_now r g = let m = length-map (list_at segments r) segment_of in let f = is.few r g in omega (arith, m, f, few)
+
+    turned_is : (r : ℕ) → r < length schema → turned_in segments owns (get_or lanes origin.branch no_kept).head r ≡ lived_turned (lived_at (get_or lanes origin.branch no_kept).head r) (empty_head (length (map segment_of (list_at segments r))) (length (columns_at schema r)))
+    turned_is r g = λ i. lived_turned (lived_at k.head r) (head_piece (sym (length-map (list_at segments r) segment_of) i) (empty r g i))
+
+    pub turned_ready : (r : ℕ) → r < length schema → IsLived (turned_in segments owns (get_or lanes origin.branch no_kept).head r)
+    turned_ready r g =
+        let b = before r g in
+        subst IsLived (sym (turned_is r g)) (turned_lived origin.branch (length lanes) origin.position (length (columns_at schema r)) (ss r) apart (kept_rows k r) (lived_at k.head r) (few_now r g) b.ascend (λ i h. (b.are i h).there) (kept_at_last r g))
+
+    pub turned_at : (r : ℕ) → r < length schema → (more : MoreRow) (lv : Lived) → lv ≡ turned_in segments owns (get_or lanes origin.branch no_kept).head r → more.row ≡ turned_row (length (list_at segments r)) origin.position → length (kept_rows (get_or lanes origin.branch no_kept) r) < more.room
+        → IsTurnedAt (segments_at (kept_layout schema lanes order segments).segments r) (length (columns_at schema r)) origin.branch (length (kept_layout schema lanes order segments).lanes) origin.position (rows_at (lane_at (kept_layout schema lanes order segments) origin.branch) r) more lv (get_or owns r no_own)
+    turned_at r g more lv e row room =
+        let b : ℕ = origin.branch in
+        let n : ℕ = origin.position in
+        let columns : ℕ = length (columns_at schema r) in
+        let old = before r g in
+        let m = length-map (list_at segments r) segment_of in
+        let lm = length-map (kept_rows k r) laid_row in
+        let lived : lv ≡ lived_turned (lived_at k.head r) (empty_head (length (ss r)) columns) = e ∙ turned_is r g in
+        let at : IsTurnedAt (ss r) columns b (length lanes) n (map laid_row (kept_rows k r)) more lv (get_or owns r no_own) = record {
+          room = omega (arith, room, lm);
+          row = row ∙ ap (λ s. turned_row s n) (sym m);
+          kept = subst (λ (x : Lived). IsKeptAt (segments_with true b (length lanes) (ss r)) columns b n (map short_row (map laid_row (kept_rows k r)) ++ turned_row (length (ss r)) n ∷ []) x) (sym lived)
+              (subst (λ (xs : List KeptRow). IsKeptAt (segments_with true b (length lanes) (ss r)) columns b n (xs ++ turned_row (length (ss r)) n ∷ []) (lived_turned (lived_at k.head r) (empty_head (length (ss r)) columns))) (sym (short_rows (kept_rows k r) (kept_at_last r g).short))
+              (turned_kept b (length lanes) n columns (ss r) apart (kept_rows k r) (lived_at k.head r) (few_now r g) old.ascend (λ i h. (old.are i h).there) (kept_at_last r g)));
+          empty = empty r g;
+        } in
+        subst (λ c. IsTurnedAt (segments_at l.segments r) columns b c n (rows_at (lane_at l b) r) more lv (get_or owns r no_own)) (sym count)
+        (subst (λ (xs : List Segment). IsTurnedAt xs columns b (length lanes) n (rows_at (lane_at l b) r) more lv (get_or owns r no_own)) (sym (segments_here r g))
+        (subst (λ (xs : List Row). IsTurnedAt (ss r) columns b (length lanes) n xs more lv (get_or owns r no_own)) (sym (rows_here r g)) at))
+
+-- ---- a new branch that fits
+
+module _ (schema : List Relation) (lanes : List KeptLane) (order : List VersionPlace) (segments : List KeptList) (whole : IsLaid (kept_layout schema lanes order segments)) (name : List ℕ) (origin : VersionPlace)
+    (fit : fits (kept_dataset schema lanes order segments) (NewBranch name origin) ≡ true) where
+  fit_place : (origin.branch < length (kept_layout schema lanes order segments).lanes) × (origin.position < length (lane_at (kept_layout schema lanes order segments) origin.branch).seconds)
+  fit_place = made_there (kept_layout schema lanes order segments) origin (branch_parts (kept_dataset schema lanes order segments) name origin fit).made
+
+  pub fit_few : length lanes < 1024
+  fit_few = let f = (branch_parts (kept_dataset schema lanes order segments) name origin fit).room in let n = kept_count schema lanes order segments in omega (arith, f, n)
+
+  pub fit_there : origin.branch < length lanes
+  fit_there = let p = fit_place.0 in let n = length-map lanes (lane_of schema) in omega (arith, p, n)
+
+  pub fit_made : origin.position < length (get_or lanes origin.branch no_kept).seconds
+  fit_made = let p = fit_place.1 in let e = ap (λ (x : Lane). length x.seconds) (lane_kept schema lanes order segments origin.branch fit_there) in omega (arith, p, e)
+
+  pub fit_after : IsLaid (with_branch (kept_layout schema lanes order segments) (is_last (kept_layout schema lanes order segments) origin) name origin)
+  fit_after = laid_stays (kept_layout schema lanes order segments) (NewBranch name origin) whole fit
+
+  pub fit_last : is_last (kept_layout schema lanes order segments) origin ≡ true → origin.position ≡ length (get_or lanes origin.branch no_kept).seconds - 1
+  fit_last t = eqb-true origin.position (last_in (lane_at (kept_layout schema lanes order segments) origin.branch)) t ∙ ap (λ (x : Lane). length x.seconds - 1) (lane_kept schema lanes order segments origin.branch fit_there)
+
+  pub fit_base : cond (origin.position == 0) (branch_at (kept_dataset schema lanes order segments) origin.branch).base origin ≡ made_at (kept_layout schema lanes order segments) origin
+  fit_base = ap (λ b. cond (origin.position == 0) b origin) (sym (kept_base schema lanes order segments origin.branch fit_there) ∙ sym (ap (λ (x : Lane). x.base) (lane_kept schema lanes order segments origin.branch fit_there)))
+
+-- what the last version of a branch has is seen at its last position
+pub head_seen : (schema : List Relation) (lanes : List KeptLane) (segments : List KeptList) (b n : ℕ) → IsStored schema lanes segments → b < length lanes → n ≡ length (get_or lanes b no_kept).seconds - 1 → IsSeen schema segments (get_or lanes b no_kept) n (get_or lanes b no_kept).head
+head_seen schema lanes segments b n is h e =
+    let k : KeptLane = get_or lanes b no_kept in
+    let kept = is.each b h in
+    subst (λ m. IsSeen schema segments k m k.head) (sym e)
+    (record { wide = kept.head; at = λ r g. let at = kept.at r g in record { shown = at.shown; lived = at.lived; small = at.small; fields = at.fields } })
