@@ -3,7 +3,7 @@ use Rattle.std.proofs.Common.{◌≡◌, ℕ, Bool, List, length, ◌∙◌, sym
 use Rattle.db_value.specs.declared.entry.Entry.{Entry}
 use Rattle.generations.specs.Stored.{DatasetStore, state_in}
 use Rattle.gate_journal.specs.declared.cause.Cause.{Cause}
-use Rattle.gate_journal.specs.declared.journal.Journal.{Journal}
+use Rattle.gate_journal.specs.declared.place.Journal.{Journal}
 use Rattle.generations.specs.declared.header.Header.{Header}
 use Rattle.generations.specs.declared.open.Opened.TheVariants.{Damaged, Whole}
 use Rattle.generations.specs.Files.{Outcome, damaged, opened, counts, reads, number_of, generation_of}

@@ -1,5 +1,5 @@
 use Rattle.std.proofs.Common.{◌≡◌, ℕ, Bool, cond, true, sym, ◌∙◌, ap}
-use Rattle.gate_journal.specs.declared.journal.Journal.{Journal}
+use Rattle.gate_journal.specs.declared.place.Journal.{Journal}
 use Rattle.generations.specs.Files.{counts, opened, number_of}
 use Rattle.generations.specs.Stored.{state_in}
 use Rattle.generations.proofs.Reopening.{keeps_it, one_image, all_two}
