@@ -28,7 +28,8 @@ use Rattle.store_catalogue.specs.ByName.{Numbers, AreNumbers}
 use Rattle.store_catalogue.proofs.BranchLemmas.{numbers_more}
 use Rattle.bit_rows.specs.Rows.{laid_row}
 use Rattle.bit_rows.specs.Kept.{KeptLane, no_kept, kept_rows}
-use Rattle.hybrid_store.specs.Lanes.{KeptRecords, KeptList, no_list, most_segments, segment_of, list_at, kept_at, lane_of, kept_layout, with_head}
+use Rattle.hybrid_store.specs.Lanes.{segment_of, lane_of, kept_layout}
+use Rattle.bit_rows.specs.Segments.{KeptRecords, KeptList, no_list, most_segments, list_at, kept_at, with_head}
 use Rattle.hybrid_store.specs.Ready.{no_own}
 use Rattle.hybrid_store.specs.ReadyBranch.{Turn, IsBegunAt, IsBegunOf, IsTurnedIf, CanTake, TurnsIf, IsReadyBranch}
 use Rattle.std.proofs.lemmas.List.Elements.{All-same, All-set, All-weaker}

@@ -24,7 +24,8 @@ use Rattle.store_catalogue.specs.ByName.{Numbers, AreNumbers}
 use Rattle.store_catalogue.proofs.BranchLemmas.{numbers_commit}
 use Rattle.bit_rows.specs.Rows.{kept_row_at, next_at, pushed_row}
 use Rattle.bit_rows.specs.Kept.{KeptLane, no_kept, kept_rows, nexts_at}
-use Rattle.hybrid_store.specs.Lanes.{KeptList, no_list, list_at, kept_at, kept_layout}
+use Rattle.hybrid_store.specs.Lanes.{kept_layout}
+use Rattle.bit_rows.specs.Segments.{KeptList, no_list, list_at, kept_at}
 use Rattle.hybrid_store.specs.Ready.{IsReady, no_own}
 use Rattle.hybrid_store.specs.Stored.{head_of_lane, kept_dataset, HasRoom, IsStored}
 use Rattle.hybrid_store.proofs.CommitLemmas.{branch_there}

@@ -5,7 +5,7 @@ use Rattle.record_page.specs.Page.{Rows}
 use Rattle.hybrid_view.specs.Live.{Lived, no_lived, lived_at, IsLived, AllLived}
 use Rattle.bit_rows.specs.Rows.{KeptRow, begun_row, MoreRow, no_more}
 use Rattle.bit_rows.specs.Kept.{KeptLane, kept_rows}
-use Rattle.hybrid_store.specs.Lanes.{KeptList, list_at}
+use Rattle.bit_rows.specs.Segments.{KeptList, list_at}
 use Rattle.hybrid_store.specs.Begun.{turned_row, begun_in, turned_in, AreBegun, AreTurned}
 use Rattle.hybrid_store.proofs.NewLemmas.{each_more}
 

@@ -8,7 +8,8 @@ use Rattle.db_store.specs.LayoutGrowth.{rows_with, rows_begun, segments_with, ma
 use Rattle.db_store.proofs.LayoutLaw.{same_relations}
 use Rattle.bit_rows.specs.Rows.{laid_row}
 use Rattle.bit_rows.specs.Kept.{KeptLane, no_kept, kept_rows}
-use Rattle.hybrid_store.specs.Lanes.{KeptList, segment_of, list_at, lane_of, kept_layout}
+use Rattle.hybrid_store.specs.Lanes.{segment_of, lane_of, kept_layout}
+use Rattle.bit_rows.specs.Segments.{KeptList, list_at}
 use Rattle.hybrid_store.proofs.LayoutLemmas.{lane_kept, segments_kept, rows_kept}
 
 module _ (schema : List Relation) (lanes : List KeptLane) (order : List VersionPlace) (segments news : List KeptList) (q : Bool) (name : List ℕ) (origin : VersionPlace) (old new : KeptLane)

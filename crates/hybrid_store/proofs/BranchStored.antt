@@ -11,7 +11,8 @@ use Rattle.db_store.specs.LaidOut.{IsLaid, AreRowsOf, row_at}
 use Rattle.hybrid_view.specs.Live.{lived_at}
 use Rattle.bit_rows.specs.Rows.{laid_row}
 use Rattle.bit_rows.specs.Kept.{KeptLane, no_kept, kept_rows}
-use Rattle.hybrid_store.specs.Lanes.{KeptList, no_list, most_segments, segment_of, list_at, kept_at, lane_of, kept_layout}
+use Rattle.hybrid_store.specs.Lanes.{segment_of, lane_of, kept_layout}
+use Rattle.bit_rows.specs.Segments.{KeptList, no_list, most_segments, list_at, kept_at}
 use Rattle.hybrid_store.specs.Stored.{IsKeptAt, IsKept, IsStored}
 use Rattle.hybrid_store.proofs.LayoutLemmas.{lane_kept, segments_kept, rows_kept}
 use Rattle.hybrid_store.proofs.BegunKept.{kept_with}

@@ -13,7 +13,8 @@ use Rattle.hybrid_view.specs.Deltas.{slots_of}
 use Rattle.hybrid_view.specs.Live.{Lived}
 use Rattle.bit_rows.specs.Rows.{KeptRow, no_kept_row, kept_row_at, laid_row, pushed_row}
 use Rattle.bit_rows.specs.Kept.{KeptLane, no_kept, kept_rows}
-use Rattle.hybrid_store.specs.Lanes.{KeptList, segment_of, list_at, lane_of, kept_layout}
+use Rattle.hybrid_store.specs.Lanes.{segment_of, lane_of, kept_layout}
+use Rattle.bit_rows.specs.Segments.{KeptList, list_at}
 use Rattle.hybrid_store.proofs.LayoutLemmas.{lane_kept, segments_kept, rows_kept}
 
 -- rows with one delta more each

@@ -40,7 +40,8 @@ use Rattle.commit_history.specs.Runs.{Next, next_of}
 use Rattle.bit_rows.specs.Short.{shortest}
 use Rattle.bit_rows.specs.Rows.{KeptRow, no_kept_row, kept_row_at, laid_row, next_at}
 use Rattle.bit_rows.specs.Kept.{KeptLane, no_kept, kept_rows, nexts_at}
-use Rattle.hybrid_store.specs.Lanes.{KeptList, no_rows, kept_at, segment_of, list_at, lane_of, kept_layout}
+use Rattle.hybrid_store.specs.Lanes.{segment_of, lane_of, kept_layout}
+use Rattle.bit_rows.specs.Segments.{KeptList, no_rows, kept_at, list_at}
 use Rattle.bit_rows.specs.Differences.{difference_of, AreDifferences}
 use Rattle.hybrid_store.specs.Stored.{kept_dataset, head_of_lane, AllDifferences, AllNextIn, AreSmall, IsKeptAt, IsStored}
 use Rattle.record_page.specs.Page.{Rows}

@@ -15,7 +15,8 @@ use Rattle.db_store.proofs.SegmentLemmas.{at_relation}
 use Rattle.hybrid_view.specs.Live.{Lived, lived_at}
 use Rattle.bit_rows.specs.Rows.{KeptRow, no_kept_row, kept_row_at, laid_row, next_at, pushed_row}
 use Rattle.bit_rows.specs.Kept.{KeptLane, no_kept, kept_rows, nexts_at}
-use Rattle.hybrid_store.specs.Lanes.{KeptRecords, KeptList, no_rows, no_list, most_segments, segment_of, list_at, kept_at, lane_of, kept_layout}
+use Rattle.hybrid_store.specs.Lanes.{segment_of, lane_of, kept_layout}
+use Rattle.bit_rows.specs.Segments.{KeptRecords, KeptList, no_rows, no_list, most_segments, list_at, kept_at}
 use Rattle.hybrid_store.specs.Ready.{IsMadeAt, IsMadeOf, no_own}
 use Rattle.hybrid_store.specs.Stored.{head_of_lane, IsKeptAt, IsKept, IsStored}
 use Rattle.hybrid_store.proofs.LayoutLemmas.{lane_kept, segments_kept, rows_kept}

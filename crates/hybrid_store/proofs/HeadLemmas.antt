@@ -20,7 +20,8 @@ use Rattle.hybrid_view.proofs.PlaceLemmas.{shown_rows, shown_shorter}
 use Rattle.hybrid_view.proofs.NextLemmas.{show_all}
 use Rattle.bit_rows.specs.Rows.{laid_row}
 use Rattle.bit_rows.specs.Kept.{KeptLane, no_kept, kept_rows}
-use Rattle.hybrid_store.specs.Lanes.{KeptList, segment_of, list_at, lane_of, kept_layout}
+use Rattle.hybrid_store.specs.Lanes.{segment_of, lane_of, kept_layout}
+use Rattle.bit_rows.specs.Segments.{KeptList, list_at}
 use Rattle.hybrid_store.specs.Stored.{kept_dataset, IsKept, IsStored}
 use Rattle.hybrid_store.proofs.LayoutLemmas.{lane_kept, segments_kept, rows_kept}
 use Rattle.hybrid_store.proofs.StoredLemmas.{kept_branch, versions_count}

@@ -16,7 +16,8 @@ use Rattle.hybrid_view.specs.RowPlaces.{Shows}
 use Rattle.hybrid_view.proofs.PlaceLemmas.{shown_shorter}
 use Rattle.bit_rows.specs.Short.{shortest}
 use Rattle.bit_rows.specs.Rows.{KeptRow, no_kept_row, kept_row_at, laid_row, next_at, pushed_row}
-use Rattle.hybrid_store.specs.Lanes.{KeptRecords, no_rows, kept_at, segment_of}
+use Rattle.hybrid_store.specs.Lanes.{segment_of}
+use Rattle.bit_rows.specs.Segments.{KeptRecords, no_rows, kept_at}
 use Rattle.hybrid_store.specs.Ready.{changed_slots, IsMadeAt}
 use Rattle.hybrid_store.specs.Stored.{head_in, IsKeptAt}
 use Rattle.hybrid_store.proofs.ReadyLemmas.{one_only}

@@ -7,7 +7,8 @@ use Rattle.db_store.specs.Layout.{no_lane, lane_at, segments_at, rows_at}
 use Rattle.db_store.proofs.SegmentLemmas.{at_relation}
 use Rattle.bit_rows.specs.Rows.{laid_row}
 use Rattle.bit_rows.specs.Kept.{KeptLane, no_kept, kept_rows}
-use Rattle.hybrid_store.specs.Lanes.{KeptList, no_list, segment_of, lane_of, kept_layout}
+use Rattle.hybrid_store.specs.Lanes.{segment_of, lane_of, kept_layout}
+use Rattle.bit_rows.specs.Segments.{KeptList, no_list}
 
 -- a branch of the layout is what is kept of it
 pub lane_kept : (schema : List Relation) (lanes : List KeptLane) (order : List VersionPlace) (segments : List KeptList) (b : ℕ) → b < length lanes → lane_at (kept_layout schema lanes order segments) b ≡ lane_of schema (get_or lanes b no_kept)

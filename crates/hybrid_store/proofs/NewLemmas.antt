@@ -20,7 +20,8 @@ use Rattle.bit_rows.specs.Rows.{KeptRow, kept_row_at, laid_row}
 use Rattle.bit_rows.specs.Kept.{KeptLane, no_kept, kept_rows, first_row}
 use Rattle.hybrid_view.specs.Deltas.{slots_of}
 use Rattle.bit_rows.specs.Short.{shortest}
-use Rattle.hybrid_store.specs.Lanes.{KeptRecords, KeptList, no_list, most_segments, segment_of, list_at, kept_at, lane_of, kept_layout}
+use Rattle.hybrid_store.specs.Lanes.{segment_of, lane_of, kept_layout}
+use Rattle.bit_rows.specs.Segments.{KeptRecords, KeptList, no_list, most_segments, list_at, kept_at}
 use Rattle.hybrid_store.specs.New.{first_lived}
 use Rattle.hybrid_store.specs.Stored.{head_in, IsKeptAt, IsKept, IsStored}
 

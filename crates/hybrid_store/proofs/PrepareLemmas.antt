@@ -19,7 +19,8 @@ use Rattle.db_store.proofs.SoundLemmas.{branch_parts}
 use Rattle.hybrid_view.specs.Live.{Lived, lived_at, piece_at, begun_pieces, IsLived}
 use Rattle.bit_rows.specs.Rows.{KeptRow, laid_row, begun_row, MoreRow}
 use Rattle.bit_rows.specs.Kept.{KeptLane, no_kept, kept_rows}
-use Rattle.hybrid_store.specs.Lanes.{KeptList, segment_of, list_at, lane_of, kept_layout}
+use Rattle.hybrid_store.specs.Lanes.{segment_of, lane_of, kept_layout}
+use Rattle.bit_rows.specs.Segments.{KeptList, list_at}
 use Rattle.hybrid_store.specs.New.{own_at}
 use Rattle.hybrid_store.specs.Begun.{head_piece, empty_head, lived_begun, lived_turned, turned_row, begun_in, turned_in, AreBegun, AreTurned}
 use Rattle.hybrid_store.specs.Ready.{no_own}

@@ -9,7 +9,8 @@ use Rattle.db_store.specs.Layout.{Lane, by_relation}
 use Rattle.db_store.proofs.LayoutLaw.{same_relations}
 use Rattle.hybrid_view.specs.Live.{lived_at}
 use Rattle.bit_rows.specs.Kept.{KeptLane, no_kept, kept_rows}
-use Rattle.hybrid_store.specs.Lanes.{KeptRecords, KeptList, no_list, most_segments, segment_of, list_at, kept_at, lane_of, kept_layout, all_of, HasMost}
+use Rattle.hybrid_store.specs.Lanes.{segment_of, lane_of, kept_layout}
+use Rattle.bit_rows.specs.Segments.{KeptRecords, KeptList, no_list, most_segments, list_at, kept_at, all_of, HasMost}
 use Rattle.hybrid_store.specs.Stored.{roomless, IsKeptAt, IsKept, IsStored}
 
 lanes_roomless : (schema : List Relation) (ks : List KeptLane) → map (lane_of schema) (map roomless ks) ≡ map (lane_of schema) ks

@@ -7,7 +7,8 @@ use Rattle.db_store.specs.Table.{Table}
 use Rattle.db_store.specs.Dataset.{Branch, no_branch, branch_at, no_version, version_at}
 use Rattle.db_store.specs.Layout.{no_lane, branch_of, versions_from, table_in}
 use Rattle.bit_rows.specs.Kept.{KeptLane, no_kept}
-use Rattle.hybrid_store.specs.Lanes.{KeptList, lane_of, kept_layout}
+use Rattle.hybrid_store.specs.Lanes.{lane_of, kept_layout}
+use Rattle.bit_rows.specs.Segments.{KeptList}
 use Rattle.hybrid_store.specs.Stored.{kept_dataset}
 
 pub versions_count : (table : ℕ → Table) (n : ℕ) (ss : List (Option VersionPlace)) → length (versions_from table n ss) ≡ length ss

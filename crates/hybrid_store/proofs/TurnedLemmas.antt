@@ -16,7 +16,8 @@ use Rattle.hybrid_view.specs.Live.{Lived, lived_at}
 use Rattle.bit_rows.specs.Short.{shortest}
 use Rattle.bit_rows.specs.Rows.{KeptRow, no_kept_row, kept_row_at, laid_row}
 use Rattle.bit_rows.specs.Kept.{KeptLane, no_kept, kept_rows, more_at}
-use Rattle.hybrid_store.specs.Lanes.{KeptRecords, KeptList, no_rows, no_list, most_segments, segment_of, list_at, kept_at, lane_of, kept_layout, with_head, turned_list}
+use Rattle.hybrid_store.specs.Lanes.{segment_of, lane_of, kept_layout}
+use Rattle.bit_rows.specs.Segments.{KeptRecords, KeptList, no_rows, no_list, most_segments, list_at, kept_at, with_head, turned_list}
 use Rattle.hybrid_store.specs.Begun.{turned_row}
 use Rattle.hybrid_store.specs.Ready.{no_own}
 use Rattle.hybrid_store.specs.ReadyBranch.{Turn, short_row, IsTurnedAt, IsTurnedOf, IsTurnedIf, CanTurn, CanTake, HasTurned, TurnsIf}

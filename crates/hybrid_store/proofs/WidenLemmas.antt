@@ -4,7 +4,8 @@ use Rattle.std.specs.List.{All, AllZip}
 use Rattle.std.proofs.lemmas.List.Elements.{AllZip-get_or, length_all_zip}
 use Rattle.db_value.specs.declared.schema.Relation.{Relation}
 use Rattle.bit_rows.specs.Kept.{KeptLane, no_kept}
-use Rattle.hybrid_store.specs.Lanes.{KeptList, lane_of}
+use Rattle.hybrid_store.specs.Lanes.{lane_of}
+use Rattle.bit_rows.specs.Segments.{KeptList}
 use Rattle.hybrid_store.specs.Stored.{HasRoom, Widens, IsKept, IsStored}
 
 pub zip_set : (old new : List KeptLane) (i : ℕ) (d x : KeptLane) → AllZip Widens old new → Widens (get_or new i d) x → AllZip Widens old (set new i x)

@@ -5,7 +5,7 @@ use Rattle.record_page.specs.Page.{Rows}
 use Rattle.hybrid_view.specs.Live.{Piece, Lived, lived_at, begun_pieces}
 use Rattle.bit_rows.specs.Rows.{KeptRow, begun_row, MoreRow, no_more}
 use Rattle.bit_rows.specs.Kept.{KeptLane, kept_rows}
-use Rattle.hybrid_store.specs.Lanes.{KeptList, list_at}
+use Rattle.bit_rows.specs.Segments.{KeptList, list_at}
 use Rattle.hybrid_store.specs.New.{own_at}
 
 -- a head with its records, of which none is live

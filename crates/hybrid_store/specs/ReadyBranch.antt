@@ -15,7 +15,7 @@ use Rattle.hybrid_view.specs.Live.{Lived, lived_at, lived_code}
 use Rattle.bit_rows.specs.Short.{shortest}
 use Rattle.bit_rows.specs.Rows.{KeptRow, laid_row, MoreRow, more_code}
 use Rattle.bit_rows.specs.Kept.{KeptLane, no_kept, kept_rows, more_at}
-use Rattle.hybrid_store.specs.Lanes.{KeptList, no_list, turned_list}
+use Rattle.bit_rows.specs.Segments.{KeptList, no_list, turned_list}
 use Rattle.hybrid_store.specs.Begun.{turned_row}
 use Rattle.hybrid_store.specs.Stored.{head_of_lane, IsKeptAt}
 use Rattle.hybrid_store.specs.Ready.{no_own}

@@ -18,7 +18,8 @@ use Rattle.bit_rows.specs.Short.{shortest}
 use Rattle.bit_rows.specs.Differences.{AreDifferences}
 use Rattle.bit_rows.specs.Rows.{KeptRow, kept_row_at, laid_row}
 use Rattle.bit_rows.specs.Kept.{KeptLane, no_kept, kept_rows, nexts_at}
-use Rattle.hybrid_store.specs.Lanes.{KeptList, no_list, segment_of, list_at, kept_at, kept_layout, most_segments}
+use Rattle.hybrid_store.specs.Lanes.{segment_of, kept_layout}
+use Rattle.bit_rows.specs.Segments.{KeptList, no_list, list_at, kept_at, most_segments}
 
 -- the dataset of branches and segments
 abbrev pub kept_dataset : List Relation → List KeptLane → List VersionPlace → List KeptList → Dataset

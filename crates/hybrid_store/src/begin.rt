@@ -6,7 +6,7 @@ ghost use Rattle.hybrid_view.specs.Live.{IsLived, lived_at};
 ghost use Rattle.bit_rows.specs.Rows.{MoreRow};
 ghost use Rattle.hybrid_store.specs.Begun.{head_piece, lived_begun, lived_turned, turned_row, begun_in, turned_in, AreBegun, AreTurned};
 ghost use Rattle.bit_rows.specs.Kept.{no_kept};
-ghost use Rattle.hybrid_store.specs.Lanes.{list_at};
+ghost use Rattle.bit_rows.specs.Segments.{list_at};
 
 use crate::store::HybridStore;
 use bit_rows::{BitRow, BitRows, MoreRows, rows_begun};

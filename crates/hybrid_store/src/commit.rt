@@ -15,14 +15,14 @@ ghost use Rattle.hybrid_view.specs.Live.{lived_at, piece_at, contents_in, IsLive
 ghost use Rattle.hybrid_view.specs.RowPlaces.{AllNext};
 ghost use Rattle.hybrid_view.specs.Struck.{touched_places};
 ghost use Rattle.bit_rows.specs.Kept.{no_kept, kept_rows};
-ghost use Rattle.hybrid_store.specs.Lanes.{list_at, segment_of};
+ghost use Rattle.hybrid_store.specs.Lanes.{segment_of};
+ghost use Rattle.bit_rows.specs.Segments.{list_at};
 ghost use Rattle.hybrid_store.specs.Ready.{AreLast};
 ghost use Rattle.bit_rows.specs.Differences.{AreDifferences};
 ghost use Rattle.hybrid_store.specs.Stored.{head_of_lane, AllDifferences, AllNextIn, AreSmall, IsNextAt};
 
-use crate::kept::KeptSegments;
 use crate::store::HybridStore;
-use bit_rows::{NextDeltas, next_deltas, rows_put, spots_of};
+use bit_rows::{KeptSegments, NextDeltas, next_deltas, rows_put, spots_of};
 use db_value::{Change, VersionPlace};
 use hybrid_view::{HybridView, LiveRelation, LiveTable};
 use segment::Segment;

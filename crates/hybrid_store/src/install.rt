@@ -7,14 +7,13 @@ ghost use Rattle.db_value.specs.declared.entry.Entry.{Entry};
 ghost use Rattle.db_store.specs.Fits.{fits, IsCommit};
 ghost use Rattle.db_store.specs.State.{grow};
 ghost use Rattle.bit_rows.specs.Kept.{kept_rows};
-ghost use Rattle.hybrid_store.specs.Lanes.{no_list, list_at, with_records};
+ghost use Rattle.bit_rows.specs.Segments.{no_list, list_at, with_records};
 ghost use Rattle.hybrid_store.specs.Ready.{no_own};
 ghost use Rattle.hybrid_store.specs.Stored.{head_of_lane, HasRoom, Widens};
 
 use crate::commit::HybridPrepared;
-use crate::kept::KeptSegments;
 use crate::store::HybridStore;
-use bit_rows::HybridLane;
+use bit_rows::{HybridLane, KeptSegments};
 use db_value::{Entry, VersionPlace};
 use segment::Segment;
 use std::alloc::AllocError;

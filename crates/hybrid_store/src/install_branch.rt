@@ -5,14 +5,13 @@ ghost use Rattle.std.proofs.Common.{get_or};
 ghost use Rattle.db_value.specs.declared.entry.Entry.{Entry};
 ghost use Rattle.db_store.specs.State.{grow};
 ghost use Rattle.bit_rows.specs.Kept.{no_kept};
-ghost use Rattle.hybrid_store.specs.Lanes.{no_list, list_at, with_head, turned_list};
+ghost use Rattle.bit_rows.specs.Segments.{no_list, list_at, with_head, turned_list};
 ghost use Rattle.hybrid_store.specs.Ready.{no_own};
 ghost use Rattle.hybrid_store.specs.ReadyBranch.{CanTurn, CanTake, TurnsIf};
 ghost use Rattle.hybrid_store.specs.Stored.{head_of_lane};
 
-use crate::kept::KeptSegments;
 use crate::store::HybridStore;
-use bit_rows::{HybridLane, MoreRows};
+use bit_rows::{HybridLane, KeptSegments, MoreRows};
 use hybrid_view::HybridView;
 use segment::Segment;
 use std::marker::Model;

@@ -9,7 +9,6 @@
 //! | `specs/Lanes.antt`, `specs/Store.antt` | what it keeps, and the layout of it |
 //! | `specs/Stored.antt` | what holds of what it keeps |
 //! | `src/store.rt`, `src/new.rt` | the store, and a new one |
-//! | `src/kept.rt` | the segments of a relation |
 //! | `specs/Ready.antt`, `src/commit.rt` | a commit that is made ready |
 //! | `src/install.rt` | the room that it needs, and adding it |
 //! | `specs/Begun.antt`, `specs/ReadyBranch.antt`, `src/install_branch.rt` | adding a new branch that is ready |
@@ -20,7 +19,6 @@ mod begin;
 mod commit;
 mod install;
 mod install_branch;
-mod kept;
 mod new;
 mod prepare_branch;
 mod same;

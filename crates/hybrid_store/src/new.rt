@@ -6,11 +6,10 @@ ghost use Rattle.db_value.specs.Relations.{columns_at, has_columns, is_counted};
 ghost use Rattle.db_store.specs.Dataset.{root};
 ghost use Rattle.hybrid_view.specs.Live.{lived_at};
 ghost use Rattle.bit_rows.specs.Kept.{first_row};
-ghost use Rattle.hybrid_store.specs.Lanes.{no_list, most_segments};
+ghost use Rattle.bit_rows.specs.Segments.{no_list, most_segments};
 ghost use Rattle.hybrid_store.specs.New.{own_at, first_lived};
 
-use crate::kept::KeptSegments;
-use bit_rows::{BitRow, BitRows, HybridLane};
+use bit_rows::{BitRow, BitRows, HybridLane, KeptSegments};
 use db_value::{Name, Relation, VersionPlace};
 use hybrid_view::{HybridView, LivePart, LiveRelation, LiveTable};
 use plain_bits::Bits;

@@ -2,12 +2,11 @@
 ghost use Rattle.std.specs.Prelude.{◌≡◌, ◌≤◌, map, vec_capacity, IfOk};
 ghost use Rattle.std.specs.List.{All};
 ghost use Rattle.db_store.specs.Fits.{most_branches};
-ghost use Rattle.hybrid_store.specs.Lanes.{all_of, HasMost};
+ghost use Rattle.bit_rows.specs.Segments.{all_of, HasMost};
 ghost use Rattle.hybrid_store.specs.Stored.{HasRoom, roomless};
 
-use crate::kept::KeptSegments;
 use crate::store::{HybridStore, MOST_BRANCHES};
-use bit_rows::HybridLane;
+use bit_rows::{HybridLane, KeptSegments};
 use std::alloc::{AllocError, Global};
 
 // The same branches, with rows of their own.

@@ -22,9 +22,8 @@ ghost use Rattle.bit_rows.specs.Kept.{no_kept};
 ghost use Rattle.hybrid_store.specs.Lanes.{kept_layout};
 ghost use Rattle.hybrid_store.specs.Stored.{kept_dataset, IsStored, HasRoom};
 
-use crate::kept::KeptSegments;
 use crate::new::{ROOT, new_heads, new_lane, new_segments};
-use bit_rows::HybridLane;
+use bit_rows::{HybridLane, KeptSegments};
 use db_store::Parents;
 use db_value::{Change, Entry, Name, Schema, VersionPlace};
 use hybrid_view::HybridView;

@@ -1,6 +1,6 @@
 use Rattle.std.proofs.Common.{◌≡◌, ◌≤◌, ◌<◌, ℕ, map, length, get_or, vec_len}
 use Rattle.std.specs.Arc.{arc_value}
-use Rattle.hybrid_store.specs.Lanes.{no_list, with_records}
+use Rattle.bit_rows.specs.Segments.{no_list, with_records}
 use Rattle.hybrid_store.specs.Ready.{no_own}
 use Rattle.hybrid_store.specs.Stored.{head_of_lane}
 use Rattle.hybrid_store.proofs.install.put_records.Given as goal

@@ -3,7 +3,7 @@ use Rattle.std.specs.Arc.{arc_value}
 use Rattle.std.proofs.lemmas.List.{get_or_default, length-map, map-append}
 use Rattle.record_page.specs.Page.{Rows}
 use Rattle.bit_rows.specs.Rows.{KeptRow}
-use Rattle.hybrid_store.specs.Lanes.{KeptList, no_list, turned_list}
+use Rattle.bit_rows.specs.Segments.{KeptList, no_list, turned_list}
 use Rattle.hybrid_store.specs.Ready.{no_own}
 use Rattle.hybrid_store.specs.Stored.{head_in, head_of_lane}
 use Rattle.bit_rows.proofs.PushLemmas.{push_below, push_there, push_next, push_within, push_count, push_left, push_same, push_done}

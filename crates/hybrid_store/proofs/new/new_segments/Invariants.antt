@@ -1,6 +1,6 @@
 use Rattle.std.proofs.Common.{◌≡◌, ◌∷◌, [], ℕ, ◌<◌, ◌≤◌, Some, length, map, get_or}
 use Rattle.std.specs.Arc.{arc_value}
-use Rattle.hybrid_store.specs.Lanes.{no_list, most_segments}
+use Rattle.bit_rows.specs.Segments.{no_list, most_segments}
 use Rattle.hybrid_store.specs.New.{own_at}
 use Rattle.hybrid_store.proofs.new.new_segments.Given as goal
 

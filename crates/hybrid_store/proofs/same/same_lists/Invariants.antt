@@ -1,6 +1,6 @@
 use Rattle.std.proofs.Common.{◌≡◌, take, map}
 use Rattle.std.specs.List.{All}
-use Rattle.hybrid_store.specs.Lanes.{all_of, HasMost}
+use Rattle.bit_rows.specs.Segments.{all_of, HasMost}
 use Rattle.hybrid_store.proofs.same.same_lists.Given as goal
 
 abbrev pub invariant-loop-list : goal.invariant-loop-list

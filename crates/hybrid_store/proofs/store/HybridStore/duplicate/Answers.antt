@@ -11,7 +11,8 @@ use Rattle.db_store.specs.Counted.{IsCounted}
 use Rattle.db_store.specs.Order.{lineage, IsOrdered}
 use Rattle.db_store.specs.State.{laid}
 use Rattle.bit_rows.specs.Kept.{KeptLane}
-use Rattle.hybrid_store.specs.Lanes.{KeptList, kept_layout, all_of}
+use Rattle.hybrid_store.specs.Lanes.{kept_layout}
+use Rattle.bit_rows.specs.Segments.{KeptList, all_of}
 use Rattle.hybrid_store.specs.Stored.{kept_dataset, IsStored, roomless}
 use Rattle.hybrid_store.specs.Store.{layout_of, dataset_in}
 use Rattle.hybrid_store.proofs.SameLemmas.{same_count, layout_same, stored_same}

@@ -4,7 +4,7 @@ use Rattle.db_value.specs.declared.record.Record.{Record}
 use Rattle.record_page.specs.Page.{Rows}
 use Rattle.bit_rows.specs.Rows.{KeptRow, kept_row_at}
 use Rattle.bit_rows.specs.Kept.{KeptLane, no_kept, kept_rows}
-use Rattle.hybrid_store.specs.Lanes.{KeptRecords, no_rows, list_at}
+use Rattle.bit_rows.specs.Segments.{KeptRecords, no_rows, list_at}
 use Rattle.hybrid_store.specs.Stored.{head_of_lane}
 use Rattle.hybrid_store.proofs.CommitLemmas.{head_there, head_records}
 use Rattle.hybrid_store.proofs.store.HybridStore.head_of.Goals as goal

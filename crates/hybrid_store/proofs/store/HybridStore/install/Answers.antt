@@ -20,7 +20,8 @@ use Rattle.hybrid_view.specs.Live.{Lived}
 use Rattle.store_catalogue.specs.ByName.{AreNumbers}
 use Rattle.bit_rows.specs.Rows.{kept_row_at, next_at, pushed_row}
 use Rattle.bit_rows.specs.Kept.{KeptLane, no_kept, kept_rows, nexts_at}
-use Rattle.hybrid_store.specs.Lanes.{KeptList, no_list, list_at, kept_layout, with_records}
+use Rattle.hybrid_store.specs.Lanes.{kept_layout}
+use Rattle.bit_rows.specs.Segments.{KeptList, no_list, list_at, with_records}
 use Rattle.hybrid_store.specs.Ready.{no_own}
 use Rattle.hybrid_store.specs.Stored.{head_of_lane, kept_dataset, HasRoom}
 use Rattle.hybrid_store.specs.Store.{layout_of, dataset_in}

@@ -19,7 +19,8 @@ use Rattle.db_store.proofs.LaidLemmas.{laid_stays}
 use Rattle.store_catalogue.specs.ByName.{Numbers, KeptNames, AreNumbers}
 use Rattle.store_catalogue.proofs.BranchLemmas.{count_more}
 use Rattle.bit_rows.specs.Kept.{KeptLane, no_kept}
-use Rattle.hybrid_store.specs.Lanes.{KeptList, no_list, kept_layout, with_head}
+use Rattle.hybrid_store.specs.Lanes.{kept_layout}
+use Rattle.bit_rows.specs.Segments.{KeptList, no_list, with_head}
 use Rattle.hybrid_store.specs.Ready.{no_own}
 use Rattle.hybrid_store.specs.ReadyBranch.{Turn, TurnsIf}
 use Rattle.hybrid_store.specs.Stored.{kept_dataset, HasRoom, IsStored}

@@ -24,7 +24,8 @@ use Rattle.store_catalogue.specs.ByName.{Numbers, KeptNames, AreNumbers, name_cm
 use Rattle.store_catalogue.proofs.BranchLemmas.{new_numbers, count_more}
 use Rattle.hybrid_view.specs.Live.{lived_at}
 use Rattle.bit_rows.specs.Kept.{KeptLane, kept_rows, first_row}
-use Rattle.hybrid_store.specs.Lanes.{list_at, kept_layout}
+use Rattle.hybrid_store.specs.Lanes.{kept_layout}
+use Rattle.bit_rows.specs.Segments.{list_at}
 use Rattle.hybrid_store.specs.New.{own_at, first_lived}
 use Rattle.hybrid_store.specs.Stored.{kept_dataset, HasRoom, IsStored}
 use Rattle.hybrid_store.proofs.NewLemmas.{new_is, new_stored}

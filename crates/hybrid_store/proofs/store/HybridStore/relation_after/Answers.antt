@@ -11,7 +11,8 @@ use Rattle.hybrid_view.specs.Struck.{touched_places}
 use Rattle.hybrid_view.specs.RowPlaces.{AllNext, spots}
 use Rattle.hybrid_view.specs.Live.{Lived, piece_at, lived_at, contents_in, IsLived}
 use Rattle.bit_rows.specs.Kept.{KeptLane, no_kept}
-use Rattle.hybrid_store.specs.Lanes.{segment_of, list_at}
+use Rattle.hybrid_store.specs.Lanes.{segment_of}
+use Rattle.bit_rows.specs.Segments.{list_at}
 use Rattle.hybrid_store.specs.Stored.{head_of_lane}
 use Rattle.hybrid_store.proofs.CommitLemmas.{put_fields, put_room, lived_after, small_after, branch_there}
 use Rattle.hybrid_store.proofs.store.HybridStore.relation_after.Goals as goal

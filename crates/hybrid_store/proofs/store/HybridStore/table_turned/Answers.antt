@@ -7,7 +7,7 @@ use Rattle.bit_rows.specs.Kept.{KeptLane, no_kept, kept_rows}
 use Rattle.bit_rows.specs.Rows.{KeptRow, laid_row, MoreRow}
 use Rattle.hybrid_store.specs.Begun.{head_piece, lived_turned, turned_row, turned_in, AreTurned}
 use Rattle.hybrid_store.specs.New.{own_at}
-use Rattle.hybrid_store.specs.Lanes.{list_at}
+use Rattle.bit_rows.specs.Segments.{list_at}
 use Rattle.hybrid_store.proofs.BeginLemmas.{turned_more, turned_live}
 use Rattle.hybrid_store.proofs.store.HybridStore.table_turned.Goals as goal
 

@@ -8,7 +8,7 @@ use Rattle.db_store.specs.LayoutGrowth.{is_last}
 use Rattle.hybrid_view.specs.Live.{Lived, lived_at, IsLived}
 use Rattle.bit_rows.specs.Kept.{KeptLane, no_kept, kept_rows, more_at}
 use Rattle.hybrid_store.specs.Begun.{turned_in, turned_row, AreTurned}
-use Rattle.hybrid_store.specs.Lanes.{list_at}
+use Rattle.bit_rows.specs.Segments.{list_at}
 use Rattle.hybrid_store.specs.New.{own_at}
 use Rattle.hybrid_store.specs.Store.{layout_of}
 use Rattle.hybrid_store.proofs.PrepareLemmas.{turned_ready, turned_at, fit_few, fit_there, fit_made, fit_after, fit_last}

@@ -1,7 +1,7 @@
 //! The segments of a relation.
 ghost use Rattle.std.specs.Prelude.{◌≡◌, ◌≤◌, ◌<◌, ◌++◌, ◌∷◌, [], length, set, IfOk, Some, None};
 ghost use Rattle.std.specs.Arc.{arc_value};
-ghost use Rattle.hybrid_store.specs.Lanes.{most_segments, kept_at, with_head, turned_list};
+ghost use Rattle.bit_rows.specs.Segments.{most_segments, kept_at, with_head, turned_list};
 
 use segment::Segment;
 use std::alloc::{AllocError, Global};
@@ -20,7 +20,7 @@ pub struct KeptSegment {
 
 impl Model for KeptSegment {
     ghost use Rattle.std.specs.Arc.{arc_value};
-    ghost use Rattle.hybrid_store.specs.Lanes.{KeptRecords, kept_records_code};
+    ghost use Rattle.bit_rows.specs.Segments.{KeptRecords, kept_records_code};
 
     ghost Value = { KeptRecords };
 
@@ -70,7 +70,7 @@ pub struct KeptSegments {
 
 impl Model for KeptSegments {
     ghost use Rattle.std.specs.Prelude.{vec_capacity};
-    ghost use Rattle.hybrid_store.specs.Lanes.{KeptList, kept_list_code};
+    ghost use Rattle.bit_rows.specs.Segments.{KeptList, kept_list_code};
 
     ghost Value = { KeptList };
 

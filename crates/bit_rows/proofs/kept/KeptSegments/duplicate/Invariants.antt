@@ -1,6 +1,6 @@
 use Rattle.std.proofs.Common.{◌≡◌, ◌≤◌, take}
 use Rattle.std.specs.Prelude.{vec_capacity}
-use Rattle.hybrid_store.proofs.kept.KeptSegments.duplicate.Given as goal
+use Rattle.bit_rows.proofs.kept.KeptSegments.duplicate.Given as goal
 
 abbrev pub invariant-loop-kept : goal.invariant-loop-kept
 invariant-loop-kept l = record {
