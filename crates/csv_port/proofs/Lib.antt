@@ -1,0 +1,4 @@
+pub mod FieldLemmas
+pub mod ReaderLemmas
+pub mod RowsLemmas
+pub mod BackLemmas

@@ -1,0 +1,23 @@
+-- Rows that were written read back.
+use Rattle.std.specs.Prelude.{◌≡◌, ◌<◌, ◌≤◌, ◌^◌, ℕ, pos, negsuc, List, length, Ok}
+use Rattle.std.specs.List.{AllByRecursion}
+use Rattle.db_value.specs.Value.{Value}
+use Rattle.db_value.specs.declared.record.Record.{Record}
+use Rattle.csv_port.specs.Rows.{most_rows, rows_in}
+use Rattle.csv_port.specs.Written.{rows_text}
+
+-- a value of 64 bits with a sign
+abbrev pub IsValue : Value → Type 0
+IsValue (pos n) = n < 2 ^ 63
+IsValue (negsuc n) = n < 2 ^ 63
+
+-- a row of a relation with so many columns, whose numbers are those of its types
+pub record IsRow (columns : ℕ) (row : Record) : Type 0 where
+  pub key : row.key < 2 ^ 64
+  pub count : length row.fields ≡ columns
+  pub values : AllByRecursion IsValue row.fields
+
+-- what was written of rows, no more than a text may have, gives these rows
+abbrev pub ReadsBack : Type 0
+ReadsBack = (columns : ℕ) (rows : List Record) → 0 < columns → length rows ≤ most_rows → AllByRecursion (IsRow columns) rows
+    → rows_in columns (rows_text rows) ≡ Ok rows

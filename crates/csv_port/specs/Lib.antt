@@ -1,0 +1,5 @@
+pub mod Row
+pub mod Rows
+pub mod Reading
+pub mod Written
+pub mod Laws
