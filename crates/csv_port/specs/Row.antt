@@ -1,5 +1,5 @@
 -- A row: what the fields of a record say.
-use Rattle.std.specs.Prelude.{ℕ, ◌==◌, cond, List, [], ◌∷◌, ◌++◌, length, Option, Some, None}
+use Rattle.std.specs.Prelude.{ℕ, ◌==◌, cond, List, [], ◌∷◌, length, Option, Some, None}
 use Rattle.db_value.specs.Value.{Value}
 use Rattle.db_value.specs.declared.record.Record.{Record}
 use Rattle.stmt_text.specs.Steps.{◌>>=◌, each_of}
@@ -17,12 +17,3 @@ keyed key values = key >>= (λ k. values >>= (λ vs. Some (record { key = k; fie
 abbrev pub row_of : ℕ → List (List ℕ) → Option Record
 row_of columns [] = None
 row_of columns (key ∷ values) = cond (length values == columns) (keyed (key_of key) (values_in values)) None
-
--- values behind those that were read
-abbrev pub behind_values : List Value → Option (List Value) → Option (List Value)
-behind_values read None = None
-behind_values read (Some more) = Some (read ++ more)
-
--- all values, if each was read
-abbrev pub all_or_none : List Value → Option (List Value)
-all_or_none values = Some values
