@@ -1,0 +1,11 @@
+//! Tests of a dataset in two files. Nothing here is called.
+#![tactic(auto)]
+
+#[cfg(test)]
+mod crash_tests;
+#[cfg(test)]
+mod damage_tests;
+#[cfg(test)]
+mod files;
+#[cfg(test)]
+mod path_tests;
