@@ -96,9 +96,7 @@ impl<St: Store> Tx<St> {
             right,
             prefer,
         ) {
-            Ok(changes) => {
-                Ok(self.adopt(from, &changes))
-            }
+            Ok(changes) => { Ok(self.adopt(from, &changes)) }
             Err(
                 MergeStop::Conflict {
                     relation,

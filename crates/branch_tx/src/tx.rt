@@ -255,13 +255,7 @@ impl<St: Store> Tx<St> {
     }
 
     // Inserts into a relation with as many columns as there are values.
-    fn insert_in(
-        &mut self,
-        relation: u8,
-        name: Name,
-        key: u64,
-        fields: &Fields,
-    ) -> Reply
+    fn insert_in(&mut self, relation: u8, name: Name, key: u64, fields: &Fields) -> Reply
         requires { relation < length self.old.schema }
         ensures reply { result ≡ (inserted self.old relation name key fields.now).reply }
         ensures left { self.new ≡ with_work self.old
@@ -290,13 +284,7 @@ impl<St: Store> Tx<St> {
     }
 
     // Gives a record new values, on a branch that isn't full.
-    fn renew(
-        &mut self,
-        relation: u8,
-        name: Name,
-        key: u64,
-        sets: &Sets,
-    ) -> Reply
+    fn renew(&mut self, relation: u8, name: Name, key: u64, sets: &Sets) -> Reply
         requires { relation < length self.old.schema }
         ensures reply { result ≡ (renewed self.old relation name key sets.now).reply }
         ensures left { self.new ≡ with_work self.old
@@ -312,13 +300,7 @@ impl<St: Store> Tx<St> {
     }
 
     // Updates a record with these new values, or tells the column that isn't there.
-    fn update_in(
-        &mut self,
-        relation: u8,
-        name: Name,
-        key: u64,
-        sets: &Result<Sets, Name>,
-    ) -> Reply
+    fn update_in(&mut self, relation: u8, name: Name, key: u64, sets: &Result<Sets, Name>) -> Reply
         requires { relation < length self.old.schema }
         ensures reply { result ≡ (updated_by self.old relation name key sets.now).reply }
         ensures left { self.new ≡ with_work self.old

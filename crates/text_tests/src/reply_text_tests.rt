@@ -147,7 +147,11 @@ fn answers_scans_minus_and_joins(rt: HostRuntime) -> Result<(), Fail> {
     let text =
         "> 1 scan items in heads\nrow 7 1 1 in master,dev\nrow 8 5 5 in master,dev\nrows 2\n";
     answers(&rt, alloc, "1 scan items in heads", &heads, text)?;
-    let empty = listed(alloc, vec![in alloc; version("master", None)?]?, Vec::new(alloc))?;
+    let empty = listed(
+        alloc,
+        vec![in alloc; version("master", None)?]?,
+        Vec::new(alloc),
+    )?;
     let text = "> 1 scan items in heads\nrows 0\n";
     answers(&rt, alloc, "1 scan items in heads", &empty, text)?;
     let apart = listed(
