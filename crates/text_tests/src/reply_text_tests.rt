@@ -117,7 +117,7 @@ fn answers_changes_and_gets(rt: HostRuntime) -> Result<(), Fail> {
 }
 
 #[test]
-fn answers_scans_minus_and_joins(rt: HostRuntime) -> Result<(), Fail> {
+fn answers_scans(rt: HostRuntime) -> Result<(), Fail> {
     let alloc = rt.alloc();
     let whole = listed(
         alloc,
@@ -153,7 +153,12 @@ fn answers_scans_minus_and_joins(rt: HostRuntime) -> Result<(), Fail> {
         Vec::new(alloc),
     )?;
     let text = "> 1 scan items in heads\nrows 0\n";
-    answers(&rt, alloc, "1 scan items in heads", &empty, text)?;
+    answers(&rt, alloc, "1 scan items in heads", &empty, text)
+}
+
+#[test]
+fn answers_conditions_minus_and_joins(rt: HostRuntime) -> Result<(), Fail> {
+    let alloc = rt.alloc();
     let apart = listed(
         alloc,
         vec![in alloc; version("master", Some(2))?, version("master", None)?]?,
