@@ -6,7 +6,7 @@ use db_outside::Batch;
 use db_store::Store;
 use db_value::Schema;
 use entry_codec::Log;
-use generations::{Dataset, DatasetStore, OpenStop, Pair, create, reopen};
+use generations::{CreateStop, Dataset, DatasetStore, OpenStop, Pair, create, reopen};
 use sha2::{Digest, Sha256};
 use std::alloc::Global;
 
@@ -44,10 +44,9 @@ pub fn file_of(alloc: Global, generation: u64, image: &[u8], bodies: &[&[u8]]) -
     bytes.extend_from_slice(&Sha256::digest(image)).ok()?;
     bytes.extend_from_slice(image).ok()?;
     for body in bodies {
+        let count = u32::try_from(body.len()).ok()?;
         bytes.push(1).ok()?;
-        bytes
-            .extend_from_slice(&(body.len() as u32).to_le_bytes())
-            .ok()?;
+        bytes.extend_from_slice(&count.to_le_bytes()).ok()?;
         bytes.extend_from_slice(&Sha256::digest(*body)).ok()?;
         bytes.extend_from_slice(body).ok()?;
     }
@@ -89,6 +88,26 @@ pub fn created(alloc: Global, failing: &[u64]) -> Option<Dataset<MemDisk>> {
     match create(alloc, disks, &schema) {
         Ok(dataset) => Some(dataset),
         Err(_) => None,
+    }
+}
+
+/// Why no dataset is made on disks with these bytes, and the disks. `None` is a dataset, or want of
+/// memory.
+pub fn not_created(
+    alloc: Global,
+    first: &[u8],
+    second: &[u8],
+) -> Option<(CreateStop, Pair<MemDisk>)> {
+    let Ok((schema, _)) = Schema::read(alloc, b"relation items a b\nend\n") else {
+        return None;
+    };
+    let disks = Pair {
+        first: MemDisk::of(alloc, first, &[], 1000, 1000).ok()?,
+        second: MemDisk::of(alloc, second, &[], 1000, 1000).ok()?,
+    };
+    match create(alloc, disks, &schema) {
+        Ok(_) => None,
+        Err(stop) => Some(stop),
     }
 }
 

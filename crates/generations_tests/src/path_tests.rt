@@ -1,8 +1,7 @@
 //! A dataset made, written and opened again. The expected bytes are the format's worked example.
-use crate::files::{IMAGE, ONE, TWO, appends, batch_of, created, file_of, opened};
-use db_memdev::MemDisk;
-use db_value::Schema;
-use generations::{CreateStop, OpenStop, Pair, create};
+use crate::files::{IMAGE, ONE, TWO, appends, batch_of, created, file_of, not_created, opened};
+use generations::{CreateStop, OpenStop, Pair};
+use std::alloc::Global;
 use std::process::Abort;
 use std::test::Fail;
 
@@ -28,30 +27,28 @@ fn makes_writes_and_opens(rt: HostRuntime) -> Result<(), Fail> {
     Ok(())
 }
 
+// Nothing is made over files with these bytes, and they stay.
+fn makes_nothing_over(
+    rt: &impl Abort,
+    alloc: Global,
+    first: &[u8],
+    second: &[u8],
+) -> Result<(), Fail> {
+    let Some((stop, disks)) = not_created(alloc, first, second) else {
+        return Err("made")?;
+    };
+    assert_eq!(rt; stop, CreateStop::AlreadyThere);
+    assert_eq!(rt; disks.first.bytes(), first);
+    assert_eq!(rt; disks.second.bytes(), second);
+    Ok(())
+}
+
 #[test]
 fn makes_nothing_over_files_that_are_there(rt: HostRuntime) -> Result<(), Fail> {
     let alloc = rt.alloc();
-    let (schema, _) = Schema::read(alloc, b"relation items a b\nend\n")?;
-    let cases = [
-        ("the first is there", b"x".as_slice(), b"".as_slice()),
-        ("the second is there", b"", b"x"),
-        ("both are there", b"x", b"x"),
-    ];
-    for (name, first, second) in cases {
-        let disks = Pair {
-            first: MemDisk::of(alloc, first, &[], 1000, 1000)?,
-            second: MemDisk::of(alloc, second, &[], 1000, 1000)?,
-        };
-        match create(alloc, disks, &schema) {
-            Ok(_) => assert!(rt; false, "{name}"),
-            Err((stop, disks)) => {
-                assert_eq!(rt; stop, CreateStop::AlreadyThere, "{name}");
-                assert_eq!(rt; disks.first.bytes(), first, "{name}");
-                assert_eq!(rt; disks.second.bytes(), second, "{name}");
-            }
-        }
-    }
-    Ok(())
+    makes_nothing_over(&rt, alloc, b"x", b"")?;
+    makes_nothing_over(&rt, alloc, b"", b"x")?;
+    makes_nothing_over(&rt, alloc, b"x", b"x")
 }
 
 #[test]

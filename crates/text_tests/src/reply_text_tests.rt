@@ -90,11 +90,20 @@ fn marked(
     })
 }
 
-fn listed(alloc: Global, names: Vec<VersionName>, rows: Vec<Marked>) -> Result<Reply, Fail> {
-    Ok(Reply::Listed {
+// The rows of a scan or a minus.
+fn answers_rows(
+    rt: &impl Abort,
+    alloc: Global,
+    line: &str,
+    names: Vec<VersionName>,
+    rows: Vec<Marked>,
+    text: &str,
+) -> Result<(), Fail> {
+    let reply = Reply::Listed {
         names: SharedList::of(alloc, names)?,
         rows: SharedList::of(alloc, rows)?,
-    })
+    };
+    answers(rt, alloc, line, &reply, text)
 }
 
 #[test]
@@ -119,66 +128,77 @@ fn answers_changes_and_gets(rt: HostRuntime) -> Result<(), Fail> {
 #[test]
 fn answers_scans(rt: HostRuntime) -> Result<(), Fail> {
     let alloc = rt.alloc();
-    let whole = listed(
-        alloc,
-        Vec::new(alloc),
-        vec![in alloc;
-            marked(alloc, 1, &[9, 1], 0, &[])?,
-            marked(alloc, 2, &[2, 2], 0, &[])?,
-        ]?,
-    )?;
+    let rows = vec![in alloc;
+        marked(alloc, 1, &[9, 1], 0, &[])?,
+        marked(alloc, 2, &[2, 2], 0, &[])?,
+    ]?;
     let text = "> 1 scan items\nrow 1 9 1\nrow 2 2 2\nrows 2\n";
-    answers(&rt, alloc, "1 scan items", &whole, text)?;
-    let named = listed(
-        alloc,
-        vec![in alloc; version("master", Some(1))?]?,
-        vec![in alloc; marked(alloc, 1, &[10, 20], 0, &[])?]?,
-    )?;
-    let text = "> 1 scan items in master@1\nrow 1 10 20 in master@1\nrows 1\n";
-    answers(&rt, alloc, "1 scan items in master@1", &named, text)?;
-    let heads = listed(
-        alloc,
-        vec![in alloc; version("master", None)?, version("dev", None)?]?,
-        vec![in alloc;
-            marked(alloc, 7, &[1, 1], 0, &[1])?,
-            marked(alloc, 8, &[5, 5], 0, &[1])?,
-        ]?,
-    )?;
-    let text =
-        "> 1 scan items in heads\nrow 7 1 1 in master,dev\nrow 8 5 5 in master,dev\nrows 2\n";
-    answers(&rt, alloc, "1 scan items in heads", &heads, text)?;
-    let empty = listed(
-        alloc,
-        vec![in alloc; version("master", None)?]?,
-        Vec::new(alloc),
-    )?;
-    let text = "> 1 scan items in heads\nrows 0\n";
-    answers(&rt, alloc, "1 scan items in heads", &empty, text)
+    answers_rows(&rt, alloc, "1 scan items", Vec::new(alloc), rows, text)
 }
 
 #[test]
-fn answers_conditions_minus_and_joins(rt: HostRuntime) -> Result<(), Fail> {
+fn answers_scans_of_a_version(rt: HostRuntime) -> Result<(), Fail> {
     let alloc = rt.alloc();
-    let apart = listed(
+    let names = vec![in alloc; version("master", Some(1))?]?;
+    let rows = vec![in alloc; marked(alloc, 1, &[10, 20], 0, &[])?]?;
+    let text = "> 1 scan items in master@1\nrow 1 10 20 in master@1\nrows 1\n";
+    answers_rows(&rt, alloc, "1 scan items in master@1", names, rows, text)
+}
+
+#[test]
+fn answers_scans_of_heads(rt: HostRuntime) -> Result<(), Fail> {
+    let alloc = rt.alloc();
+    let names = vec![in alloc; version("master", None)?, version("dev", None)?]?;
+    let rows = vec![in alloc;
+        marked(alloc, 7, &[1, 1], 0, &[1])?,
+        marked(alloc, 8, &[5, 5], 0, &[1])?,
+    ]?;
+    let text =
+        "> 1 scan items in heads\nrow 7 1 1 in master,dev\nrow 8 5 5 in master,dev\nrows 2\n";
+    answers_rows(&rt, alloc, "1 scan items in heads", names, rows, text)
+}
+
+#[test]
+fn answers_scans_without_rows(rt: HostRuntime) -> Result<(), Fail> {
+    let alloc = rt.alloc();
+    let names = vec![in alloc; version("master", None)?]?;
+    let text = "> 1 scan items in heads\nrows 0\n";
+    answers_rows(
+        &rt,
         alloc,
-        vec![in alloc; version("master", Some(2))?, version("master", None)?]?,
-        vec![in alloc;
-            marked(alloc, 1, &[1, 1], 0, &[])?,
-            marked(alloc, 1, &[5, 1], 1, &[])?,
-        ]?,
-    )?;
+        "1 scan items in heads",
+        names,
+        Vec::new(alloc),
+        text,
+    )
+}
+
+#[test]
+fn answers_scans_with_conditions(rt: HostRuntime) -> Result<(), Fail> {
+    let alloc = rt.alloc();
+    let names = vec![in alloc; version("master", Some(2))?, version("master", None)?]?;
+    let rows = vec![in alloc;
+        marked(alloc, 1, &[1, 1], 0, &[])?,
+        marked(alloc, 1, &[5, 1], 1, &[])?,
+    ]?;
     let line = "1 scan items in master@2,master where key >= 1 and a != 2";
     let text =
         "> 1 scan items in master@2,master where key >= 1 and a != 2\nrow 1 1 1 in master@2\nrow 1 5 1 in master\nrows 2\n";
-    answers(&rt, alloc, line, &apart, text)?;
-    let minus = listed(
-        alloc,
-        Vec::new(alloc),
-        vec![in alloc; marked(alloc, 1, &[5, 1], 0, &[])?]?,
-    )?;
+    answers_rows(&rt, alloc, line, names, rows, text)
+}
+
+#[test]
+fn answers_minus(rt: HostRuntime) -> Result<(), Fail> {
+    let alloc = rt.alloc();
+    let rows = vec![in alloc; marked(alloc, 1, &[5, 1], 0, &[])?]?;
     let line = "1 minus items master master@2";
     let text = "> 1 minus items master master@2\nrow 1 5 1\nrows 1\n";
-    answers(&rt, alloc, line, &minus, text)?;
+    answers_rows(&rt, alloc, line, Vec::new(alloc), rows, text)
+}
+
+#[test]
+fn answers_joins(rt: HostRuntime) -> Result<(), Fail> {
+    let alloc = rt.alloc();
     let pair = Pair {
         key: 1,
         left: fields(&[1, 1])?,
