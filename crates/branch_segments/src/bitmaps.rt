@@ -101,7 +101,8 @@ impl Bitmaps {
     pub(crate) fn set(&mut self, branch: usize, place: u32)
         requires branch { branch < length self.old }
         requires place { place < length (get_or self.old branch []) }
-        ensures { self.new ≡ set self.old branch (slice_set (get_or self.old branch []) place true) }
+        ensures { self.new
+            ≡ set self.old branch (slice_set (get_or self.old branch []) place true) }
     {
         self.rows[branch].set(place);
     }

@@ -87,7 +87,8 @@ impl BranchSegments {
     /// The segments of a branch, in ascending order.
     #[tactic(auto, using(crate::proofs::MarkLemmas::ids_more))]
     pub fn segments_of(&self, branch: u32) -> Result<SegmentIds, AllocError>
-        ensures { IfOk result (λ ids. ids ≡ ids_where (is_marked self.now branch) self.now.segments) }
+        ensures { IfOk result (λ ids.
+            ids ≡ ids_where (is_marked self.now branch) self.now.segments) }
     {
         let mut ids = Vec::new(self.alloc);
         for segment in 0..self.segments {
@@ -105,7 +106,8 @@ impl BranchSegments {
     /// The segments that one of the branches has, or more of them, in ascending order and each once.
     #[tactic(auto, using(crate::proofs::MarkLemmas::ids_more))]
     pub fn union(&self, branches: &BranchIds) -> Result<SegmentIds, AllocError>
-        ensures { IfOk result (λ ids. ids ≡ ids_where (any_marked self.now branches.now) self.now.segments) }
+        ensures { IfOk result (λ ids.
+            ids ≡ ids_where (any_marked self.now branches.now) self.now.segments) }
     {
         let mut ids = Vec::new(self.alloc);
         for segment in 0..self.segments {

@@ -57,7 +57,8 @@ impl Lock {
 
     /// Gives the grant, unless it is there.
     pub fn grant(&mut self, grant: Grant)
-        requires { has_grant grant self.old.grants ≡ false → length self.old.grants < self.old.room }
+        requires { has_grant grant self.old.grants ≡ false
+            → length self.old.grants < self.old.room }
         ensures { self.new ≡ with_grant grant self.old }
     {
         if !is_granted(self.grants.as_slice(), grant) {
