@@ -173,7 +173,8 @@ pub fn count_after<T: KeyedTable>(table: &T, relation: u8, changes: &[Change]) -
     requires few { length changes.now ≤ MOST_CHANGES }
     requires ascending { ascends changes.now ≡ true }
     requires relation { relation < length (T.table_of table.now) }
-    ensures { result ≡ finite.len (relation_at (with_changes (T.table_of table.now) changes.now) relation) }
+    ensures { result
+        ≡ finite.len (relation_at (with_changes (T.table_of table.now) changes.now) relation) }
 {
     let mut count = table.keys(relation) as usize;
     for change in changes {

@@ -48,7 +48,8 @@ fn is_after(name: &Name, other: &Name) -> bool
 fn below(sorted: &[NamedBranch], name: &Name) -> usize
     requires { T (finite.is_sorted name_cmp (map entry_of sorted.now)) }
     ensures within { result ≤ length sorted.now }
-    ensures parted { IsPartitionPoint (λ n. is_gt (name_cmp name.now n.name) ≡ true) (λ n. is_gt (name_cmp name.now n.name) ≡ false) sorted.now result }
+    ensures parted { IsPartitionPoint (λ n. is_gt (name_cmp name.now n.name) ≡ true)
+        (λ n. is_gt (name_cmp name.now n.name) ≡ false) sorted.now result }
 {
     sorted.partition_point(|named| is_after(name, &named.name))
 }
@@ -100,7 +101,8 @@ impl BranchNames {
     pub fn add(&mut self, name: Name, branch: u32)
         requires room { finite.len self.old.numbers < self.old.room }
         requires new { finite.get self.old.numbers name ≡ None }
-        ensures { self.new ≡ record self.old { numbers = finite.insert self.old.numbers name branch } }
+        ensures { self.new
+            ≡ record self.old { numbers = finite.insert self.old.numbers name branch } }
     {
         let at = below(&self.sorted, &name);
         // There is room, so it doesn't fail.
