@@ -46,7 +46,7 @@ spots_drop (c ∷ cs) head next r (suc i) z h =
 
 -- ---- the bits in which two bitmaps differ
 
-same_differ : (a b : Bool) → differ_bits a b ≡ differ a b
+pub same_differ : (a b : Bool) → differ_bits a b ≡ differ a b
 same_differ true b = refl
 same_differ false b = refl
 

@@ -1,3 +1,6 @@
 pub mod ShortLemmas
 pub mod PushLemmas
 pub mod ChangedLemmas
+pub mod SpotsLemmas
+pub mod SeenLemmas
+pub mod ToldLemmas

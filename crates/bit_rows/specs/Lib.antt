@@ -3,3 +3,5 @@ pub mod Rows
 pub mod Kept
 pub mod Segments
 pub mod Differences
+pub mod Seen
+pub mod Told

@@ -1,5 +1,5 @@
 //! The rows that a new branch begins.
-ghost use Rattle.std.specs.Prelude.{◌≡◌, map, IfOk};
+ghost use Rattle.std.specs.Prelude.{◌≡◌, cond, map, IfOk};
 ghost use Rattle.bit_rows.specs.Rows.{begun_row};
 
 use crate::rows::{BitRow, BitRows};
@@ -17,4 +17,11 @@ pub fn rows_begun(alloc: Global, live: &LiveRelation) -> Result<BitRows, AllocEr
         rows.push(row)?;
     }
     Ok(BitRows::of(rows))
+}
+
+/// How many heads come before that of a new branch: one of its origin, if it is of the last version there.
+pub fn more_of(at_head: bool) -> u32
+    ensures { result ≡ cond at_head 1 0 }
+{
+    if at_head { 1 } else { 0 }
 }

@@ -1,7 +1,8 @@
 //! The segments of a relation.
-ghost use Rattle.std.specs.Prelude.{◌≡◌, ◌≤◌, ◌<◌, ◌++◌, ◌∷◌, [], length, set, IfOk, Some, None};
+ghost use Rattle.std.specs.Prelude.{◌≡◌, ◌≤◌, ◌<◌, ◌++◌, ◌∷◌, [], length, map, set, IfOk, Some, None};
+ghost use Rattle.std.specs.List.{All};
 ghost use Rattle.std.specs.Arc.{arc_value};
-ghost use Rattle.bit_rows.specs.Segments.{most_segments, kept_at, with_head, turned_list};
+ghost use Rattle.bit_rows.specs.Segments.{most_segments, kept_at, with_head, turned_list, all_of, HasMost};
 
 use segment::Segment;
 use std::alloc::{AllocError, Global};
@@ -97,6 +98,22 @@ impl KeptSegments {
         &self.items
     }
 
+    /// How many there are.
+    pub fn count(&self) -> u32
+        requires { length self.now.all ≤ most_segments }
+        ensures { result ≡ length self.now.all }
+    {
+        self.items.len() as u32
+    }
+
+    /// A segment by its number.
+    pub fn segment(&self, index: u32) -> &KeptSegment
+        requires { index < length self.now.all }
+        ensures { result.now ≡ kept_at self.now.all index }
+    {
+        &self.items[index as usize]
+    }
+
     /// The same segments, which share their records with these.
     pub fn duplicate(&self, alloc: Global) -> Result<KeptSegments, AllocError>
         ensures all { IfOk result (λ k. k.all ≡ self.now.all) }
@@ -137,4 +154,16 @@ impl KeptSegments {
             records,
         });
     }
+}
+
+/// The same segments of each relation, which share their records with these.
+pub fn same_lists(alloc: Global, lists: &[KeptSegments]) -> Result<Vec<KeptSegments>, AllocError>
+    ensures same { IfOk result (λ v. map all_of v.items ≡ map all_of lists.now) }
+    ensures rooms { IfOk result (λ v. All HasMost v.items) }
+{
+    let mut all = Vec::with_capacity(alloc, lists.len())?;
+    for list in lists {
+        all.push(list.duplicate(alloc)?)?;
+    }
+    Ok(all)
 }

@@ -19,10 +19,14 @@ mod kept;
 mod lane;
 mod more;
 mod rows;
+mod seen;
+mod told;
 
-pub use begun::rows_begun;
+pub use begun::{more_of, rows_begun};
 pub use changed::{next_deltas, rows_put, spots_of};
-pub use kept::{KeptSegment, KeptSegments};
+pub use kept::{KeptSegment, KeptSegments, same_lists};
 pub use lane::HybridLane;
 pub use more::MoreRows;
 pub use rows::{BitRow, BitRows, NextDeltas};
+pub use seen::relation_seen;
+pub use told::layout_lines;
