@@ -1,7 +1,7 @@
 -- The store that the entries of a dataset are taken into.
 use Rattle.db_store.specs.State.{State}
-use Rattle.plain_store.specs.PlainStore.{state_of}
-pub use Rattle.plain_store.specs.declared.plain_store.PlainStore.{PlainStore as DatasetStore}
+use Rattle.hybrid_store.specs.Store.{state_of}
+pub use Rattle.hybrid_store.specs.declared.store.HybridStore.{HybridStore as DatasetStore}
 
 -- what the store means
 abbrev pub state_in : DatasetStore → State

@@ -4,15 +4,15 @@ ghost use Rattle.generations.specs.NewState.{new_state};
 ghost use Rattle.generations.specs.Stored.{state_in};
 
 use db_value::Schema;
-use plain_store::PlainStore;
+use hybrid_store::HybridStore;
 use std::alloc::{AllocError, Global};
 
 /// The store that opening two files gives.
-pub type DatasetStore = PlainStore;
+pub type DatasetStore = HybridStore;
 
 /// The store of the new dataset of a schema.
 pub fn new_store(alloc: Global, schema: Schema) -> Result<DatasetStore, AllocError>
     ensures { IfOk result (λ store. state_in store ≡ new_state schema) }
 {
-    PlainStore::new(alloc, schema)
+    HybridStore::new(alloc, schema)
 }

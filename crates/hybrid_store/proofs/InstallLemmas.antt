@@ -20,7 +20,7 @@ use Rattle.hybrid_store.specs.Lanes.{segment_of}
 use Rattle.bit_rows.specs.Segments.{KeptRecords, no_rows, kept_at}
 use Rattle.hybrid_store.specs.Ready.{changed_slots, IsMadeAt}
 use Rattle.hybrid_store.specs.Stored.{head_in, IsKeptAt}
-use Rattle.hybrid_store.proofs.ReadyLemmas.{one_only}
+use Rattle.hybrid_store.specs.ReadyRules.{one_only}
 use Rattle.bit_rows.proofs.ShortLemmas.{short_slots, shorts_push}
 use Rattle.hybrid_store.proofs.CommitLayout.{rows_pushed, row_pushed}
 

@@ -4,8 +4,6 @@ pub mod HeadLemmas
 pub mod NewLemmas
 pub mod CommitLemmas
 pub mod TableLemmas
-pub mod ReadyLemmas
-pub mod LastsLemmas
 pub mod WidenLemmas
 pub mod ReadyParts
 pub mod CommitLayout
@@ -21,3 +19,6 @@ pub mod AddedBranch
 pub mod SameLemmas
 pub mod BeginLemmas
 pub mod PrepareLemmas
+pub mod SeenRows
+pub mod ViewLemmas
+pub mod ReportLemmas

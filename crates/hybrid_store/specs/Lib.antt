@@ -6,3 +6,6 @@ pub mod Ready
 pub mod Begun
 pub mod ReadyBranch
 pub mod Prepared
+pub mod Sees
+pub mod ReadyRules
+pub mod LastsRules

@@ -1,24 +1,19 @@
 //! Commits: the room that they need, and adding them.
-ghost use Rattle.std.specs.Prelude.{◌≡◌, ℕ, ◌<◌, ◌≤◌, ◌+◌, true, length, map, IfOk, OnOk, OnErr};
+ghost use Rattle.std.specs.Prelude.{◌≡◌, ℕ, ◌<◌, ◌≤◌, ◌+◌, length, map, OnOk, OnErr};
 ghost use Rattle.std.specs.Arc.{arc_value};
 ghost use Rattle.std.specs.List.{All, AllZip};
 ghost use Rattle.std.proofs.Common.{get_or};
-ghost use Rattle.db_value.specs.declared.entry.Entry.{Entry};
-ghost use Rattle.db_store.specs.Fits.{fits, IsCommit};
-ghost use Rattle.db_store.specs.State.{grow};
 ghost use Rattle.bit_rows.specs.Kept.{kept_rows};
 ghost use Rattle.bit_rows.specs.Segments.{no_list, list_at, with_records};
 ghost use Rattle.hybrid_store.specs.Ready.{no_own};
 ghost use Rattle.hybrid_store.specs.Stored.{head_of_lane, HasRoom, Widens};
 
-use crate::commit::HybridPrepared;
 use crate::store::HybridStore;
 use bit_rows::{HybridLane, KeptSegments};
-use db_value::{Entry, VersionPlace};
 use segment::Segment;
 use std::alloc::AllocError;
 use std::sync::Arc;
-use store_catalogue::{add_version, branch_of, changes_of, reserve_versions, second_of};
+use store_catalogue::reserve_versions;
 
 /// More versions than can be numbered.
 const MOST_NUMBERS: usize = 0x1_0000_0000;
@@ -34,7 +29,11 @@ fn reserve_all(lanes: &mut [HybridLane], more: usize) -> Result<(), AllocError>
 }
 
 // Gives the heads of a branch these records.
-fn put_records(segments: &mut Vec<KeptSegments>, lane: &HybridLane, mut records: Vec<Arc<Segment>>)
+pub(crate) fn put_records(
+    segments: &mut Vec<KeptSegments>,
+    lane: &HybridLane,
+    mut records: Vec<Arc<Segment>>,
+)
     requires few { length segments.old.items ≤ 8 }
     requires count { length records.items ≡ length segments.old.items }
     requires rows { length lane.now.rows ≡ length segments.old.items }
@@ -52,11 +51,10 @@ fn put_records(segments: &mut Vec<KeptSegments>, lane: &HybridLane, mut records:
 }
 
 impl HybridStore {
-    ghost use Rattle.hybrid_store.specs.Store.{dataset_in, state_of, spare_of};
-    ghost use Rattle.hybrid_store.specs.Prepared.{Prepares};
+    ghost use Rattle.hybrid_store.specs.Store.{state_of, spare_of};
 
     // Makes room for one version more on every branch.
-    fn raise(&mut self) -> Result<(), AllocError>
+    pub(crate) fn raise(&mut self) -> Result<(), AllocError>
         ensures raised { OnOk result (spare_of self.new ≡ spare_of self.old + 1) }
         ensures spare { OnErr result (spare_of self.new ≡ spare_of self.old) }
         ensures state { state_of self.new ≡ state_of self.old }
@@ -73,47 +71,5 @@ impl HybridStore {
         }
         self.spare = spare;
         Ok(())
-    }
-
-    /// Takes all the memory that a commit needs. The state stays.
-    pub fn prepare(&mut self, entry: &Entry) -> Result<HybridPrepared, AllocError>
-        requires fits { fits (dataset_in self.old) entry.now ≡ true }
-        requires commit { IsCommit entry.now }
-        ensures ready { IfOk result (λ p. Prepares p (state_of self.old) entry.now) }
-        ensures raised { OnOk result (spare_of self.new ≡ spare_of self.old + 1) }
-        ensures state { state_of self.new ≡ state_of self.old }
-        ensures spare { OnErr result (spare_of self.new ≡ spare_of self.old) }
-    {
-        let prepared = self.prepare_commit(branch_of(entry), second_of(entry), changes_of(entry))?;
-        self.raise()?;
-        Ok(prepared)
-    }
-
-    /// Adds the commit. It takes no memory, and uses up one of spare.
-    pub fn install(&mut self, prepared: HybridPrepared)
-        requires spare { 0 < spare_of self.old }
-        requires ready { (e : Entry) × Prepares prepared (state_of self.old) e }
-        ensures grown { (e : Entry) → Prepares prepared (state_of self.old) e → state_of self.new ≡ grow (state_of self.old) e }
-        ensures spare { spare_of self.new + 1 ≡ spare_of self.old }
-    {
-        let HybridPrepared {
-            branch,
-            second,
-            deltas,
-            head,
-            records,
-        } = prepared;
-        let position = self.lane(branch).count() as u32;
-        let place = VersionPlace { branch, position };
-        let first = self.number(VersionPlace {
-            branch,
-            position: position - 1,
-        });
-        let other = self.number_if(second);
-        add_version(&mut self.graph, first, other);
-        put_records(&mut self.segments, &self.lanes[branch as usize], records);
-        self.lanes[branch as usize].push(second, deltas, head);
-        self.order.push_reserved(place);
-        self.spare -= 1;
     }
 }

@@ -2,15 +2,12 @@
 ghost use Rattle.std.specs.Prelude.{◌≡◌, ℕ, ◌<◌, ◌≤◌, length, map, vec_capacity, IfSome};
 ghost use Rattle.std.specs.Arc.{arc_value};
 ghost use Rattle.std.proofs.Common.{get_or};
-ghost use Rattle.db_value.specs.declared.entry.Entry.{Entry};
-ghost use Rattle.db_store.specs.State.{grow};
 ghost use Rattle.bit_rows.specs.Kept.{no_kept};
 ghost use Rattle.bit_rows.specs.Segments.{no_list, list_at, with_head, turned_list};
 ghost use Rattle.hybrid_store.specs.Ready.{no_own};
 ghost use Rattle.hybrid_store.specs.ReadyBranch.{CanTurn, CanTake, TurnsIf};
 ghost use Rattle.hybrid_store.specs.Stored.{head_of_lane};
 
-use crate::store::HybridStore;
 use bit_rows::{HybridLane, KeptSegments, MoreRows};
 use hybrid_view::HybridView;
 use segment::Segment;
@@ -71,7 +68,7 @@ fn turn_lists(
 }
 
 // Adds the heads of a new branch.
-fn add_heads(segments: &mut Vec<KeptSegments>, branch: u32, mut heads: Vec<Arc<Segment>>)
+pub(crate) fn add_heads(segments: &mut Vec<KeptSegments>, branch: u32, mut heads: Vec<Arc<Segment>>)
     requires count { length heads.items ≡ length segments.old.items }
     requires room { (r : ℕ) → r < length segments.old.items → length (list_at segments.old.items r) < (get_or segments.old.items r no_list).room }
     ensures count { length segments.new.items ≡ length segments.old.items }
@@ -85,7 +82,7 @@ fn add_heads(segments: &mut Vec<KeptSegments>, branch: u32, mut heads: Vec<Arc<S
 }
 
 // Gives a branch another head, if that is ready.
-fn turn_if(
+pub(crate) fn turn_if(
     lanes: &mut Vec<HybridLane>,
     segments: &mut Vec<KeptSegments>,
     branch: u32,
@@ -103,30 +100,5 @@ fn turn_if(
             turn_lists(segments, &lanes[branch as usize], branch, heads);
             lanes[branch as usize].turn(more, head);
         }
-    }
-}
-
-impl HybridStore {
-    ghost use Rattle.hybrid_store.specs.Store.{state_of, spare_of};
-    ghost use Rattle.hybrid_store.specs.Prepared.{PreparesBranch};
-
-    /// Adds the branch. It takes no memory. Commits that were prepared before serve no more.
-    pub fn install_branch(&mut self, prepared: HybridPreparedBranch)
-        requires { (e : Entry) × PreparesBranch prepared (state_of self.old) e }
-        ensures grown { (e : Entry) → PreparesBranch prepared (state_of self.old) e → state_of self.new ≡ grow (state_of self.old) e }
-        ensures spare { spare_of self.new ≤ spare_of self.old }
-    {
-        let HybridPreparedBranch {
-            origin,
-            lane,
-            heads,
-            turned,
-        } = prepared;
-        let number = self.lanes.len() as u32;
-        turn_if(&mut self.lanes, &mut self.segments, origin, turned);
-        add_heads(&mut self.segments, number, heads);
-        self.names.add(lane.name(), number);
-        self.lanes.push_reserved(lane);
-        self.spare = 0;
     }
 }

@@ -1,18 +1,19 @@
 //! A store that keeps a dataset as a layout: records in segments that branches share, and for each
 //! branch rows of bits over them.
 //!
-//! The layer above relies on one equation: the state of a `HybridStore` is its layout (`state_of` in
-//! `specs/Store.antt`), which begins as the new one and grows by each commit that `install` adds.
+//! The layer above relies on two facts: `HybridStore` is a `Store` of `db_store`, and its state is the layout
+//! that it keeps (`state_of` in `specs/Store.antt`), which begins as the new one.
 //!
 //! | file | has |
 //! |---|---|
 //! | `specs/Lanes.antt`, `specs/Store.antt` | what it keeps, and the layout of it |
 //! | `specs/Stored.antt` | what holds of what it keeps |
 //! | `src/store.rt`, `src/new.rt` | the store, and a new one |
-//! | `specs/Ready.antt`, `src/commit.rt` | a commit that is made ready |
-//! | `src/install.rt` | the room that it needs, and adding it |
-//! | `specs/Begun.antt`, `specs/ReadyBranch.antt`, `src/install_branch.rt` | adding a new branch that is ready |
-//! | `src/same.rt` | a second store of the same state |
+//! | `specs/Ready.antt`, `src/commit.rt`, `src/install.rt` | a commit that is made ready, and the room that it needs |
+//! | `specs/ReadyRules.antt`, `specs/LastsRules.antt` | it serves on after commits on other branches |
+//! | `specs/Begun.antt`, `specs/ReadyBranch.antt`, `src/prepare_branch.rt`, `src/install_branch.rt` | a new branch that is made ready |
+//! | `specs/Sees.antt`, `src/view.rt` | the views of versions |
+//! | `src/same.rt` | the branches of a second store of the same state |
 #![tactic(auto)]
 
 mod begin;
@@ -23,6 +24,7 @@ mod new;
 mod prepare_branch;
 mod same;
 mod store;
+mod view;
 
 pub use commit::HybridPrepared;
 pub use install_branch::HybridPreparedBranch;

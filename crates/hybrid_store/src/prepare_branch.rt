@@ -1,5 +1,5 @@
 //! A new branch that is made ready.
-ghost use Rattle.std.specs.Prelude.{◌≡◌, ℕ, ◌<◌, cond, true, length, map, IfOk};
+ghost use Rattle.std.specs.Prelude.{◌≡◌, true, map, IfOk};
 ghost use Rattle.std.specs.Arc.{arc_value};
 ghost use Rattle.std.proofs.Common.{get_or};
 ghost use Rattle.db_value.specs.declared.entry.Entry.TheVariants.{Branch as NewBranch};
@@ -13,19 +13,12 @@ ghost use Rattle.hybrid_store.specs.Stored.{IsSeen};
 use crate::install_branch::{HybridPreparedBranch, Turned};
 use crate::new::new_heads;
 use crate::store::HybridStore;
-use bit_rows::HybridLane;
+use bit_rows::{HybridLane, more_of};
 use db_value::{Name, VersionPlace};
 use hybrid_view::HybridView;
 use segment::Segment;
 use std::alloc::AllocError;
 use std::sync::Arc;
-
-// How many heads come before that of a new branch.
-fn more_of(at_head: bool) -> u32
-    ensures { result ≡ cond at_head 1 0 }
-{
-    if at_head { 1 } else { 0 }
-}
 
 impl HybridStore {
     ghost use Rattle.hybrid_store.specs.Store.{layout_of, dataset_in, state_of};
@@ -109,20 +102,5 @@ impl HybridStore {
             heads,
             turned,
         })
-    }
-
-    /// Takes all the memory that a new branch of the last version of a branch needs.
-    pub fn prepare_branch_of_head(
-        &self,
-        name: Name,
-        origin: VersionPlace,
-    ) -> Result<HybridPreparedBranch, AllocError>
-        requires fits { fits (dataset_in self.now) (NewBranch name origin) ≡ true }
-        requires last { is_last (layout_of self.now) origin ≡ true }
-        ensures { IfOk result (λ p. PreparesBranch p (state_of self.now) (NewBranch name origin)) }
-    {
-        let view = self.lane(origin.branch).view();
-        let prepared = self.begin_of(name, origin, view, true)?;
-        Ok(prepared)
     }
 }

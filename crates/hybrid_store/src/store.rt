@@ -1,18 +1,18 @@
 //! The store.
-ghost use Rattle.std.specs.Prelude.{◌≡◌, ◌<◌, ◌≤◌, ◌+◌, ◌^◌, ◌&&◌, nat_lt, length, IfOk, IfSome, vec_len, vec_capacity};
+ghost use Rattle.std.specs.Prelude.{◌≡◌, ◌<◌, ◌≤◌, ◌+◌, ◌^◌, ◌&&◌, nat_lt, length, map, IfOk, IfSome, vec_len, vec_capacity};
 ghost use Rattle.std.specs.FinMap.{len};
 ghost use Rattle.std.specs.List.{All};
 ghost use Rattle.std.specs.Arc.{arc_value};
 ghost use Rattle.std.proofs.Common.{get_or};
 ghost use Rattle.db_value.specs.declared.entry.Entry.TheVariants.{Commit};
 ghost use Rattle.db_value.specs.Schema.{most_relations};
-ghost use Rattle.db_store.specs.Dataset.{branch_at, branch_named, version_at, head_of, last_of, proper, proper_if, first_parent, second_parent, is_made, IsMade};
+ghost use Rattle.db_store.specs.Dataset.{branch_at, version_at, head_of, proper, proper_if, is_made, IsMade};
 ghost use Rattle.db_store.specs.Fits.{fits, second_fits, most_branches, most_versions};
 ghost use Rattle.db_store.specs.Sound.{IsSound};
 ghost use Rattle.db_store.specs.Counted.{IsCounted};
 ghost use Rattle.db_store.specs.Layout.{new_layout};
 ghost use Rattle.db_store.specs.LaidOut.{IsLaid};
-ghost use Rattle.db_store.specs.Order.{common, numbers_if, number_of, lineage, IsOrdered};
+ghost use Rattle.db_store.specs.Order.{numbers_if, number_of, lineage, IsOrdered};
 ghost use Rattle.db_store.specs.Parts.{AreOf};
 ghost use Rattle.db_store.specs.State.{laid};
 ghost use Rattle.hybrid_view.specs.Live.{table_of, parts_in, lived_at};
@@ -20,15 +20,24 @@ ghost use Rattle.store_catalogue.specs.Numbers.{list_if};
 ghost use Rattle.store_catalogue.specs.ByName.{AreNumbers};
 ghost use Rattle.bit_rows.specs.Kept.{no_kept};
 ghost use Rattle.hybrid_store.specs.Lanes.{kept_layout};
+ghost use Rattle.hybrid_store.specs.Ready.{IsReady};
+ghost use Rattle.hybrid_store.specs.ReadyBranch.{IsReadyBranch};
 ghost use Rattle.hybrid_store.specs.Stored.{kept_dataset, IsStored, HasRoom};
 
+use crate::commit::HybridPrepared;
+use crate::install::put_records;
+use crate::install_branch::{HybridPreparedBranch, add_heads, turn_if};
 use crate::new::{ROOT, new_heads, new_lane, new_segments};
-use bit_rows::{HybridLane, KeptSegments};
-use db_store::Parents;
-use db_value::{Change, Entry, Name, Schema, VersionPlace};
+use crate::same::same_lanes;
+use bit_rows::{HybridLane, KeptSegments, layout_lines, same_lists};
+use db_store::{Parents, Store};
+use db_value::{Change, Entry, LayoutLines, Name, Schema, VersionPlace};
 use hybrid_view::HybridView;
 use std::alloc::{AllocError, Global};
-use store_catalogue::{BranchNames, changes_fit, is_within, makes_version, new_graph, number_in};
+use store_catalogue::{
+    BranchNames, add_version, branch_of, changes_fit, changes_of, is_within, makes_version,
+    name_of, new_graph, number_in, origin_of, second_of,
+};
 use version_graph::Graph;
 
 /// The most branches.
@@ -68,7 +77,7 @@ pub struct HybridStore {
 
 #[tactic(auto, using(crate::proofs::StoredLemmas::kept_count, crate::proofs::StoredLemmas::kept_name, crate::proofs::StoredLemmas::kept_base, crate::proofs::StoredLemmas::kept_versions, crate::proofs::StoredLemmas::kept_second))]
 impl HybridStore {
-    ghost use Rattle.hybrid_store.specs.Store.{layout_of, dataset_in, state_of, spare_of};
+    ghost use Rattle.hybrid_store.specs.Store.{dataset_in, state_of, spare_of};
 
     /// A store of the new dataset of a schema: master alone, with an empty head in each relation.
     pub fn new(alloc: Global, schema: Schema) -> Result<HybridStore, AllocError>
@@ -118,43 +127,6 @@ impl HybridStore {
         ensures { result ≡ length self.now.schema }
     {
         self.segments.len() as u8
-    }
-
-    /// The schema.
-    pub fn schema(&self) -> &Schema
-        ensures { result.now ≡ (dataset_in self.now).schema }
-    {
-        &self.schema
-    }
-
-    /// How many branches there are.
-    pub fn branches(&self) -> u32
-        ensures { result ≡ length (dataset_in self.now).branches }
-    {
-        self.lanes.len() as u32
-    }
-
-    /// The branch with a name, numbered from 0 in the order made.
-    pub fn branch(&self, name: &Name) -> Option<u32>
-        ensures { result ≡ branch_named (dataset_in self.now) name.now }
-    {
-        self.names.number(name)
-    }
-
-    /// The name of a branch.
-    pub fn branch_name(&self, branch: u32) -> Name
-        requires { branch < length (dataset_in self.now).branches }
-        ensures { result ≡ (branch_at (dataset_in self.now) branch).name }
-    {
-        self.lane(branch).name()
-    }
-
-    /// The last position of a branch.
-    pub fn last(&self, branch: u32) -> u32
-        requires { branch < length (dataset_in self.now).branches }
-        ensures { result ≡ last_of (dataset_in self.now) branch }
-    {
-        (self.lane(branch).count() - 1) as u32
     }
 
     /// Is the place made?
@@ -224,17 +196,6 @@ impl HybridStore {
         }
     }
 
-    /// Of the versions that are ancestors of those at both places, the one made last.
-    pub fn common(&self, a: VersionPlace, b: VersionPlace) -> Result<VersionPlace, AllocError>
-        requires a_made { IsMade (dataset_in self.now) a }
-        requires b_made { IsMade (dataset_in self.now) b }
-        ensures common { IfOk result (λ c. c ≡ common (dataset_in self.now) a b) }
-        ensures made { IfOk result (λ c. IsMade (dataset_in self.now) c) }
-    {
-        let last = self.graph.common(self.number(a), self.number(b))?;
-        Ok(self.order[last as usize])
-    }
-
     // The view of a branch's last version.
     fn head(&self, branch: u32) -> &HybridView
         requires { branch < length self.now.lanes.items }
@@ -263,24 +224,6 @@ impl HybridStore {
         is_within(self.head(branch).table(), self.width(), changes)
     }
 
-    /// Does the entry fit the dataset?
-    pub fn fits(&self, entry: &Entry) -> bool
-        ensures { result ≡ fits (dataset_in self.now) entry.now }
-    {
-        match entry {
-            Entry::Commit {
-                branch,
-                second,
-                changes,
-            } => self.commit_fits(*branch, second, changes.as_slice()),
-            Entry::Branch { name, origin } => {
-                self.names.number(name).is_none()
-                    && self.lanes.len() < MOST_BRANCHES
-                    && self.is_made(*origin)
-            }
-        }
-    }
-
     // The second parent of a version of a branch.
     fn second_of(&self, at: VersionPlace) -> Option<VersionPlace>
         requires { IsMade (dataset_in self.now) at }
@@ -288,13 +231,60 @@ impl HybridStore {
     {
         self.lane(at.branch).second(at.position as usize)
     }
+}
 
-    /// The parents of the version at a made place, by their proper names.
-    pub fn parents(&self, at: VersionPlace) -> Parents
-        requires { IsMade (dataset_in self.now) at }
-        ensures first { result.first ≡ first_parent (dataset_in self.now) (proper (dataset_in self.now) at) }
-        ensures second { result.second ≡ second_parent (dataset_in self.now) (proper (dataset_in self.now) at) }
-    {
+#[tactic(auto, using(crate::proofs::StoredLemmas::kept_count, crate::proofs::StoredLemmas::kept_name, crate::proofs::StoredLemmas::kept_base, crate::proofs::StoredLemmas::kept_versions, crate::proofs::StoredLemmas::kept_second))]
+impl Store for HybridStore {
+    ghost use Rattle.hybrid_store.specs.Store.{state_of, spare_of};
+    ghost use Rattle.hybrid_store.specs.LastsRules.{ready_lasts};
+
+    type View = HybridView;
+
+    type Prepared = HybridPrepared;
+
+    type PreparedBranch = HybridPreparedBranch;
+
+    ghost state = { state_of };
+
+    ghost spare = { spare_of };
+
+    ghost Prepares = { λ p s e. IsReady p.branch p.second p.deltas.items (arc_value p.head.table) (map arc_value p.records.items) s e };
+
+    ghost PreparesBranch = { λ p s e. IsReadyBranch p.origin p.lane (map arc_value p.heads.items) p.turned s e };
+
+    ghost lasts = { λ p s e f r apart. ready_lasts p.branch p.second p.deltas.items (arc_value p.head.table) (map arc_value p.records.items) s e f r apart };
+
+    ghost sound = { λ s. s.sound };
+
+    ghost ordered = { λ s. s.ordered };
+
+    ghost counted = { λ s. s.counted };
+
+    fn schema(&self) -> &Schema {
+        &self.schema
+    }
+
+    fn branches(&self) -> u32 {
+        self.lanes.len() as u32
+    }
+
+    fn branch(&self, name: &Name) -> Option<u32> {
+        self.names.number(name)
+    }
+
+    fn branch_name(&self, branch: u32) -> Name {
+        self.lane(branch).name()
+    }
+
+    fn last(&self, branch: u32) -> u32 {
+        (self.lane(branch).count() - 1) as u32
+    }
+
+    fn proper(&self, at: VersionPlace) -> VersionPlace {
+        self.made_at(at)
+    }
+
+    fn parents(&self, at: VersionPlace) -> Parents {
         let at = self.made_at(at);
         if at.position == 0 {
             return Parents {
@@ -312,13 +302,104 @@ impl HybridStore {
         }
     }
 
-    /// The table of the last position of a branch. It is one link.
-    pub fn head_view(&self, branch: u32) -> Result<HybridView, AllocError>
-        requires { branch < length (dataset_in self.now).branches }
-        ensures table { IfOk result (λ v. table_of (arc_value v.table) ≡ head_of (dataset_in self.now) branch) }
-        ensures wide { IfOk result (λ v. length (table_of (arc_value v.table)) ≡ length (dataset_in self.now).schema) }
-        ensures parts { IfOk result (λ v. AreOf (state_of self.now) (λ r. parts_in (lived_at (arc_value v.table) r))) }
-    {
-        self.head(branch).share()
+    fn common(&self, a: VersionPlace, b: VersionPlace) -> Result<VersionPlace, AllocError> {
+        let last = self.graph.common(self.number(a), self.number(b))?;
+        Ok(self.order[last as usize])
+    }
+
+    fn fits(&self, entry: &Entry) -> bool {
+        match entry {
+            Entry::Commit {
+                branch,
+                second,
+                changes,
+            } => self.commit_fits(*branch, second, changes.as_slice()),
+            Entry::Branch { name, origin } => {
+                self.names.number(name).is_none()
+                    && self.lanes.len() < MOST_BRANCHES
+                    && self.is_made(*origin)
+            }
+        }
+    }
+
+    fn view(&self, at: VersionPlace) -> Result<HybridView, AllocError> {
+        let view = self.view_at(at)?;
+        Ok(view)
+    }
+
+    fn layout_report(&self) -> Result<LayoutLines, AllocError> {
+        let lines = layout_lines(self.alloc, &self.schema, &self.lanes, &self.segments)?;
+        Ok(lines)
+    }
+
+    fn duplicate(&self) -> Result<HybridStore, AllocError> {
+        let schema = self.schema.duplicate()?;
+        let lanes = same_lanes(self.alloc, &self.lanes)?;
+        let segments = same_lists(self.alloc, &self.segments)?;
+        let names = self.names.duplicate(self.alloc, MOST_BRANCHES)?;
+        let order = Vec::from_slice(self.alloc, &self.order)?;
+        let graph = self.graph.duplicate()?;
+        Ok(HybridStore {
+            alloc: self.alloc,
+            schema,
+            lanes,
+            segments,
+            names,
+            order,
+            graph,
+            spare: 0,
+        })
+    }
+
+    fn prepare(&mut self, entry: &Entry) -> Result<HybridPrepared, AllocError> {
+        let prepared = self.prepare_commit(branch_of(entry), second_of(entry), changes_of(entry))?;
+        self.raise()?;
+        Ok(prepared)
+    }
+
+    fn install(&mut self, prepared: HybridPrepared) {
+        let HybridPrepared {
+            branch,
+            second,
+            deltas,
+            head,
+            records,
+        } = prepared;
+        let position = self.lane(branch).count() as u32;
+        let place = VersionPlace { branch, position };
+        let first = self.number(VersionPlace {
+            branch,
+            position: position - 1,
+        });
+        let other = self.number_if(second);
+        add_version(&mut self.graph, first, other);
+        put_records(&mut self.segments, &self.lanes[branch as usize], records);
+        self.lanes[branch as usize].push(second, deltas, head);
+        self.order.push_reserved(place);
+        self.spare -= 1;
+    }
+
+    fn prepare_branch(&mut self, entry: &Entry) -> Result<HybridPreparedBranch, AllocError> {
+        let name = name_of(entry);
+        let origin = origin_of(entry);
+        let view = self.view_at(origin)?;
+        let at_head = self.is_last(origin);
+        let prepared = self.begin_of(name, origin, &view, at_head)?;
+        Ok(prepared)
+    }
+
+    fn install_branch(&mut self, prepared: HybridPreparedBranch) {
+        let HybridPreparedBranch {
+            origin,
+            lane,
+            heads,
+            turned,
+        } = prepared;
+        let number = self.lanes.len() as u32;
+        turn_if(&mut self.lanes, &mut self.segments, origin, turned);
+        add_heads(&mut self.segments, number, heads);
+        self.names.add(lane.name(), number);
+        self.lanes.push_reserved(lane);
+        self.spare = 0;
     }
 }

@@ -27,7 +27,7 @@ use Rattle.hybrid_store.specs.Stored.{head_of_lane, kept_dataset, HasRoom}
 use Rattle.hybrid_store.specs.Store.{layout_of, dataset_in}
 use Rattle.hybrid_store.proofs.AddedLemmas.{parts, ready_there, ready_second, last_place, last_made, numbers_added, lineage_added, layout_added, state_added, dataset_added, stored_added, room_after, less_room}
 use Rattle.hybrid_store.proofs.GrownLemmas.{head_there, rows_some, ready_count, ready_counts, ready_each}
-use Rattle.hybrid_store.proofs.store.HybridStore.install.Goals as goal
+use Rattle.hybrid_store.proofs.store.HybridStoreStore.install.Goals as goal
 
 pub lane-requires : goal.lane-requires
 lane-requires c =

@@ -16,7 +16,7 @@ use Rattle.bit_rows.specs.Segments.{KeptList, all_of}
 use Rattle.hybrid_store.specs.Stored.{kept_dataset, IsStored, roomless}
 use Rattle.hybrid_store.specs.Store.{layout_of, dataset_in}
 use Rattle.hybrid_store.proofs.SameLemmas.{same_count, layout_same, stored_same}
-use Rattle.hybrid_store.proofs.store.HybridStore.duplicate.Goals as goal
+use Rattle.hybrid_store.proofs.store.HybridStoreStore.duplicate.Goals as goal
 
 pub invariant_of-result : goal.invariant_of-result
 invariant_of-result c =

@@ -27,7 +27,7 @@ use Rattle.hybrid_store.specs.Stored.{kept_dataset, HasRoom, IsStored}
 use Rattle.hybrid_store.specs.Store.{layout_of, dataset_in}
 use Rattle.hybrid_store.proofs.AddedLemmas.{less_room}
 use Rattle.hybrid_store.proofs.AddedBranch.{parts, lanes_few, from_there, takes, name_new, heads_count, heads_room, news_count, branch_is_stored, branch_layout_is, branch_state, branch_dataset, branch_numbers, branch_lineage, rooms_after}
-use Rattle.hybrid_store.proofs.store.HybridStore.install_branch.Goals as goal
+use Rattle.hybrid_store.proofs.store.HybridStoreStore.install_branch.Goals as goal
 
 pub turn_if-requires-clause-there : goal.turn_if-requires-clause-there
 turn_if-requires-clause-there c =

@@ -6,7 +6,7 @@ use Rattle.db_store.specs.Fits.{fits}
 use Rattle.hybrid_store.specs.Store.{dataset_in, state_of}
 use Rattle.hybrid_store.specs.Ready.{IsReady}
 use Rattle.hybrid_store.proofs.ReadyParts.{commit_is}
-use Rattle.hybrid_store.proofs.store.HybridStore.prepare.Goals as goal
+use Rattle.hybrid_store.proofs.store.HybridStoreStore.prepare.Goals as goal
 
 pub prepare_commit-requires : goal.prepare_commit-requires
 prepare_commit-requires c =

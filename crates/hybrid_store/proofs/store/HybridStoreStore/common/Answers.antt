@@ -6,7 +6,7 @@ use Rattle.db_store.specs.Dataset.{Dataset, root, IsMade}
 use Rattle.db_store.specs.Order.{lineage, number_of}
 use Rattle.db_store.proofs.OrderMade.{number_reaches, common_there, common_made}
 use Rattle.hybrid_store.specs.Store.{dataset_in}
-use Rattle.hybrid_store.proofs.store.HybridStore.common.Goals as goal
+use Rattle.hybrid_store.proofs.store.HybridStoreStore.common.Goals as goal
 
 pub common-requires-clause-a_descends : goal.common-requires-clause-a_descends
 common-requires-clause-a_descends c =

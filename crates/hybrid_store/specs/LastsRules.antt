@@ -18,7 +18,7 @@ use Rattle.commit_history.specs.Runs.{Next}
 use Rattle.db_value.specs.Relations.{columns_at}
 use Rattle.bit_rows.specs.Kept.{nexts_at}
 use Rattle.hybrid_store.specs.Ready.{IsMadeAt, IsMadeOf, IsNextOf, IsReady, no_own}
-use Rattle.hybrid_store.proofs.ReadyLemmas.{made_lasts}
+use Rattle.hybrid_store.specs.ReadyRules.{made_lasts}
 
 made_on : (l : Layout) (c d : ℕ) (second third : Option VersionPlace) (cs others : List Change) (b : ℕ) (v : Option VersionPlace) (nexts : List (List Next)) (head : List Lived) (owns : List Rows) → c ≢ d → IsMadeOf l c second cs b v nexts head owns → IsMadeOf (after_commit l d third others) c second cs b v nexts head owns
 made_on l c d second third cs others b v nexts head owns n m = record {
