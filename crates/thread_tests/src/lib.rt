@@ -1,0 +1,5 @@
+//! Tests of what threads share. Nothing here is called.
+#![tactic(auto)]
+
+#[cfg(test)]
+mod history_note_tests;
