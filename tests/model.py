@@ -20,7 +20,7 @@ STAGES = {
     "merges": "merge, graph",
     "segments": "segments",
 }
-BUILT = ("sessions", "questions", "merges")
+BUILT = ("sessions", "questions", "merges", "segments")
 
 BRANCHES, VERSIONS, KEYS, TOUCHED, ROOM = 1024, 65536, 262144, 65536, 1024
 CATALOGUE = b"catalogue"  # the lock on the list of branches; that of a branch is its name

@@ -15,7 +15,7 @@ use Rattle.db_value.specs.declared.reply.Refusal.{Refusal}
 use Rattle.db_value.specs.declared.reply.Refusal.TheVariants.{Line, InTransaction, NoTransaction, NotFirst}
 use Rattle.db_store.specs.Dataset.{Dataset}
 use Rattle.stmt_text.specs.declared.stmt.Stmt.{Stmt}
-use Rattle.stmt_text.specs.declared.stmt.Stmt.TheVariants.{Begin, Commit, Abort, On, LogOf, Graph, Branch, Merge, Insert, Update, Delete, Get, Scan, Join, Minus}
+use Rattle.stmt_text.specs.declared.stmt.Stmt.TheVariants.{Begin, Commit, Abort, On, LogOf, Graph, Segments, Branch, Merge, Insert, Update, Delete, Get, Scan, Join, Minus}
 use Rattle.stmt_text.specs.declared.stmt.NamedSet.{NamedSet}
 use Rattle.stmt_text.specs.declared.stmt.ScanOver.{ScanOver}
 use Rattle.stmt_text.specs.declared.stmt.ScanOver.TheVariants.{Current, Named, Heads}
@@ -156,6 +156,7 @@ module _ {W : Type 0} (k : Keeping W) where
   early_refused d b tx (On name) e = outside_early tx tx.begun _ e
   early_refused d b tx (LogOf name) e = absurd cc
   early_refused d b tx Graph e = absurd cc
+  early_refused d b tx Segments e = absurd cc
   early_refused d b tx (Branch name origin) e = outside_early tx tx.begun _ e
   early_refused d b tx (Merge name prefer) e = told_early d b tx _ _ (first_early tx (has_changed k tx) _ e)
   early_refused d b tx (Insert name key fields) e = told_early d b tx _ _ (insert_early (ground_of d b) tx name key fields (relation_named d.schema name) e)
@@ -175,6 +176,7 @@ module _ {W : Type 0} (k : Keeping W) where
   act_early g sources heads tx changed (On name) e = refl
   act_early g sources heads tx changed (LogOf name) e = absurd cc
   act_early g sources heads tx changed Graph e = absurd cc
+  act_early g sources heads tx changed Segments e = absurd cc
   act_early g sources heads tx changed (Branch name origin) e = refl
   act_early g sources heads tx changed (Merge name prefer) e = first_refused tx changed e
   act_early g sources heads tx changed (Insert name key fields) e = insert_early g tx name key fields (relation_named g.schema name) e

@@ -16,7 +16,7 @@ use Rattle.db_store.specs.Sound.{IsSound}
 use Rattle.db_store.proofs.SoundLemmas.{sound_stays}
 use Rattle.db_store.proofs.OrderMade.{common_made, ordered_stays}
 use Rattle.stmt_text.specs.declared.stmt.Stmt.{Stmt}
-use Rattle.stmt_text.specs.declared.stmt.Stmt.TheVariants.{Begin, Commit, Abort, On, LogOf, Graph, Branch, Merge, Insert, Update, Delete, Get, Scan, Join, Minus}
+use Rattle.stmt_text.specs.declared.stmt.Stmt.TheVariants.{Begin, Commit, Abort, On, LogOf, Graph, Segments, Branch, Merge, Insert, Update, Delete, Get, Scan, Join, Minus}
 use Rattle.stmt_text.specs.declared.stmt.ScanOver.{ScanOver}
 use Rattle.branch_tx.specs.Keeping.{Keeping, over_table}
 use Rattle.db_store.specs.Found.{Found, found, lack, branch_names}
@@ -161,6 +161,7 @@ module _ (N : ℕ → Type 0) (s t : Dataset) (f : Frame N s t) (sound : IsSound
   late_stays tx (On name) h w = ap (λ (o : Outcome (List Overlay)). cond tx.begun (refused tx InTransaction) o) (on_stays tx name (branch_named s name) refl w)
   late_stays tx (LogOf name) h w = ap (answered tx) (log_same name (branch_named s name) refl w)
   late_stays tx Graph h w = ap (answered tx) (graph_stays N s t f sound w.0 (λ c l. branch_within N (length s.branches) c w.1 l))
+  late_stays tx Segments h w = refl
   late_stays tx (Merge name prefer) h w = merge_stays tx name prefer (branch_named s name) refl w
   late_stays tx (Branch name origin) h w = ap (λ (o : Outcome (List Overlay)). cond tx.begun (refused tx InTransaction) o) (branch_stays tx name origin w.0 w.1)
   late_stays tx (Insert name key fields) h w = act_stays tx (Insert name key fields) (λ u. source_of b (found s u)) (branch_names s) w.0
@@ -204,6 +205,7 @@ module _ (N : ℕ → Type 0) (s t : Dataset) (f : Frame N s t) (sound : IsSound
   late_needs (On name) w = on_same name (branch_named s name) refl w
   late_needs (LogOf name) w = log_needs_same name (branch_named s name) refl w
   late_needs Graph w = ap (λ n. shared catalogue ∷ branch_needs n) (f.count w.0)
+  late_needs Segments w = ap (λ n. shared catalogue ∷ branch_needs n) (f.count w.0)
   late_needs (Merge name prefer) w = merge_needs_same name (branch_named s name) refl w
   late_needs (Branch name origin) w = ap (λ (x : Found). exclusive catalogue ∷ found_needs x) (found_stays N s t f origin w.1)
   late_needs (Get name key at) w = source_same at w

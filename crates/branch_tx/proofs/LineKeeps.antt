@@ -9,7 +9,7 @@ use Rattle.db_store.proofs.OverlayLemmas.{count_untouched}
 use Rattle.lock_table.specs.declared.need.Need.{Need}
 use Rattle.lock_table.specs.Grants.{Has}
 use Rattle.stmt_text.specs.declared.stmt.Stmt.{Stmt}
-use Rattle.stmt_text.specs.declared.stmt.Stmt.TheVariants.{Begin, Commit, Abort, On, LogOf, Graph, Branch, Merge, Insert, Update, Delete, Get, Scan, Join, Minus}
+use Rattle.stmt_text.specs.declared.stmt.Stmt.TheVariants.{Begin, Commit, Abort, On, LogOf, Graph, Segments, Branch, Merge, Insert, Update, Delete, Get, Scan, Join, Minus}
 use Rattle.branch_tx.specs.Keeping.{Keeping, over_table}
 use Rattle.db_store.specs.Found.{branch_names, found, lack}
 use Rattle.branch_tx.specs.Found.{Source, source_of}
@@ -45,6 +45,7 @@ module _ (P : Tx (List Overlay) → Type 0) (d : Dataset) (b : ℕ) (tx : Tx (Li
   late_keeps (On name) change make = cond_keeps k P tx.begun _ _ h (on_keeps k P tx name (branch_named d name) h (moves name))
   late_keeps (LogOf name) change make = h
   late_keeps Graph change make = h
+  late_keeps Segments change make = h
   late_keeps (Branch name origin) change make = cond_keeps k P tx.begun _ _ h
       (branch_keeps k P tx name (place_in (found d origin)) (lack (found d origin)) (branch_named d name) (length d.branches) h
       (λ a c l. make (inl refl) name origin (record { origin = a; new = c; room = l })))

@@ -23,7 +23,7 @@ use Rattle.store_tx.proofs.KeepsLemmas.{left_is, more_tx}
 use Rattle.db_core.proofs.Answering.{there, keeps_tagged, reply_free, after_stay}
 use Rattle.db_core.proofs.Standing.{seated_of, roomy_line, agrees_bare}
 use Rattle.db_core.proofs.Serving.{stands_then, sits_then}
-use Rattle.db_core.proofs.Waiting.{covered_line, covered_keeps, covered_goes}
+use Rattle.db_core.proofs.Waiting.{covered_line, covered_keeps, covered_goes, covered_told}
 
 -- Where a session's open transaction was granted what a line needs, and covers the line, board and desk agree with that line counted as one of the steps.
 pub granted_counts : (b : Kept) (k : AtDesk) (g h : Granted) (x : Stmt) (text : List ℕ) (name : k.name ≡ (branch_at (dataset_of b.now) k.current).name) (schema : k.schema ≡ (dataset_of b.now).schema)
@@ -46,7 +46,8 @@ granted_counts b k g h x text name schema stands none opened sits listens free l
     let line_is : acted h x ≡ step_over d cur (tx_in g) x = covered_line d (tagged n ns w.rows) n cur h kept sound here x e ∙ ap (λ (t : Tx (List Overlay)). step_over d cur t x) (more_tx g h more) in
     let stay = after_stay w b.now b.rows n cur k.skipping (Some g) seated x roomy listens free (covered_goes h x e) (left h x) (covered_keeps d (tagged n ns w.rows) n cur h kept sound here x e)
     (left_is h x ∙ ap (λ (o : Outcome (List Overlay)). o.tx) line_is) in
-    let told : (acted h x).reply ≡ told_now w n x false = ap (λ (o : Outcome (List Overlay)). o.reply) line_is ∙ sym (reply_free w b.now b.rows n cur k.skipping (Some g) seated x roomy listens free) in
+    let told : (acted h x).reply ≡ told_now w n x false = ap (λ (o : Outcome (List Overlay)). o.reply) line_is ∙ sym (covered_told b.now h x _ e)
+    ∙ sym (reply_free w b.now b.rows n cur k.skipping (Some g) seated x roomy listens free) in
     agrees_bare (record b { steps = b.steps ++ step_of text false (acted h x).reply ∷ []; rows = added n ns b.rows }) (record k { open_tx = Some (left h x) }) none
     (stands_then b n x text false (acted h x).reply stands line told _ _ _ _ _ _ stay (λ bad. absurd (cc bad)))
     (subst (λ (q : Bool). Sits (after (opening b.opening) (saids (b.steps ++ step_of text false (acted h x).reply ∷ []))) n cur q (Some (left h x))) (sym listens)

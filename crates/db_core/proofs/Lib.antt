@@ -10,6 +10,7 @@ pub mod Seating
 pub mod Answering
 pub mod Others
 pub mod Standing
+pub mod Telling
 pub mod Serving
 pub mod Logging
 pub mod Marked

@@ -42,5 +42,5 @@ refused_law w x later may is =
     let fails = fate_fails w x.session x.stmt x.failed is (may is) in (
       fails,
       refused (dataset_of w.state) (fate w x)
-          (reply_at (replies_alone (dataset_of (until w x.session (x ∷ later))) (w.desks x.session).current (all_lines w x.session (x ∷ later))) (length (w.desks x.session).lines)) fails,
+          (reply_at (replies_alone (until w x.session (x ∷ later)) (w.desks x.session).current (all_lines w x.session (x ∷ later))) (length (w.desks x.session).lines)) fails,
     )

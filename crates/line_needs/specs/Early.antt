@@ -9,7 +9,7 @@ use Rattle.db_value.specs.declared.condition.Term.{Term}
 use Rattle.db_value.specs.declared.reply.Refusal.{Refusal}
 use Rattle.db_value.specs.declared.reply.Refusal.TheVariants.{Line, NoRelation, NoColumn, InTransaction, NoTransaction, NotFirst, ValueCount}
 use Rattle.stmt_text.specs.declared.stmt.Stmt.{Stmt}
-use Rattle.stmt_text.specs.declared.stmt.Stmt.TheVariants.{Begin, Commit, Abort, On, LogOf, Graph, Branch, Merge, Insert, Update, Delete, Get, Scan, Join, Minus}
+use Rattle.stmt_text.specs.declared.stmt.Stmt.TheVariants.{Begin, Commit, Abort, On, LogOf, Graph, Segments, Branch, Merge, Insert, Update, Delete, Get, Scan, Join, Minus}
 use Rattle.stmt_text.specs.declared.stmt.NamedSet.{NamedSet}
 use Rattle.line_needs.specs.Columns.{relation_named, resolved}
 
@@ -72,6 +72,7 @@ early_refusal schema begun changed Abort = inside_refusal begun
 early_refusal schema begun changed (On name) = outside_refusal begun
 early_refusal schema begun changed (LogOf name) = None
 early_refusal schema begun changed Graph = None
+early_refusal schema begun changed Segments = None
 early_refusal schema begun changed (Branch name origin) = outside_refusal begun
 early_refusal schema begun changed (Merge name prefer) = first_refusal changed
 early_refusal schema begun changed (Insert name key fields) = count_refusal schema name fields (relation_named schema name)

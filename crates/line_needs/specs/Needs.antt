@@ -4,7 +4,7 @@ use Rattle.db_value.specs.declared.version.VersionName.{VersionName}
 use Rattle.db_store.specs.Dataset.{Dataset, branch_named}
 use Rattle.lock_table.specs.declared.need.Need.{Need}
 use Rattle.stmt_text.specs.declared.stmt.Stmt.{Stmt}
-use Rattle.stmt_text.specs.declared.stmt.Stmt.TheVariants.{On, LogOf, Graph, Branch, Merge, Insert, Update, Delete, Get, Scan, Join, Minus}
+use Rattle.stmt_text.specs.declared.stmt.Stmt.TheVariants.{On, LogOf, Graph, Segments, Branch, Merge, Insert, Update, Delete, Get, Scan, Join, Minus}
 use Rattle.stmt_text.specs.declared.stmt.ScanOver.{ScanOver}
 use Rattle.stmt_text.specs.declared.stmt.ScanOver.TheVariants.{Current, Named, Heads}
 use Rattle.db_store.specs.Found.{Found, NoBranch, NoPosition, Head, Fixed, found}
@@ -80,6 +80,7 @@ abbrev pub stmt_needs : Dataset → ℕ → Stmt → List Need
 stmt_needs d b (On name) = on_needs (branch_named d name)
 stmt_needs d b (LogOf name) = log_needs (branch_named d name)
 stmt_needs d b Graph = all_needs d
+stmt_needs d b Segments = all_needs d
 stmt_needs d b (Branch name origin) = exclusive catalogue ∷ found_needs (found d origin)
 stmt_needs d b (Merge name prefer) = merge_needs b (branch_named d name)
 stmt_needs d b (Insert name key fields) = exclusive (lock_of b) ∷ []

@@ -161,6 +161,7 @@ pub fn early_refusal(schema: &Schema, begun: bool, changed: bool, stmt: &Stmt) -
         Stmt::On { .. } => outside_refusal(begun),
         Stmt::LogOf { .. } => None,
         Stmt::Graph => None,
+        Stmt::Segments => None,
         Stmt::Branch { .. } => outside_refusal(begun),
         Stmt::Merge { .. } => first_refusal(changed),
         Stmt::Insert {

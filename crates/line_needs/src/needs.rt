@@ -226,6 +226,7 @@ fn push_stmt<St: Store>(
         Stmt::On { branch: name } => push_on(store, name, needs),
         Stmt::LogOf { branch: name } => push_log(store, name, needs),
         Stmt::Graph => push_heads(store, needs),
+        Stmt::Segments => push_heads(store, needs),
         Stmt::Branch { origin, .. } => push_branch(store, origin, needs),
         Stmt::Merge { branch: name, .. } => push_merge(store, branch, name, needs),
         Stmt::Insert { .. } => push_exclusive(needs, branch + 1),

@@ -24,7 +24,7 @@ use Rattle.db_store.specs.Fits.{fits, most_branches}
 use Rattle.db_store.proofs.OverlayLemmas.{count_touch, count_untouched}
 use Rattle.db_store.proofs.StateLemmas.{few_relations}
 use Rattle.stmt_text.specs.declared.stmt.Stmt.{Stmt}
-use Rattle.stmt_text.specs.declared.stmt.Stmt.TheVariants.{Begin, Commit, Abort, On, LogOf, Graph, Branch, Merge}
+use Rattle.stmt_text.specs.declared.stmt.Stmt.TheVariants.{Begin, Commit, Abort, On, LogOf, Graph, Segments, Branch, Merge}
 use Rattle.branch_tx.specs.Keeping.{over_table}
 use Rattle.db_store.specs.Found.{found, lack, branch_names}
 use Rattle.branch_tx.specs.Found.{source_of}
@@ -56,6 +56,7 @@ own_step d b Abort a = absurd a
 own_step d b (On name) a = absurd a
 own_step d b (LogOf name) a = absurd a
 own_step d b Graph a = absurd a
+own_step d b Segments a = absurd a
 own_step d b (Branch name origin) a = absurd a
 own_step d b _ a = refl
 
@@ -215,6 +216,9 @@ quiet_log d b x name e = quiet d b (LogOf name) none_yet refl refl refl ∙ ap (
 pub quiet_graph : (d : Dataset) (b : ℕ) (x : Stmt) → x ≡ Graph → None ≡ entry_over d b x (step_out d b x).tx
 quiet_graph d b x e = quiet d b Graph none_yet refl refl refl ∙ ap (λ y. entry_over d b y (step_out d b y).tx) (sym e)
 
+pub quiet_segments : (d : Dataset) (b : ℕ) (x : Stmt) → x ≡ Segments → None ≡ entry_over d b x (step_out d b x).tx
+quiet_segments d b x e = quiet d b Segments none_yet refl refl refl ∙ ap (λ y. entry_over d b y (step_out d b y).tx) (sym e)
+
 pub quiet_on : (d : Dataset) (b : ℕ) (x : Stmt) (name : List ℕ) → x ≡ On name → None ≡ entry_over d b x (step_out d b x).tx
 quiet_on d b x name e = by_name (branch_named d name) refl ∙ ap (λ y. entry_over d b y (step_out d b y).tx) (sym e)
   where
@@ -264,15 +268,16 @@ commit_named d b tx = by (nat_lt 0 (count_touched tx.work) || is_some tx.second)
     by false = tt
 
 -- a statement that is none of these acts
-pub acts : (x : Stmt) → ((room : Option ℕ) → x ≡ Begin room → ⊥) → (x ≡ Commit → ⊥) → (x ≡ Abort → ⊥) → ((name : List ℕ) → x ≡ On name → ⊥) → ((name : List ℕ) → x ≡ LogOf name → ⊥) → ((name : List ℕ) (origin : VersionName) → x ≡ Branch name origin → ⊥) → (x ≡ Graph → ⊥) → IsWork x
-acts (Begin room) a b c d e f g = absurd (a room refl)
-acts Commit a b c d e f g = absurd (b refl)
-acts Abort a b c d e f g = absurd (c refl)
-acts (On name) a b c d e f g = absurd (d name refl)
-acts (LogOf name) a b c d e f g = absurd (e name refl)
-acts Graph a b c d e f g = absurd (g refl)
-acts (Branch name origin) a b c d e f g = absurd (f name origin refl)
-acts _ a b c d e f g = tt
+pub acts : (x : Stmt) → ((room : Option ℕ) → x ≡ Begin room → ⊥) → (x ≡ Commit → ⊥) → (x ≡ Abort → ⊥) → ((name : List ℕ) → x ≡ On name → ⊥) → ((name : List ℕ) → x ≡ LogOf name → ⊥) → ((name : List ℕ) (origin : VersionName) → x ≡ Branch name origin → ⊥) → (x ≡ Graph → ⊥) → (x ≡ Segments → ⊥) → IsWork x
+acts (Begin room) a b c d e f g h = absurd (a room refl)
+acts Commit a b c d e f g h = absurd (b refl)
+acts Abort a b c d e f g h = absurd (c refl)
+acts (On name) a b c d e f g h = absurd (d name refl)
+acts (LogOf name) a b c d e f g h = absurd (e name refl)
+acts Graph a b c d e f g h = absurd (g refl)
+acts Segments a b c d e f g h = absurd (h refl)
+acts (Branch name origin) a b c d e f g h = absurd (f name origin refl)
+acts _ a b c d e f g h = tt
 
 -- what begins no transaction is no `begin`
 pub no_begin : (x : Stmt) → is_begin x ≡ false → (room : Option ℕ) → x ≡ Begin room → ⊥

@@ -26,7 +26,7 @@ use Rattle.lock_table.specs.Rows.{Row}
 use Rattle.stmt_text.specs.declared.stmt.ScanOver.{ScanOver}
 use Rattle.stmt_text.specs.declared.stmt.ScanOver.TheVariants.{Current, Heads, Named}
 use Rattle.stmt_text.specs.declared.stmt.Stmt.{Stmt}
-use Rattle.stmt_text.specs.declared.stmt.Stmt.TheVariants.{Abort, Begin, Branch, Commit, Graph, LogOf, Merge, On}
+use Rattle.stmt_text.specs.declared.stmt.Stmt.TheVariants.{Abort, Begin, Branch, Commit, Graph, LogOf, Merge, On, Segments}
 
 -- a statement that reads or changes records, or merges
 abbrev pub act_over : Dataset → ℕ → Tx (List Overlay) → Stmt → Outcome (List Overlay)
@@ -41,6 +41,7 @@ IsAct Abort = ⊥
 IsAct (On name) = ⊥
 IsAct (LogOf name) = ⊥
 IsAct Graph = ⊥
+IsAct Segments = ⊥
 IsAct (Branch name origin) = ⊥
 IsAct (Merge name prefer) = ⊥
 IsAct _ = Unit {0}

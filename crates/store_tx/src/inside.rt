@@ -10,7 +10,7 @@ ghost use Rattle.line_needs.specs.Needs.{lock_of, exclusive, needs};
 ghost use Rattle.store_tx.specs.Keeps.{HasNeeds, IsBack, IsMore, needs_in};
 
 use crate::granting::{grant, grant_head, head_place};
-use crate::twice::{Twice, copied, refusal, refused};
+use crate::twice::{Twice, copied, done, refusal, refused};
 use branch_tx::Tx;
 use db_store::Store;
 use db_value::{Name, Prefer, Refusal, Reply};
@@ -188,6 +188,7 @@ fn work_or_back<St: Store>(
 }
 
 /// Answers a statement in an open transaction, which goes on. Want of memory leaves the transaction.
+/// `segments` is told of the layout by the caller.
 pub fn go_on<St: Store>(
     alloc: Global,
     store: &St,
@@ -216,6 +217,7 @@ pub fn go_on<St: Store>(
             let reply = graph(alloc, store)?;
             copied(reply)
         }
+        Stmt::Segments => Ok(done()),
         _ => {
             let answer = work_or_back(store, tx, branch, stmt)?;
             Ok(answer)

@@ -152,7 +152,8 @@ fn move_to<St: Store>(store: &St, name: &Name) -> Plan
     }
 }
 
-/// What a statement is to do outside of a transaction, if it doesn't begin one.
+/// What a statement is to do outside of a transaction, if it doesn't begin one. `segments` is told of
+/// the layout by the caller.
 pub fn own<St: Store>(
     alloc: Global,
     store: &St,
@@ -181,6 +182,7 @@ pub fn own<St: Store>(
             let told = copied(graph(alloc, store)?)?;
             Ok(plain(told))
         }
+        Stmt::Segments => Ok(plain(done())),
         Stmt::Branch { name, origin } => Ok(branch_of(store, name, origin)),
         _ => {
             let plan = alone(alloc, store, current, stmt)?;
