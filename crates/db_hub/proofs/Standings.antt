@@ -1,0 +1,84 @@
+-- A board on which just some steps were run, and a desk that agrees with it.
+use Rattle.std.proofs.Common.{◌≡◌, inl, ℕ, List, [], ◌∷◌, ◌++◌, map, refl, sym, ap, ◌∙◌, subst, append-nil}
+use Rattle.std.proofs.lemmas.List.{map-append}
+use Rattle.std.proofs.lemmas.Bool.{false≢true}
+use Rattle.std.specs.Prelude.{IfSome, Option, Some, None, Bool, true, is_some}
+use Rattle.db_store.specs.Dataset.{Dataset}
+use Rattle.lock_table.specs.Rows.{Row}
+use Rattle.stmt_text.specs.declared.stmt.Stmt.{Stmt}
+use Rattle.branch_tx.specs.Granted.{Granted}
+use Rattle.store_tx.specs.Ends.{is_open}
+use Rattle.db_core.specs.Sits.{IsOpenFor, Sits}
+use Rattle.atomic_table.specs.Seated.{TableId}
+use Rattle.history_note.specs.Shown.{AtPass}
+use Rattle.db_hub.specs.Seats.{AtSeat, seat_at, with_desk, SeatFits}
+use Rattle.db_value.specs.declared.step.Step.{Step}
+use Rattle.db_store.specs.State.{State, dataset_of}
+use Rattle.db_store.specs.Sound.{IsSound}
+use Rattle.db_store.specs.Counted.{IsCounted}
+use Rattle.db_store.specs.Order.{IsOrdered}
+use Rattle.history_note.specs.declared.view.NotedLine.{NotedLine}
+use Rattle.db_core.specs.Order.{World, opening, replies}
+use Rattle.db_core.specs.Marks.{AllMayFail}
+use Rattle.db_core.specs.Kept.{Kept, Stands, saids, said_step}
+use Rattle.db_core.specs.Desk.{AtDesk, Agrees, AllOthers}
+use Rattle.db_core.proofs.OtherDesks.{other_lines_law}
+use Rattle.db_hub.specs.Entered.{steps_of, kept_at}
+use Rattle.db_hub.proofs.Counted.{steps_append}
+
+pub stands_at : (b : Kept) (o : State) (steps : List Step) → Stands b → b.opening ≡ o → b.steps ≡ steps → Stands (kept_at o steps)
+stands_at b o steps h e f =
+    let told : map (λ s. s.reply) (b.steps) ≡ replies (opening b.opening) (saids b.steps) = h.replies in
+    record {
+      sound = subst (λ (s : State). IsSound (dataset_of s)) e h.sound;
+      counted = subst (λ (s : State). IsCounted (dataset_of s)) e h.counted;
+      ordered = subst (λ (s : State). IsOrdered (dataset_of s)) e h.ordered;
+      state = refl;
+      granted = record { among = λ r i. i; covered = λ r i. inl i };
+      marks = subst (λ (p : State × List Step). AllMayFail (opening p.0) (saids p.1)) (λ i. (e i, f i)) h.marks;
+      replies = subst (λ (p : State × List Step). map (λ s. s.reply) p.1 ≡ replies (opening p.0) (saids p.1)) (λ i. (e i, f i)) told;
+    }
+
+-- a desk agrees with a board and with one on which just its steps were run
+pub agrees_at : (b : Kept) (k : AtDesk) (o : State) (steps : List Step) → Agrees b k → b.opening ≡ o → b.steps ≡ steps → Agrees (kept_at o steps) k
+agrees_at b k o steps a e f =
+    other_lines_law b (kept_at o steps) k [] a (stands_at b o steps a.stands e f) (sym e) (sym (append-nil (saids b.steps) ∙ ap saids f)) tt
+
+-- a desk agrees with the board of what it has seen, and the board has lines of other sessions more
+pub agrees_now : (b : Kept) (k : AtDesk) (o : State) (seen rest lines : List NotedLine) → Agrees (kept_at o (steps_of seen)) k → Stands b → b.opening ≡ o → b.steps ≡ steps_of lines → lines ≡ seen ++ rest → AllOthers k.session (saids (steps_of rest)) → Agrees b k
+agrees_now b k o seen rest lines a stands e f g others =
+    other_lines_law (kept_at o (steps_of seen)) b k (saids (steps_of rest)) a stands e
+    (ap saids (f ∙ ap steps_of g ∙ steps_append seen rest) ∙ map-append said_step (steps_of seen) (steps_of rest)) others
+
+-- what holds where there is a value, from what holds there
+pub if_some : {A : Type 0} (o : Option A) (P Q : A → Type 0) → IfSome o P → ((a : A) → P a → Q a) → IfSome o Q
+if_some None P Q h f = tt
+if_some (Some a) P Q h f = f a h
+
+-- a seat that has its pass
+pub seen_agrees : (named : TableId) (o : State) (numbers : List (ℕ × ℕ)) (since : ℕ → ℕ) (n : ℕ) (pass : Option AtPass) (k : AtDesk) (s : AtSeat) → SeatFits named o numbers since n pass k → seat_at n pass k ≡ s → s.there ≡ true
+    → Agrees (kept_at o (steps_of s.seen)) s.desk × (k ≡ s.desk)
+seen_agrees named o numbers since n None k s h e there = absurd (false≢true (ap (λ (x : AtSeat). x.there) e ∙ there))
+seen_agrees named o numbers since n (Some p) k s h e there = (
+  subst (λ (x : AtSeat). Agrees (kept_at o (steps_of x.seen)) x.desk) e h.1.agree,
+  ap (λ (x : AtSeat). x.desk) e,
+)
+
+-- a session has an open transaction where lines of one are there
+open_for : (d : Dataset) (rows : List Row) (s b : ℕ) (lines : List Stmt) (tx : Option Granted) → IsOpenFor d rows s b lines tx → is_open lines ≡ is_some tx
+open_for d rows s b [] None h = refl
+open_for d rows s b [] (Some g) h = absurd h
+open_for d rows s b (x ∷ xs) None h = absurd h
+open_for d rows s b (x ∷ xs) (Some g) h = refl
+
+pub sits_open : (w : World) (s cur : ℕ) (sk : Bool) (tx : Option Granted) → Sits w s cur sk tx → is_open (w.desks s).lines ≡ is_some tx
+sits_open w s cur sk tx h = open_for (dataset_of w.state) w.rows s cur (w.desks s).lines tx h.open_is
+
+-- a seat whose desk alone changed
+pub desk_alone : (n : ℕ) (pass : Option AtPass) (k m : AtDesk) → seat_at n pass m ≡ with_desk (seat_at n pass k) m
+desk_alone n None k m = refl
+desk_alone n (Some p) k m = refl
+
+pub desk_is : (n : ℕ) (pass : Option AtPass) (k : AtDesk) → (seat_at n pass k).desk ≡ k
+desk_is n None k = refl
+desk_is n (Some p) k = refl

@@ -1,0 +1,109 @@
+-- Steps that are written with the number of the carried pass.
+use Rattle.std.proofs.Common.{◌≡◌, ℕ, ◌+◌, ◌==◌, List, [], ◌∷◌, ◌++◌, length, Option, Some, None, cond, refl, sym, ap, ◌∙◌, arith, length-append, append_assoc, append-nil, eq-eqb}
+use Rattle.std.specs.Prelude.{true, false}
+use Rattle.db_value.specs.declared.step.Step.{Step}
+use Rattle.db_store.specs.State.{State}
+use Rattle.history_note.specs.declared.view.NotedLine.{NotedLine}
+use Rattle.history_note.specs.declared.view.PassView.{PassView}
+use Rattle.history_note.specs.Places.{places, places_from, owed_to}
+use Rattle.history_note.specs.Views.{noted_line}
+use Rattle.history_note.specs.Shown.{AtPen, AtPass, is_carrying, writing, handing_one, handed_pass}
+use Rattle.history_note.proofs.Counting.{completed_owed_nothing, place_same}
+use Rattle.db_hub.specs.Entered.{lines_of}
+use Rattle.db_hub.specs.Rooms.{written_all, PenGrown, PassGrown}
+
+abbrev pub with_mine : PassView State → List ℕ → PassView State
+with_mine c ps = record c { mine = c.mine ++ ps }
+
+-- the pen with these lines more, all of the carried pass
+abbrev pub with_lines : AtPen → PassView State → ℕ → List Step → AtPen
+with_lines p c n ss = record p { lines = p.lines ++ lines_of n ss; carried = Some (with_mine c (places_from n (length p.lines) (lines_of n ss))) }
+
+write_one : (n : ℕ) (s : Step) (p : AtPen) (c : PassView State) → p.carried ≡ Some c → c.number ≡ n → writing n s p ≡ record p { lines = p.lines ++ noted_line n s ∷ []; carried = Some (with_mine c (length p.lines ∷ [])) }
+write_one n s p c e m =
+    let q : (n == c.number) ≡ true = eq-eqb n c.number (sym m) in
+    ap (λ (o : Option (PassView State)). record p {
+      lines = p.lines ++ noted_line n s ∷ [];
+      owed = Rattle.history_note.specs.Views.owed_after n (length p.lines) o p.owed;
+      carried = Rattle.history_note.specs.Views.carried_after n (length p.lines) o;
+    }) e
+    ∙ ap (λ b. record p {
+      lines = p.lines ++ noted_line n s ∷ [];
+      owed = cond b p.owed (p.owed ++ (n, length p.lines) ∷ []);
+      carried = Some (record c { mine = cond b (c.mine ++ length p.lines ∷ []) c.mine });
+    }) q
+
+pub written_is : (n : ℕ) (ss : List Step) (p : AtPen) (c : PassView State) → p.carried ≡ Some c → c.number ≡ n → written_all n ss p ≡ with_lines p c n ss
+written_is n [] p c e m = λ i. record p { lines = sym (append-nil p.lines) i; carried = (e ∙ ap (λ (ps : List ℕ). Some (record c { mine = ps })) (sym (append-nil c.mine))) i }
+written_is n (s ∷ ss) p c e m =
+    let k : ℕ = length p.lines in
+    let x : NotedLine = noted_line n s in
+    let ls : List NotedLine = lines_of n ss in
+    let c1 : PassView State = with_mine c (k ∷ []) in
+    let p1 : AtPen = record p { lines = p.lines ++ x ∷ []; carried = Some c1 } in
+    let long = length-append p.lines (x ∷ []) in
+    let next : length (p.lines ++ x ∷ []) ≡ k + 1 = omega (arith, long) in
+    let mine : (c.mine ++ k ∷ []) ++ places_from n (length (p.lines ++ x ∷ [])) ls ≡ c.mine ++ places_from n k (x ∷ ls) =
+    append_assoc c.mine (k ∷ []) (places_from n (length (p.lines ++ x ∷ [])) ls)
+    ∙ (λ i. c.mine ++ (sym (place_same n n k refl) i ++ places_from n (next i) ls)) in
+    ap (written_all n ss) (write_one n s p c e m) ∙ written_is n ss p1 c1 refl m
+    ∙ (λ i. record p { lines = append_assoc p.lines (x ∷ []) ls i; carried = Some (record c { mine = mine i }) })
+
+module _ (n : ℕ) (ss : List Step) (p0 pw : AtPen) (c : PassView State) (e : p0.carried ≡ Some c) (m : c.number ≡ n) (owed : p0.owed ≡ []) (is : pw ≡ written_all n ss p0) where
+  wrote : pw ≡ with_lines p0 c n ss
+  wrote = is ∙ written_is n ss p0 c e m
+
+  -- the pen, whether the pass is handed out or not
+  pub grown_kept : (p1 : AtPen) → p1 ≡ pw → PenGrown p0 p1 n ss
+  grown_kept p1 f =
+      let g : p1 ≡ with_lines p0 c n ss = f ∙ wrote in
+      record {
+        note = ap (λ (p : AtPen). p.note) g;
+        opening = ap (λ (p : AtPen). p.opening) g;
+        noted = ap (λ (p : AtPen). p.noted) g;
+        lines = ap (λ (p : AtPen). p.lines) g;
+        owed = ap (λ (p : AtPen). p.owed) g ∙ owed;
+      }
+
+  left_is : (p1 : AtPen) → p1 ≡ handing_one pw.carried pw → p1 ≡ handing_one (Some (with_mine c (places_from n (length p0.lines) (lines_of n ss)))) (with_lines p0 c n ss)
+  left_is p1 f = f ∙ ap (λ (p : AtPen). handing_one p.carried p) wrote
+
+  pub grown_given : (p1 : AtPen) → p1 ≡ handing_one pw.carried pw → PenGrown p0 p1 n ss
+  grown_given p1 f =
+      let g = left_is p1 f in
+      record {
+        note = ap (λ (p : AtPen). p.note) g;
+        opening = ap (λ (p : AtPen). p.opening) g;
+        noted = ap (λ (p : AtPen). p.noted) g;
+        lines = ap (λ (p : AtPen). p.lines) g;
+        owed = ap (λ (p : AtPen). p.owed) g ∙ ap (Rattle.history_note.specs.Places.without c.number) owed;
+      }
+
+  pub free_given : (p1 : AtPen) → p1 ≡ handing_one pw.carried pw → is_carrying p1 ≡ false
+  free_given p1 f = ap is_carrying (left_is p1 f)
+
+  pub carries_on : pw.carried ≡ Some (with_mine c (places_from n (length p0.lines) (lines_of n ss)))
+  carries_on = ap (λ (p : AtPen). p.carried) wrote
+
+  -- and the pass
+  pub pass_given : (q : AtPass) → ((d : PassView State) → pw.carried ≡ Some d → q ≡ handed_pass d pw) → q.mine ≡ places q.number q.seen → PassGrown p0 c q ss
+  pass_given q f is_mine =
+      let d : PassView State = with_mine c (places_from n (length p0.lines) (lines_of n ss)) in
+      let g : q ≡ handed_pass d (with_lines p0 c n ss) = f d carries_on ∙ ap (handed_pass d) wrote in
+      let own : lines_of n ss ≡ lines_of c.number ss = ap (λ (k : ℕ). lines_of k ss) (sym m) in
+      record {
+        note = ap (λ (x : AtPass). x.note) g;
+        opening = ap (λ (x : AtPass). x.opening) g;
+        number = ap (λ (x : AtPass). x.number) g;
+        session = ap (λ (x : AtPass). x.session) g;
+        seen = ap (λ (x : AtPass). x.seen) g ∙ ap (λ (ls : List NotedLine). p0.lines ++ ls) own;
+        mine = ap (λ (x : AtPass). x.mine) g ∙ completed_owed_nothing d p0.owed (ap (owed_to c.number) owed) ∙ (λ i. c.mine ++ places_from (sym m i) (length p0.lines) (own i));
+        mine_is = is_mine;
+      }
+
+abbrev number_or : Option (PassView State) → ℕ
+number_or None = 0
+number_or (Some c) = c.number
+
+pub number_is : (c d : PassView State) → Some c ≡ Some d → c.number ≡ d.number
+number_is c d e = ap number_or e

@@ -1,0 +1,79 @@
+-- Steps that are written to the note, and what lies under the lock.
+use Rattle.std.specs.Prelude.{◌≡◌, ◌<◌, ◌+◌, ℕ, true, List, [], ◌∷◌, ◌++◌, length}
+use Rattle.atomic_table.specs.Seated.{TableId}
+use Rattle.db_value.specs.declared.step.Step.{Step}
+use Rattle.db_store.specs.State.{State, dataset_of}
+use Rattle.history_note.specs.declared.view.PassView.{PassView}
+use Rattle.history_note.specs.Shown.{AtNote, AtPen, AtPass, writing, noting}
+use Rattle.history_note.specs.Places.{places, places_from, IsNoted}
+use Rattle.db_core.specs.Kept.{Kept, Logged, Stands}
+use Rattle.db_hub.specs.Entered.{steps_of, lines_of}
+use Rattle.db_core.specs.Desk.{new_desk}
+use Rattle.db_hub.specs.Own.{AllNoted, OutFits}
+use Rattle.db_hub.specs.Seats.{AtSeat}
+
+-- the board, the pen, which seats are out, each a number with its session, and how many numbers were issued
+pub record AtRoom (J : Type 0) : Type 0 where
+  pub board : Logged J
+  pub pen : AtPen
+  pub out : List (ℕ × ℕ)
+  pub issued : ℕ
+
+-- Note and pen are those that are named, the pen's list is the list of the board's steps, each entered with a number that
+-- was noted for its session, and the board stands. Each number that was noted is named with its session, and its seat is out.
+pub record RoomFits (named : TableId) (numbers : List (ℕ × ℕ)) (opened : State) (since : ℕ → ℕ) (note : AtNote) (pen : AtPen) (board : Kept) (out : List (ℕ × ℕ)) (issued : ℕ) : Type 0 where
+  pub note_is : note.note ≡ named
+  pub pen_is : pen.note ≡ named
+  pub pen_opening : pen.opening ≡ opened
+  pub opening_is : board.opening ≡ opened
+  pub steps_are : board.steps ≡ steps_of pen.lines
+  pub owes_nothing : pen.owed ≡ []
+  pub stands : Stands board
+  pub lines_noted : AllNoted pen.noted pen.lines
+  pub below : (n s : ℕ) → IsNoted pen.noted n s → n < issued
+  pub out_fits : OutFits since pen.noted pen.lines out
+  pub all_named : (n s : ℕ) → IsNoted pen.noted n s → IsNoted numbers n s
+  pub all_out : (n s : ℕ) → IsNoted pen.noted n s → IsNoted out n s
+
+-- the pen after it wrote steps with a number
+abbrev pub written_all : ℕ → List Step → AtPen → AtPen
+written_all n [] p = p
+written_all n (s ∷ ss) p = written_all n ss (writing n s p)
+
+-- what steps that are written with the carried pass's number change of the pen
+pub record PenGrown (old new : AtPen) (n : ℕ) (steps : List Step) : Type 0 where
+  pub note : new.note ≡ old.note
+  pub opening : new.opening ≡ old.opening
+  pub noted : new.noted ≡ old.noted
+  pub lines : new.lines ≡ old.lines ++ lines_of n steps
+  pub owed : new.owed ≡ []
+
+-- and what is handed out then
+pub record PassGrown (pen : AtPen) (c : PassView State) (p : AtPass) (steps : List Step) : Type 0 where
+  pub note : p.note ≡ pen.note
+  pub opening : p.opening ≡ pen.opening
+  pub number : p.number ≡ c.number
+  pub session : p.session ≡ c.session
+  pub seen : p.seen ≡ pen.lines ++ lines_of c.number steps
+  pub mine : p.mine ≡ c.mine ++ places_from c.number (length pen.lines) (lines_of c.number steps)
+  pub mine_is : p.mine ≡ places p.number p.seen
+
+-- a room for a board on which nothing was run
+abbrev pub new_room : {J : Type 0} → Logged J → AtPen → AtRoom J
+new_room board pen = record { board = board; pen = pen; out = []; issued = 0 }
+
+-- the room after it gave a seat to the session, under the number that comes next, and that seat
+abbrev pub giving : {J : Type 0} → ℕ → AtRoom J → AtRoom J
+giving session r = record r { pen = noting r.issued session r.pen; out = r.out ++ (r.issued, session) ∷ []; issued = r.issued + 1 }
+
+abbrev pub given_seat : {J : Type 0} → ℕ → State → AtRoom J → AtSeat
+given_seat session opened r =
+    record { there = true; number = r.issued; seen = r.pen.lines; mine = []; desk = new_desk session (dataset_of opened).schema }
+
+-- what a visit leaves of a room
+pub record RoomStays {J : Type 0} (old new : AtRoom J) : Type 0 where
+  pub noted : new.pen.noted ≡ old.pen.noted
+  pub out : new.out ≡ old.out
+  pub issued : new.issued ≡ old.issued
+  pub opening : new.board.kept.opening ≡ old.board.kept.opening
+  pub first_count : new.board.kept.first_count ≡ old.board.kept.first_count

@@ -1,0 +1,26 @@
+//! A board that threads share, beside the note that says what stands in its list.
+//!
+//! The layer above relies on one contract, that of `Hub::line`: the line gets the reply of its whole transaction in a list that begins
+//! with all that its seat had seen, and is the last line there.
+//!
+//! | file | has |
+//! |---|---|
+//! | `specs/Entered.antt` | lines of the list, their steps, and a board on which just these were run |
+//! | `specs/Own.antt` | which sessions' lines were entered with which numbers |
+//! | `specs/Seats.antt`, `src/seat.rt` | a session's place at the hub, whose desk agrees with what its pass has seen |
+//! | `specs/Rooms.antt`, `src/writing.rt` | steps that are written to the note, and what lies under the lock |
+//! | `src/room.rt` | what lies under the lock |
+//! | `src/hub.rt` | the room under a lock, which threads share |
+//! | `src/tag.rt` | the name of a note, and of the numbers that its pen has noted |
+#![tactic(auto)]
+
+mod hub;
+mod room;
+mod seat;
+mod tag;
+mod writing;
+
+pub use hub::Hub;
+pub use room::Room;
+pub use seat::Seat;
+pub use tag::Tag;

@@ -1,0 +1,37 @@
+//! The names of a hub.
+use std::marker::Brand;
+
+/// Names one note, the state with which it was made, how often the log had failed when its board was
+/// made, the numbers that are issued, each with its session, and how long the list is when a
+/// number's seat is given.
+pub trait Tag {
+    ghost use Rattle.std.specs.Prelude.{ℕ, List};
+    ghost use Rattle.atomic_table.specs.Seated.{TableId};
+    ghost use Rattle.db_store.specs.State.{State};
+
+    ghost note: { TableId };
+
+    ghost opened: { State };
+
+    ghost first: { ℕ };
+
+    ghost numbers: { List (ℕ × ℕ) };
+
+    ghost since: { ℕ → ℕ };
+}
+
+impl Tag for Brand {
+    ghost use Rattle.std.specs.Prelude.{[]};
+    ghost use Rattle.history_note.specs.Shown.{nothing};
+    ghost use Rattle.db_hub.specs.Names.{no_note};
+
+    ghost note = { no_note };
+
+    ghost opened = { nothing };
+
+    ghost first = { 0 };
+
+    ghost numbers = { [] };
+
+    ghost since = { λ n. 0 };
+}
