@@ -2,7 +2,7 @@
 use Rattle.std.proofs.Common.{◌≡◌, inl, ℕ, List, [], ◌∷◌, ◌++◌, map, refl, sym, ap, ◌∙◌, subst, append-nil}
 use Rattle.std.proofs.lemmas.List.{map-append}
 use Rattle.std.proofs.lemmas.Bool.{false≢true}
-use Rattle.std.specs.Prelude.{IfSome, Option, Some, None, Bool, true, is_some}
+use Rattle.std.specs.Prelude.{IfSome, IfOk, Option, Some, None, Result, Ok, Err, Bool, true, false, is_some}
 use Rattle.db_store.specs.Dataset.{Dataset}
 use Rattle.lock_table.specs.Rows.{Row}
 use Rattle.stmt_text.specs.declared.stmt.Stmt.{Stmt}
@@ -11,7 +11,8 @@ use Rattle.store_tx.specs.Ends.{is_open}
 use Rattle.db_core.specs.Sits.{IsOpenFor, Sits}
 use Rattle.atomic_table.specs.Seated.{TableId}
 use Rattle.history_note.specs.Shown.{AtPass}
-use Rattle.db_hub.specs.Seats.{AtSeat, seat_at, with_desk, SeatFits}
+use Rattle.history_note.specs.Places.{places}
+use Rattle.db_hub.specs.Seats.{PassFits, SeatCaughtUp, SeatClosed, AtSeat, seat_at, with_desk, SeatFits}
 use Rattle.db_value.specs.declared.step.Step.{Step}
 use Rattle.db_store.specs.State.{State, dataset_of}
 use Rattle.db_store.specs.Sound.{IsSound}
@@ -20,10 +21,10 @@ use Rattle.db_store.specs.Order.{IsOrdered}
 use Rattle.history_note.specs.declared.view.NotedLine.{NotedLine}
 use Rattle.db_core.specs.Order.{World, opening, replies}
 use Rattle.db_core.specs.Marks.{AllMayFail}
-use Rattle.db_core.specs.Kept.{Kept, Stands, saids, said_step}
-use Rattle.db_core.specs.Desk.{AtDesk, Agrees, AllOthers}
+use Rattle.db_core.specs.Kept.{Kept, Stands, saids, said_step, world_of}
+use Rattle.db_core.specs.Desk.{AtDesk, Agrees, AllOthers, entered}
 use Rattle.db_core.proofs.OtherDesks.{other_lines_law}
-use Rattle.db_hub.specs.Entered.{steps_of, kept_at}
+use Rattle.db_hub.specs.Entered.{steps_of, is_open_after, kept_at}
 use Rattle.db_hub.proofs.Counted.{steps_append}
 
 pub stands_at : (b : Kept) (o : State) (steps : List Step) → Stands b → b.opening ≡ o → b.steps ≡ steps → Stands (kept_at o steps)
@@ -82,3 +83,33 @@ desk_alone n (Some p) k m = refl
 pub desk_is : (n : ℕ) (pass : Option AtPass) (k : AtDesk) → (seat_at n pass k).desk ≡ k
 desk_is n None k = refl
 desk_is n (Some p) k = refl
+
+-- a seat that caught up, and has no open transaction
+pub idle_now : (named : TableId) (o : State) (since : ℕ → ℕ) (n : ℕ) (k : AtDesk) (p : AtPass) (s : ℕ) → PassFits named o since n k p → k.waiting ≡ [] → k.session ≡ s → is_some k.open_tx ≡ false → is_open_after o (steps_of p.seen) s ≡ false
+idle_now named o since n k p s f none is shut =
+    (λ i. is_open_after o (sym (append-nil (steps_of p.seen)) i) (sym is i)) ∙ (λ i. is_open_after o (steps_of p.seen ++ sym none i) k.session)
+    ∙ sits_open (world_of (entered (kept_at o (steps_of p.seen)) k)) k.session k.current k.skipping k.open_tx f.agree.sits ∙ shut
+
+-- a seat that was given up when it had caught up
+pub closed_by : (named : TableId) (o : State) (since : ℕ → ℕ) (old s : AtSeat) (p : AtPass) → SeatCaughtUp old s → is_some old.desk.open_tx ≡ false → (s ≡ seat_at s.number (Some p) s.desk) × PassFits named o since s.number s.desk p → SeatClosed named o old p
+closed_by named o since old s p u shut h =
+    let e = h.0 in
+    let f = h.1 in
+    record {
+      note_is = f.note_is;
+      opening_is = f.opening_is;
+      number = f.number_is ∙ u.number;
+      session = f.session_is ∙ u.session;
+      front = u.front;
+      begins = u.begins;
+      seen = sym (ap (λ (x : AtSeat). x.seen) e) ∙ u.seen;
+      mine = sym (ap (λ (x : AtSeat). x.mine) e) ∙ u.mine;
+      mine_was = u.mine_was;
+      mine_is = sym (ap (λ (x : AtSeat). x.mine) e) ∙ u.mine_is ∙ ap (λ (x : AtSeat). places old.number x.seen) e;
+      idle = idle_now named o since s.number s.desk p old.desk.session f u.none u.session (ap is_some u.open_tx ∙ shut);
+    }
+
+-- what holds where a call was done, from what holds there
+pub if_ok : {A E : Type 0} (r : Result A E) (P Q : A → Type 0) → IfOk r P → ((a : A) → P a → Q a) → IfOk r Q
+if_ok (Ok a) P Q h f = f a h
+if_ok (Err e) P Q h f = tt

@@ -15,7 +15,7 @@ use Rattle.history_note.specs.Places.{places, places_from, owed_to, IsNoted, IsI
 use Rattle.history_note.specs.Shown.{AtNote, AtPen, AtPass, carrying, known, FitsPen}
 use Rattle.db_core.specs.Order.{Said, said_as, said_of, reply_in}
 use Rattle.db_core.specs.Laws.{AllHaveRoom}
-use Rattle.db_core.specs.Kept.{Kept, Stands, step_of, world_of, saids}
+use Rattle.db_core.specs.Kept.{Kept, Logged, Stands, step_of, world_of, saids}
 use Rattle.db_core.specs.Answered.{IsAnswered}
 use Rattle.db_core.specs.Sits.{heard}
 use Rattle.db_core.specs.Desk.{AtDesk, Agrees, AllOthers, IsLeft, entered, cleared}
@@ -66,6 +66,33 @@ told_by b c k m text (Err x) Rest More a w e = e.0
 pub first_told : {E : Type 0} (b c : Kept) (k m : AtDesk) (text : List ℕ) (r : Result Reply E) → Told b k c m text r → c.first_count ≡ b.first_count
 first_told b c k m text (Ok y) t = ap (λ (x : Kept). x.first_count) t.0.1.kept
 first_told b c k m text (Err x) t = ⊎_elim (λ (a : (c ≡ b) × (m ≡ k)). ap (λ (y : Kept). y.first_count) a.0) (λ (a : (c ≡ entered b k) × (m ≡ record (cleared k) { open_tx = m.open_tx })). ap (λ (y : Kept). y.first_count) a.0) t
+
+-- what entering the desk's lines told: they were entered, and none waits; or there was no memory
+abbrev pub Caught : {A E : Type 0} → Kept → AtDesk → Kept → AtDesk → Result A E → Type 0
+Caught b k c m (Ok y) = (c ≡ entered b k) × (m ≡ cleared k)
+Caught b k c m (Err e) = (c ≡ b) × (m ≡ k)
+
+-- from the clauses of the call
+pub caught_by : {A E : Type 0} (b c : Kept) (k m : AtDesk) (r : Result A E) → OnOk r (c ≡ entered b k) → OnOk r (m ≡ cleared k) → OnErr r (c ≡ b) → OnErr r (m ≡ k) → Caught b k c m r
+caught_by b c k m (Ok y) a d e f = (a, d)
+caught_by b c k m (Err x) a d e f = (e, f)
+
+-- the number noted at the beginning stays, and the session
+pub first_caught : {A E : Type 0} (b c : Kept) (k m : AtDesk) (r : Result A E) → Caught b k c m r → c.first_count ≡ b.first_count
+first_caught b c k m (Ok y) t = ap (λ (x : Kept). x.first_count) t.0
+first_caught b c k m (Err x) t = ap (λ (y : Kept). y.first_count) t.0
+
+pub same_caught : {A E : Type 0} (b c : Kept) (k m : AtDesk) (r : Result A E) → Caught b k c m r → m.session ≡ k.session
+same_caught b c k m (Ok y) t = ap (λ (x : AtDesk). x.session) t.1
+same_caught b c k m (Err x) t = ap (λ (y : AtDesk). y.session) t.1
+
+-- a board with its log
+abbrev pub logged : {L : Type 0} → Kept → L → Logged L
+logged c log = record { kept = c; log = log }
+
+pub board_caught : {A E L : Type 0} (b c : Kept) (k m : AtDesk) (r : Result A E) → Caught b k c m r → (log log2 : L) → log2 ≡ log → OnOk r (logged c log2 ≡ logged (entered b k) log)
+board_caught b c k m (Ok y) t log log2 e = λ i. record { kept = t.0 i; log = e i }
+board_caught b c k m (Err x) t log log2 e = tt
 
 -- what holds anyway holds where a call was done
 pub on_ok : {A E : Type 0} (r : Result A E) (X : Type 0) → X → OnOk r X
@@ -262,3 +289,20 @@ module _ (named : TableId) (numbers : List (ℕ × ℕ)) (o : State) (since : �
           (λ (a : (c ≡ entered board k) × (k1 ≡ record (cleared k) { open_tx = k1.open_tx })).
           stays c k.waiting (grows_entered board c k agree a.0) now.stands pen2 from from_is grown k1 same now p2 given k.waiting refl (ap (λ (m : AtDesk). k.waiting ++ m.waiting) a.1 ∙ append-nil k.waiting))
           t))
+
+  -- ---- what entering the desk's lines told
+
+  module _ (c : Kept) (k1 : AtDesk) (same : k1.session ≡ k.session) (now : Agrees c k1) where
+    pub grows_caught : {A E : Type 0} → (r : Result A E) → Caught board k c k1 r → (more : List Step) × Grows board c k.session more
+    grows_caught (Ok y) t = (k.waiting, grows_entered board c k agree t.0)
+    grows_caught (Err e) t = ([], grows_none board c k.session t.0)
+
+    module _ (pen2 : AtPen) (from : ℕ) (from_is : from ≡ length board.steps) (grown : PenGrown pen1 pen2 n (drop from c.steps)) (p2 : AtPass) (given : PassGrown pen1 (known q) p2 (drop from c.steps)) where
+      pub caught_now : {A E : Type 0} → (r : Result A E) → Caught board k c k1 r → OnOk r (SeatCaughtUp (seat_at n (Some q) k) (seat_at n (Some p2) k1))
+      caught_now (Ok y) t =
+          caught_up c k.waiting (grows_entered board c k agree t.0) now.stands pen2 from from_is grown k1 same now p2 given refl (ap (λ (m : AtDesk). m.waiting) t.1) (ap (λ (m : AtDesk). m.open_tx) t.1)
+      caught_now (Err e) t = tt
+
+      pub failed_caught : {A E : Type 0} → (r : Result A E) → Caught board k c k1 r → OnErr r (SeatFailed (seat_at n (Some q) k) (seat_at n (Some p2) k1))
+      failed_caught (Ok y) t = tt
+      failed_caught (Err e) t = inr (inr (stays c [] (grows_none board c k.session t.0) now.stands pen2 from from_is grown k1 same now p2 given [] refl (ap (λ (m : AtDesk). m.waiting) t.1)))

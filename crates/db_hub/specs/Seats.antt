@@ -89,6 +89,20 @@ pub record SeatCaughtUp (old new : AtSeat) : Type 0 where
   pub none : new.desk.waiting ≡ []
   pub open_tx : new.desk.open_tx ≡ old.desk.open_tx
 
+-- A seat was given up: its waiting lines were entered, the last that its pass has seen. After them its session has no open transaction.
+pub record SeatClosed (note : TableId) (opened : State) (old : AtSeat) (p : AtPass) : Type 0 where
+  pub note_is : p.note ≡ note
+  pub opening_is : p.opening ≡ opened
+  pub number : p.number ≡ old.number
+  pub session : p.session ≡ old.desk.session
+  pub front : List NotedLine
+  pub begins : IsFront old.seen front
+  pub seen : p.seen ≡ front ++ lines_of old.number old.desk.waiting
+  pub mine : p.mine ≡ old.mine ++ places_from old.number (length front) (lines_of old.number old.desk.waiting)
+  pub mine_was : old.mine ≡ places old.number old.seen
+  pub mine_is : p.mine ≡ places old.number p.seen
+  pub idle : is_open_after opened (steps_of p.seen) old.desk.session ≡ false
+
 -- The seat said nothing more: its waiting lines, or none of them, were entered, the last that it has seen.
 pub record SeatStays (old new : AtSeat) : Type 0 where
   pub front : List NotedLine

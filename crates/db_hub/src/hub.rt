@@ -1,16 +1,20 @@
 //! The room under a lock.
-ghost use Rattle.std.specs.Prelude.{◌≡◌, false, IfOk, OnErr};
+ghost use Rattle.std.specs.Prelude.{◌≡◌, [], false, is_some, IfOk, OnErr};
 ghost use Rattle.reply_text.specs.Reply.{NamesItsRows};
 ghost use Rattle.db_core.specs.Order.{said_of};
 ghost use Rattle.db_core.specs.Sits.{heard};
-ghost use Rattle.db_hub.specs.Seats.{SeatVisited, SeatFailed};
+ghost use Rattle.db_core.specs.Kept.{Stands};
+ghost use Rattle.db_hub.specs.Entered.{steps_of};
+ghost use Rattle.db_hub.specs.Own.{AllNoted};
+ghost use Rattle.db_hub.specs.Seats.{SeatVisited, SeatClosed, SeatFailed};
 
-use crate::room::Room;
+use crate::room::{Room, Shut};
 use crate::seat::Seat;
 use crate::tag::Tag;
 use db_store::Store;
 use db_value::{LineText, Reply};
 use entry_codec::Log;
+use history_note::Pass;
 use std::alloc::AllocError;
 use std::sync::{Mutex, Wait};
 use stmt_text::Stmt;
@@ -44,5 +48,35 @@ impl<St: Store, J: Log<St>, T: Tag> Hub<St, J, T> {
         ensures failed { OnErr result (SeatFailed seat.old seat.new) }
     {
         self.lock.lock(rt).visit(seat, text, stmt)
+    }
+
+    /// Enters the lines that wait at the seat's desk, and gives the seat up. A seat whose session has a
+    /// transaction open can't be given up.
+    pub fn close<R: Wait>(&self, rt: &R, mut seat: Seat<St, T>) -> Result<Pass<St>, AllocError>
+        requires { is_some seat.desk.open_tx ≡ false }
+        ensures { IfOk result (SeatClosed T.note T.opened seat) }
+    {
+        self.lock.lock(rt).catch_up(&mut seat)?;
+        seat.into_pass()
+    }
+
+    /// The board, the note and its pen, whose list is that of the board's steps.
+    pub fn into_board(self) -> Shut<St, J>
+        ensures named { (result.note.note ≡ T.note) × (result.pen.note ≡ T.note) }
+        ensures opened { (result.board.kept.opening ≡ T.opened)
+            × (result.board.kept.first_count ≡ T.first) }
+        ensures stands { Stands result.board.kept }
+        ensures steps { result.board.kept.steps ≡ steps_of result.pen.lines }
+        ensures noted { AllNoted T.numbers result.pen.lines }
+        ensures owed { result.pen.owed ≡ [] }
+    {
+        let Hub { lock } = self;
+        let Room {
+            board,
+            note,
+            pen,
+            ..
+        } = lock.into_inner();
+        Shut { board, note, pen }
     }
 }

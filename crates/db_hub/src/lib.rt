@@ -21,6 +21,6 @@ mod tag;
 mod writing;
 
 pub use hub::Hub;
-pub use room::Room;
+pub use room::{Room, Shut};
 pub use seat::Seat;
 pub use tag::Tag;

@@ -8,7 +8,9 @@ ghost use Rattle.db_core.specs.Kept.{Stands, saids};
 ghost use Rattle.db_core.specs.Sits.{heard};
 ghost use Rattle.db_core.specs.Answered.{Ran};
 ghost use Rattle.db_core.specs.Desk.{AllOthers, entered};
-ghost use Rattle.db_hub.specs.Seats.{SeatVisited, SeatFailed};
+ghost use Rattle.db_hub.specs.Entered.{steps_of};
+ghost use Rattle.db_hub.specs.Own.{AllNoted};
+ghost use Rattle.db_hub.specs.Seats.{SeatVisited, SeatCaughtUp, SeatFailed};
 ghost use Rattle.db_hub.specs.Rooms.{new_room, giving, given_seat, RoomStays};
 
 use crate::seat::Seat;
@@ -52,6 +54,14 @@ impl<St: Store, J: Log<St>, T: Tag> Model for Room<St, J, T> {
     ghost invariant = { λ r. RoomFits T.note T.numbers T.opened T.since
         r.note r.pen r.board.kept r.out.items r.issued
         × (r.board.kept.first_count ≡ T.first) };
+}
+
+/// What a room leaves.
+#[derive(Drop)]
+pub struct Shut<St: Store, J: Log<St>> {
+    pub board: Board<St, J>,
+    pub note: Note<St>,
+    pub pen: Pen<St>,
 }
 
 impl<St: Store, J: Log<St>, T: Tag> Room<St, J, T> {
@@ -140,5 +150,57 @@ impl<St: Store, J: Log<St>, T: Tag> Room<St, J, T> {
         )?;
         seat.pass = Some(pass);
         told
+    }
+
+    /// Enters the lines that wait at the seat's desk. Want of memory enters none of them; or the seat's
+    /// pass was lost.
+    pub fn catch_up(&mut self, seat: &mut Seat<St, T>) -> Result<(), AllocError>
+        ensures seat { OnOk result (SeatCaughtUp seat.old seat.new) }
+        ensures board { OnOk result (self.new.board ≡ record self.old.board {
+          kept = entered self.old.board.kept seat.old.desk;
+        }) }
+        ensures whole { OnOk result (seat.new.seen ≡ self.new.pen.lines) }
+        ensures stays { RoomStays self.old self.new }
+
+        ensures failed { OnErr result (SeatFailed seat.old seat.new) }
+    {
+        if self.pen.carries() {
+            return Err(AllocError);
+        }
+        let Some(pass) = seat.pass.take() else {
+            return Err(AllocError);
+        };
+        let from = self.board.steps().len();
+        self.note.take_in(&mut self.pen, pass);
+        let told = self.board.enter(&mut seat.desk);
+        let pass = write_and_give(
+            &self.note,
+            &mut self.pen,
+            seat.number,
+            self.board.steps(),
+            from,
+        )?;
+        seat.pass = Some(pass);
+        told
+    }
+
+    /// The board, the note and its pen. The pen's list is the list of the board's steps, and the board
+    /// stands.
+    pub fn into_board(self) -> Shut<St, J>
+        ensures parts { (result.board ≡ self.board) × (result.pen ≡ self.pen) }
+        ensures named { (result.note.note ≡ T.note) × (self.pen.note ≡ T.note) }
+        ensures opened { (self.board.kept.opening ≡ T.opened)
+            × (self.board.kept.first_count ≡ T.first) }
+        ensures stands { Stands self.board.kept }
+        ensures steps { self.board.kept.steps ≡ steps_of self.pen.lines }
+        ensures noted { AllNoted T.numbers self.pen.lines }
+    {
+        let Room {
+            board,
+            note,
+            pen,
+            ..
+        } = self;
+        Shut { board, note, pen }
     }
 }

@@ -6,7 +6,7 @@ ghost use Rattle.db_core.specs.Desk.{said_by, waits, waiting_step};
 ghost use Rattle.db_core.specs.Order.{said_of};
 ghost use Rattle.history_note.specs.Places.{IsNoted};
 ghost use Rattle.db_hub.specs.Entered.{steps_of, is_open_after};
-ghost use Rattle.db_hub.specs.Seats.{IsReplyAnywhere, with_desk};
+ghost use Rattle.db_hub.specs.Seats.{seat_at, PassFits, IsReplyAnywhere, with_desk};
 
 use crate::tag::Tag;
 use db_core::Desk;
@@ -94,5 +94,17 @@ impl<St: Store, T: Tag> Seat<St, T> {
         other_lines_law();
         let told = self.desk.local(text, stmt)?;
         Ok(told)
+    }
+
+    // Its pass, if it wasn't lost.
+    pub(crate) fn into_pass(self) -> Result<Pass<St>, AllocError>
+        ensures { IfOk result (λ p. (self ≡ seat_at self.number (Some p) self.desk)
+            × PassFits T.note T.opened T.since self.number self.desk p) }
+    {
+        let Seat { pass, .. } = self;
+        match pass {
+            None => Err(AllocError),
+            Some(pass) => Ok(pass),
+        }
     }
 }
