@@ -40,7 +40,8 @@ pub fn write_and_give<St: Store>(
 ) -> Result<Pass<St>, AllocError>
     requires note { pen.old.note ≡ note.now.note }
     requires issued { IsIssued pen.old.noted number }
-    requires carried { (c : PassView State) × (pen.old.carried ≡ Some c) × (c.number ≡ number) }
+    requires carried { (c : PassView State) × (pen.old.carried ≡ Some c)
+        × (c.number ≡ number) }
     requires owes_nothing { pen.old.owed ≡ [] }
     requires from { (from ≤ length steps.now) × (length pen.old.lines ≡ from) }
     ensures pen { PenGrown pen.old pen.new number (drop from steps.now) }
