@@ -1,14 +1,14 @@
 -- Steps that are written to the note, and what lies under the lock.
-use Rattle.std.specs.Prelude.{◌≡◌, ◌<◌, ◌+◌, ℕ, true, List, [], ◌∷◌, ◌++◌, length}
+use Rattle.std.specs.Prelude.{◌≡◌, ◌<◌, ◌+◌, ◌^◌, ◌-◌, ℕ, true, List, [], ◌∷◌, ◌++◌, length}
 use Rattle.atomic_table.specs.Seated.{TableId}
 use Rattle.db_value.specs.declared.step.Step.{Step}
 use Rattle.db_store.specs.State.{State, dataset_of}
 use Rattle.history_note.specs.declared.view.PassView.{PassView}
 use Rattle.history_note.specs.Shown.{AtNote, AtPen, AtPass, writing, noting}
 use Rattle.history_note.specs.Places.{places, places_from, IsNoted}
-use Rattle.db_core.specs.Kept.{Kept, Logged, Stands}
+use Rattle.db_core.specs.Kept.{Kept, Logged, Stands, saids}
 use Rattle.db_hub.specs.Entered.{steps_of, lines_of}
-use Rattle.db_core.specs.Desk.{new_desk}
+use Rattle.db_core.specs.Desk.{AllOthers, new_desk}
 use Rattle.db_hub.specs.Own.{AllNoted, OutFits}
 use Rattle.db_hub.specs.Seats.{AtSeat}
 
@@ -61,6 +61,14 @@ pub record PassGrown (pen : AtPen) (c : PassView State) (p : AtPass) (steps : Li
 -- a room for a board on which nothing was run
 abbrev pub new_room : {J : Type 0} → Logged J → AtPen → AtRoom J
 new_room board pen = record { board = board; pen = pen; out = []; issued = 0 }
+
+-- A seat may be given to the session: it has none that is out, and no line yet; and the next number is named with it, and with the list as it is.
+pub record MaySeat {J : Type 0} (numbers : List (ℕ × ℕ)) (from : ℕ → ℕ) (session : ℕ) (r : AtRoom J) : Type 0 where
+  pub free : (n : ℕ) → IsNoted r.out n session → ⊥
+  pub few : r.issued < 2 ^ 32 - 1
+  pub named : IsNoted numbers r.issued session
+  pub since : from r.issued ≡ length r.pen.lines
+  pub new : AllOthers session (saids r.board.kept.steps)
 
 -- the room after it gave a seat to the session, under the number that comes next, and that seat
 abbrev pub giving : {J : Type 0} → ℕ → AtRoom J → AtRoom J

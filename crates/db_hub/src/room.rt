@@ -1,17 +1,16 @@
 //! What lies under the lock: a board, and a note that says what stands in its list.
-ghost use Rattle.std.specs.Prelude.{◌≡◌, ◌<◌, ◌^◌, ◌-◌, ◌++◌, ℕ, [], false, true, length, IfOk, OnOk, OnErr};
+ghost use Rattle.std.specs.Prelude.{◌≡◌, [], false, true, IfOk, OnOk, OnErr};
 ghost use Rattle.reply_text.specs.Reply.{NamesItsRows};
-ghost use Rattle.history_note.specs.Places.{IsNoted};
 ghost use Rattle.history_note.specs.Shown.{new_pen};
 ghost use Rattle.db_core.specs.Order.{said_of};
-ghost use Rattle.db_core.specs.Kept.{Stands, saids};
+ghost use Rattle.db_core.specs.Kept.{Stands};
 ghost use Rattle.db_core.specs.Sits.{heard};
 ghost use Rattle.db_core.specs.Answered.{Ran};
-ghost use Rattle.db_core.specs.Desk.{AllOthers, entered};
+ghost use Rattle.db_core.specs.Desk.{entered};
 ghost use Rattle.db_hub.specs.Entered.{steps_of};
 ghost use Rattle.db_hub.specs.Own.{AllNoted};
 ghost use Rattle.db_hub.specs.Seats.{SeatVisited, SeatCaughtUp, SeatFailed};
-ghost use Rattle.db_hub.specs.Rooms.{new_room, giving, given_seat, RoomStays};
+ghost use Rattle.db_hub.specs.Rooms.{new_room, MaySeat, giving, given_seat, RoomStays};
 
 use crate::seat::Seat;
 use crate::tag::Tag;
@@ -89,11 +88,7 @@ impl<St: Store, J: Log<St>, T: Tag> Room<St, J, T> {
     /// A seat for a session that has no line yet, under a number that was not issued before: how many
     /// were.
     pub fn seat(&mut self, session: u32) -> Result<Seat<St, T>, AllocError>
-        requires free { (n : ℕ) → IsNoted self.old.out n session → ⊥ }
-        requires few { self.old.issued < 2 ^ 32 - 1 }
-        requires named { IsNoted T.numbers self.old.issued session }
-        requires since { T.since self.old.issued ≡ length self.old.pen.lines }
-        requires new { AllOthers session (saids self.old.board.kept.steps) }
+        requires { MaySeat T.numbers T.since session self.old }
         ensures room { OnOk result (self.new ≡ giving session self.old) }
         ensures seat { IfOk result (λ s. s ≡ given_seat session T.opened self.old) }
         ensures err { OnErr result (self.new ≡ self.old) }
