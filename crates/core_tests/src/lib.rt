@@ -1,4 +1,4 @@
-//! Tests of desks, of the board, and of a core whose log fails. Nothing here is called.
+//! Tests of desks, of the board, of `segments`, and of a core whose log fails. Nothing here is called.
 #![tactic(auto)]
 
 #[cfg(test)]
@@ -7,3 +7,5 @@ mod board_tests;
 mod desk_tests;
 #[cfg(test)]
 mod fault_tests;
+#[cfg(test)]
+mod segments_tests;
