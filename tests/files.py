@@ -1,0 +1,208 @@
+"""Reads the two files of a dataset by docs/FORMATS.md alone, and writes those of a new one: what tests/run compares the program's files with."""
+import hashlib, struct
+
+MARK = b"\x01DECIBEL1"
+MOST_KEYS, MOST_VERSIONS, MOST_BRANCHES = 262_144, 65_536, 1_024
+
+
+class Damage(Exception):
+    """A place and a cause."""
+
+
+def u32(*numbers):
+    return b"".join(struct.pack("<I", n) for n in numbers)
+
+
+def named(name):
+    return bytes([len(name)]) + name
+
+
+def image_of(schema):
+    """The image of a new dataset. `schema` has a relation's name with its columns, in order."""
+    out = bytes([len(schema)])
+    for name, columns in schema:
+        out += named(name) + bytes([len(columns)]) + b"".join(named(c) for c in columns)
+    return out + u32(1) + named(b"master") + u32(0, 0) + u32(0) + u32(1, 1, 0, 1, 0, 0, 0, 0) * len(schema)
+
+
+def header(generation, image):
+    return MARK + struct.pack("<QQ", generation, len(image)) + hashlib.sha256(image).digest() + image
+
+
+def record(body):
+    return b"\x01" + u32(len(body)) + hashlib.sha256(body).digest() + body
+
+
+def new_file(schema):
+    return header(1, image_of(schema)) + b"\0"
+
+
+def commit(branch, changes, second=None):
+    """`changes` has relation, key and values, or no values for a deletion."""
+    out = b"\x01" + u32(branch) + (b"\0" if second is None else b"\x01" + u32(*second)) + u32(len(changes))
+    return out + b"".join(bytes([r, len(values)]) + struct.pack("<Q", key) + b"".join(struct.pack("<q", v) for v in values) for r, key, values in changes)
+
+
+class Reader:
+    def __init__(self, data):
+        self.data, self.at = data, 0
+
+    def take(self, size):
+        if self.at + size > len(self.data):
+            raise ValueError
+        self.at += size
+        return self.data[self.at - size:self.at]
+
+    def byte(self):
+        return self.take(1)[0]
+
+    def u32(self):
+        return struct.unpack("<I", self.take(4))[0]
+
+    def name(self):
+        return self.take(self.byte())
+
+
+def schema_in(image):
+    """The schema of a new dataset's image; such an image has one spelling."""
+    r = Reader(image)
+    try:
+        schema = []
+        for _ in range(r.byte()):
+            name = r.name()
+            schema.append((name, [r.name() for _ in range(r.byte())]))
+    except ValueError:
+        return None
+    return schema if image_of(schema) == image else None
+
+
+def entries_in(body):
+    """The entries of a body, or none if it isn't one or more of them."""
+    r, entries = Reader(body), []
+    try:
+        while r.at < len(body):
+            kind = r.byte()
+            if kind == 2:
+                entries.append(("branch", r.name(), r.u32(), r.u32()))
+                continue
+            if kind != 1:
+                return None
+            branch, has_second = r.u32(), r.byte()
+            if has_second > 1:
+                return None
+            second = (r.u32(), r.u32()) if has_second else None
+            changes = []
+            for _ in range(r.u32()):
+                relation, fields = r.byte(), r.byte()
+                if relation > 7 or fields > 15:
+                    return None
+                changes.append((relation, struct.unpack("<Q", r.take(8))[0], struct.unpack("<%dq" % fields, r.take(8 * fields))))
+            if len(changes) > 65_536 or any(a[:2] >= b[:2] for a, b in zip(changes, changes[1:])) or not (changes or second):
+                return None
+            entries.append(("commit", branch, second, changes))
+    except ValueError:
+        return None
+    return entries or None
+
+
+class Dataset:
+    """Of each branch the tables of its positions; a table has fields by relation and key."""
+
+    def __init__(self, schema):
+        self.schema, self.names, self.tables = schema, [b"master"], [[{}]]
+
+    def is_made(self, branch, position):
+        return branch < len(self.names) and position < len(self.tables[branch])
+
+    def take(self, entry):
+        """Adds an entry, if it fits."""
+        if entry[0] == "branch":
+            _, name, branch, position = entry
+            if name in self.names or len(self.names) >= MOST_BRANCHES or not self.is_made(branch, position):
+                return False
+            self.names.append(name)
+            self.tables.append([self.tables[branch][position]])
+            return True
+        _, branch, second, changes = entry
+        if not self.is_made(branch, 0) or len(self.tables[branch]) >= MOST_VERSIONS or (second and not self.is_made(*second)):
+            return False
+        if any(r >= len(self.schema) or (values and len(values) != len(self.schema[r][1])) for r, _, values in changes):
+            return False
+        table = dict(self.tables[branch][-1])
+        for r, key, values in changes:
+            table.pop((r, key), None)
+            if values:
+                table[r, key] = values
+        if any(sum(1 for where in table if where[0] == r) > MOST_KEYS for r in range(len(self.schema))):
+            return False
+        self.tables[branch].append(table)
+        return True
+
+
+def records_from(c, at):
+    """The bodies of open records with the places of their gates, and the place of the first closed gate."""
+    while True:
+        if at >= len(c):
+            raise Damage(at, "length")
+        if c[at] != 1:
+            return
+        if at + 37 > len(c):
+            raise Damage(at, "length")
+        size = struct.unpack("<I", c[at + 1:at + 5])[0]
+        if not 0 < size <= 16_777_216 or at + 37 + size > len(c):
+            raise Damage(at, "length")
+        body = c[at + 37:at + 37 + size]
+        if hashlib.sha256(body).digest() != c[at + 5:at + 37]:
+            raise Damage(at, "digest")
+        yield at, body
+        at += 37 + size
+
+
+def opened(c):
+    """Generation, dataset and number of entries of a file with a header."""
+    generation, size = struct.unpack("<QQ", c[9:25])
+    if not 1 <= generation <= 2 ** 63:
+        raise Damage(9, "grammar")
+    if 57 + size > len(c):
+        raise Damage(17, "length")
+    image = c[57:57 + size]
+    if hashlib.sha256(image).digest() != c[25:57]:
+        raise Damage(25, "digest")
+    schema = schema_in(image)
+    if schema is None:
+        raise Damage(57, "grammar")
+    dataset, count = Dataset(schema), 0
+    for at, body in records_from(c, 57 + size):
+        entries = entries_in(body)
+        if entries is None:
+            raise Damage(at, "grammar")
+        if not all(dataset.take(entry) for entry in entries):
+            raise Damage(at, "entry")
+        count += len(entries)
+    return generation, dataset, count
+
+
+def has_header(c):
+    return len(c) >= 57 and c[:9] == MARK
+
+
+def counted(first, second):
+    """The number of the file that counts, if one has a header."""
+    if not has_header(first):
+        return 1 if has_header(second) else None
+    if has_header(second) and struct.unpack("<Q", second[9:17]) > struct.unpack("<Q", first[9:17]):
+        return 1
+    return 0
+
+
+def check_line(first, second):
+    """What `check` writes of two files, and its status."""
+    file = counted(first, second)
+    if file is None:
+        return b"not a dataset\n", 3
+    try:
+        generation, dataset, entries = opened(second if file else first)
+    except Damage as damage:
+        return b"damaged file %d at %d %s\n" % (file, damage.args[0], damage.args[1].encode()), 4
+    versions = 1 + sum(len(tables) - 1 for tables in dataset.tables)
+    return b"ok generation %d branches %d versions %d entries %d\n" % (generation, len(dataset.names), versions, entries), 0

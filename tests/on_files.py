@@ -1,0 +1,222 @@
+"""The program on real files: `create`, `script` and `check`, with files spoilt, missing, swapped, full, and left by a program that was killed.
+
+What the files have is compared with what tests/files.py reads and writes by docs/FORMATS.md alone. A new dataset is made anew for each check.
+"""
+import os, random, re, subprocess, tempfile, time
+
+import files, worked
+
+SCHEMA = worked.USUAL
+RELATIONS = [(b"items", [b"a", b"b"])]
+KILLED, COMMITS = 100, 2000
+
+
+class Base:
+    """A base in a folder of its own, and the program that is run on it."""
+
+    def __init__(self, program, folder):
+        self.program, self.name, self.folder = program, os.path.join(folder, "base"), folder
+
+    def run(self, verb, given=b"", more=()):
+        done = subprocess.run([self.program, verb, self.name, *more], input=given, stdout=subprocess.PIPE, stderr=subprocess.PIPE, timeout=120)
+        return done.returncode, done.stdout, done.stderr
+
+    def made(self, script=b""):
+        """A new dataset, with the lines of a script."""
+        found = self.run("create", SCHEMA)
+        assert found == (0, b"created\n", b""), found
+        return self.run("script", script) if script else found
+
+    def path(self, file):
+        return "%s.%d" % (self.name, file)
+
+    def read(self, file):
+        try:
+            with open(self.path(file), "rb") as f:
+                return f.read()
+        except FileNotFoundError:
+            return b""
+
+    def write(self, file, data):
+        with open(self.path(file), "wb") as f:
+            f.write(data)
+
+    def told(self):
+        """What `check` should write, its status and its text, by the bytes of the files."""
+        line, status = files.check_line(self.read(0), self.read(1))
+        said = {0: b"", 3: b"decibel: not a dataset\n", 4: b"decibel: " + b" ".join(line.split()[:5]) + b"\n"}
+        return status, line, said[status]
+
+
+def answered(*lines):
+    return b"".join(b"> " + line + b"\n" + reply + b"\n" for line, reply in lines)
+
+
+def new_ones(base):
+    """A new dataset, and what is said of files that are there."""
+    yield "create", base.run("create", SCHEMA), (0, b"created\n", b"")
+    yield "the file of a new dataset", (base.read(0), base.read(1)), (files.new_file(RELATIONS), b"")
+    yield "create again", base.run("create", SCHEMA), (10, b"", b"decibel: already there\n")
+    yield "the files stay", (base.read(0), base.read(1)), (files.new_file(RELATIONS), b"")
+    yield "check of a new dataset", base.run("check"), (0, b"ok generation 1 branches 1 versions 1 entries 0\n", b"")
+    yield "a script of no line", base.run("script"), (0, b"", b"")
+
+
+def bad_schemas(base):
+    for name, given, line in (("empty", b"", 1), ("no end", b"relation items a\n", 2), ("a column twice", b"relation items a a\nend\n", 1),
+                              ("a line after the end", SCHEMA + b"# a comment\n\n1 scan items\n", 5)):
+        yield "create by a schema: " + name, base.run("create", given), (11, b"", b"decibel: bad line %d\n" % line)
+        yield "no file by a schema: " + name, (base.read(0), base.read(1)), (b"", b"")
+    yield "create with comments after the end", base.run("create", SCHEMA + b"# a comment\n\n"), (0, b"created\n", b"")
+
+
+def one_insert(base):
+    """The bytes of one insert, and files that are spoilt."""
+    yield "one insert", base.made(b"1 insert items 1 1 1\n"), (0, answered((b"1 insert items 1 1 1", b"ok master@1")), b"")
+    whole = base.read(0)
+    yield "its bytes", whole, files.new_file(RELATIONS)[:-1] + files.record(files.commit(0, [(0, 1, (1, 1))])) + b"\0"
+    yield "their number", (len(whole), base.read(1)), (198, b"")
+    changed = whole[:161] + bytes([whole[161] ^ 1]) + whole[162:]
+    for name, data, line, status, said in (
+        ("a byte of the body changed", changed, b"damaged file 0 at 124 digest\n", 4, b"decibel: damaged file 0 at 124\n"),
+        ("cut in the body", whole[:150], b"damaged file 0 at 124 length\n", 4, b"decibel: damaged file 0 at 124\n"),
+        ("other bytes behind the closed gate", whole + b"arbitrary 12", b"ok generation 1 branches 1 versions 2 entries 1\n", 0, b""),
+        ("cut before the last gate", whole[:197], b"damaged file 0 at 197 length\n", 4, b"decibel: damaged file 0 at 197\n"),
+        ("the first byte closed", b"\0" + whole[1:], b"not a dataset\n", 3, b"decibel: not a dataset\n"),
+        ("generation 0", whole[:9] + bytes(8) + whole[17:], b"damaged file 0 at 9 grammar\n", 4, b"decibel: damaged file 0 at 9\n"),
+        ("an image past the end", whole[:17] + b"\xff" + whole[18:], b"damaged file 0 at 17 length\n", 4, b"decibel: damaged file 0 at 17\n"),
+        ("a byte of the image changed", whole[:60] + b"x" + whole[61:], b"damaged file 0 at 25 digest\n", 4, b"decibel: damaged file 0 at 25\n"),
+        ("an entry twice", whole[:-1] + whole[124:-1] + b"\0", b"ok generation 1 branches 1 versions 3 entries 2\n", 0, b""),
+        ("an entry of a branch that isn't there", whole[:-1] + files.record(files.commit(7, [(0, 1, ())])) + b"\0", b"damaged file 0 at 197 entry\n", 4, b"decibel: damaged file 0 at 197\n"),
+        ("a body that is no entry", whole[:-1] + files.record(b"\x03") + b"\0", b"damaged file 0 at 197 grammar\n", 4, b"decibel: damaged file 0 at 197\n"),
+    ):
+        base.write(0, data)
+        yield name, base.run("check"), (status, line, said)
+        yield name + ", by its bytes", base.told(), (status, line, said)
+        if status:
+            yield name + ": a script", base.run("script", b"1 scan items\n"), (status, b"", said)
+        yield name + ": the file stays", base.read(0), data
+
+
+def again(base):
+    """A script goes on where the last one ended, with files that are swapped too."""
+    base.made(b"1 insert items 1 1 1\n1 branch dev of master\n1 begin\n1 insert items 9 9 9\n")
+    yield "what an open transaction leaves", base.run("check"), (0, b"ok generation 1 branches 2 versions 2 entries 2\n", b"")
+    yield "the next script", base.run("script", b"1 get items 9\n1 on dev\n1 update items 1 a=2\n1 log dev\n"), (0, answered(
+        (b"1 get items 9", b"none"), (b"1 on dev", b"ok"), (b"1 update items 1 a=2", b"ok dev@1"), (b"1 log dev", b"dev@1 of master@1\ndev@0 is master@1\npositions 2")), b"")
+    first, second = base.read(0), base.read(1)
+    base.write(0, second)
+    base.write(1, first)
+    yield "swapped files", base.run("check"), (0, b"ok generation 1 branches 2 versions 3 entries 3\n", b"")
+    yield "a script on swapped files", base.run("script", b"1 scan items in heads\n"), (0, answered((b"1 scan items in heads", b"row 1 1 1 in master\nrow 1 2 1 in dev\nrows 2")), b"")
+    yield "a change on swapped files", base.run("script", b"1 insert items 3 3 3\n")[:2], (0, answered((b"1 insert items 3 3 3", b"ok master@2")))
+    yield "the other file stays", (base.read(0), base.run("check")), (b"", (0, b"ok generation 1 branches 2 versions 4 entries 4\n", b""))
+
+
+def not_there(base):
+    """Files that are missing, and a folder in the place of one."""
+    for verb in ("check", "script"):
+        status, written, said = base.run(verb, b"1 scan items\n")
+        yield verb + " of no files", (status, written, said), (3, b"not a dataset\n" if verb == "check" else b"", b"decibel: not a dataset\n")
+        yield verb + " makes none", os.listdir(base.folder), []
+    base.made()
+    os.unlink(base.path(1))
+    yield "the second file missing", base.run("script", b"1 insert items 1 1 1\n")[0], 0
+    os.unlink(base.path(0))
+    os.mkdir(base.path(0))
+    for verb in ("check", "script", "create"):
+        yield verb + " of a folder", base.run(verb, SCHEMA if verb == "create" else b""), (7, b"", b"decibel: disk fault\n")
+
+
+def full_disk(base):
+    """A disk with little room: a commit that finds none is refused, and what was acknowledged stays."""
+    place = os.path.join(base.folder, "small")
+    os.mkdir(place)
+    if subprocess.run(["mount", "-t", "tmpfs", "-o", "size=64k", "tmpfs", place], stderr=subprocess.DEVNULL).returncode:
+        print("tests/run: no small disk can be mounted here, so nobody filled one")
+        return
+    try:
+        small = Base(base.program, place)
+        small.made()
+        lines = [b"1 insert items %d 1 1" % n for n in range(2000)]
+        status, written, said = small.run("script", b"".join(line + b"\n" for line in lines))
+        replies = written.split(b"\n")[1:-1:2]
+        stored = replies.count(b"refused 19 fault disk")
+        yield "a full disk", (status, said, len(replies)), (7, b"decibel: disk fault\n", 2000)
+        yield "some commits fail on a full disk", 0 < stored < 2000, True
+        yield "the others are answered", all(reply == b"refused 19 fault disk" or reply.startswith(b"ok master@") for reply in replies), True
+        acknowledged = 2000 - stored
+        yield "what was acknowledged stays", small.run("check")[1], b"ok generation 1 branches 1 versions %d entries %d\n" % (acknowledged + 1, acknowledged)
+    finally:
+        subprocess.run(["umount", place])
+
+
+def no_permission(base):
+    """Files that may not be read, where the user isn't root."""
+    base.made()
+    os.chmod(base.path(0), 0)
+    if os.geteuid() == 0:
+        os.chmod(base.folder, 0o755)
+        command = ["setpriv", "--reuid=65534", "--clear-groups", base.program]
+        if subprocess.run(command + ["tyr"], stdout=subprocess.DEVNULL, stderr=subprocess.DEVNULL).returncode != 2:
+            print("tests/run: nobody can't run the program here, so no file was closed to it")
+            return
+    else:
+        command = [base.program]
+    done = subprocess.run(command + ["check", base.name], stdout=subprocess.PIPE, stderr=subprocess.PIPE)
+    yield "a file that may not be read", (done.returncode, done.stdout, done.stderr), (7, b"", b"decibel: disk fault\n")
+
+
+def killed(base):
+    """The program killed at a random moment: each line whose `ok` was read is there, in order, and at most one commit more."""
+    source = random.Random(9)
+    given = b"".join(b"1 insert items %d %d 0\n" % (n, n) for n in range(COMMITS))
+    wrong, cut = [], 0
+    started = time.monotonic()
+    base.made()
+    base.run("script", given)
+    whole = time.monotonic() - started
+    for turn in range(KILLED):
+        for file in (0, 1):
+            os.unlink(base.path(file))
+        base.made()
+        program = subprocess.Popen([base.program, "script", base.name], stdin=subprocess.PIPE, stdout=subprocess.PIPE, stderr=subprocess.DEVNULL)
+        program.stdin.write(given)
+        program.stdin.close()
+        time.sleep(source.random() * whole)
+        program.kill()
+        written = program.stdout.read()
+        program.wait()
+        read = len(re.findall(rb"^ok master@\d+\n", written, re.MULTILINE))
+        cut += read < COMMITS
+        told, line, _ = base.run("check")
+        found = re.fullmatch(rb"ok generation 1 branches 1 versions (\d+) entries (\d+)\n", line)
+        there = int(found.group(2)) if found else -1
+        rows = base.run("script", b"1 scan items\n")[1]
+        expected = b"> 1 scan items\n" + b"".join(b"row %d %d 0\n" % (n, n) for n in range(there)) + b"rows %d\n" % there
+        if told or not read <= there <= read + 1 or rows != expected:
+            wrong.append((turn, told, read, there))
+    print("tests/run: killed %d times in a script of %d commits, %d times before its end: %.1f seconds" % (KILLED, COMMITS, cut, time.monotonic() - started), flush=True)
+    yield "killed at a random moment", wrong, []
+    yield "killed before the end", cut > KILLED // 2, True
+
+
+def examples(base, folder):
+    """A script on new files writes what `try` does, and the files are what they should be."""
+    for name in sorted(f for f in os.listdir(folder) if f.endswith(".script")):
+        with open(os.path.join(folder, name), "rb") as f:
+            schema, end, lines = f.read().partition(b"\nend\n")
+        with open(os.path.join(folder, name[:-len("script")] + "replies"), "rb") as f:
+            replies = f.read()
+        base.name = os.path.join(base.folder, name)
+        base.run("create", schema + end)
+        yield "examples/%s on files" % name, base.run("script", lines), (0, replies, b"")
+        yield "the files of examples/%s" % name, base.run("check"), base.told()
+
+
+def checks(program, top):
+    """Names with what was found and what should be."""
+    for part in (new_ones, bad_schemas, one_insert, again, not_there, full_disk, no_permission, killed, examples):
+        with tempfile.TemporaryDirectory() as folder:
+            base = Base(program, folder)
+            yield from part(base, os.path.join(top, "examples")) if part is examples else part(base)
