@@ -1,6 +1,5 @@
 -- What a command tells, by how it stopped.
-use Rattle.std.proofs.Common.{◌≡◌, ◌≢◌, ◌⊎◌, inl, inr, ◌∙◌, [], List, ℕ, refl, sym, ap, subst, Option}
-use Rattle.db_value.specs.declared.schema.Relation.{Relation}
+use Rattle.std.proofs.Common.{◌≡◌, ◌≢◌, ◌⊎◌, inl, inr, ◌∙◌, [], List, ℕ, refl, sym, subst, Option}
 use Rattle.db_outside.specs.declared.disk.Disk.{Ghosts}
 use Rattle.generations.specs.declared.pair.Pair.{Pair}
 use Rattle.generations.specs.declared.look.OpenStop.{OpenStop}
@@ -8,9 +7,8 @@ use Rattle.generations.specs.declared.look.OpenStop.TheVariants.{NotDataset as N
 use Rattle.generations.specs.declared.new.CreateStop.{CreateStop}
 use Rattle.generations.specs.declared.new.CreateStop.TheVariants.{AlreadyThere as IsThere, DiskFault as FailedDisk, Memory as WantOfMemory}
 use Rattle.generations.specs.Created.{AreEmpty, IsCreateStop}
-use Rattle.generations.specs.Files.{Files, reads}
+use Rattle.generations.specs.Files.{Files}
 use Rattle.generations.specs.Looks.{IsOpenStop}
-use Rattle.generations.specs.Pairs.{IfTold}
 use Rattle.script_run.specs.Device.{Appends, AppendsShort}
 use Rattle.decibel_main.specs.Checks.{check_text, IsFound, WritesFound}
 use Rattle.decibel_main.specs.Creates.{stop_status, CreatesFiles, FindsFiles, OpensToNew}

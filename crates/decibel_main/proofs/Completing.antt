@@ -1,17 +1,15 @@
 -- A call without a fault, of words, input and files that break no rule.
-use Rattle.std.proofs.Common.{◌≡◌, ◌⊎◌, inl, inr, ◌∙◌, ◌-◌, ◌^◌, ◌<◌, ◌≤◌, [], List, ℕ, length, refl, sym, ap, arith, Option, Some}
+use Rattle.std.proofs.Common.{◌≡◌, ◌⊎◌, inl, inr, ◌∙◌, ◌-◌, ◌^◌, ◌<◌, List, ℕ, length, refl, sym, ap, arith, Option, Some}
 use Rattle.db_outside.specs.Device.{Rose}
 use Rattle.db_outside.specs.declared.disk.Disk.{Ghosts}
 use Rattle.gate_journal.specs.declared.cause.Cause.{Cause}
 use Rattle.generations.specs.declared.pair.Pair.{Pair}
 use Rattle.generations.specs.Created.{AreEmpty, IsOneThere}
-use Rattle.generations.specs.Files.{counts, no_header, opened, damaged, reads}
+use Rattle.generations.specs.Files.{counts, no_header, damaged, reads}
 use Rattle.generations.specs.Pairs.{RoseInOne}
-use Rattle.script_run.specs.Device.{most_bytes}
-use Rattle.decibel_main.specs.Ends.{IsUnread, Completes}
-use Rattle.decibel_main.specs.Checks.{Checks}
+use Rattle.decibel_main.specs.Ends.{Completes}
 use Rattle.decibel_main.specs.Scripts.{Scripts}
-use Rattle.decibel_main.specs.Top.{Did, ReadsInput, TellsFaults, Tries, Creates, RunsLines, ChecksFiles, IsGoodFor, IsShortInput, NoFault, GiveState}
+use Rattle.decibel_main.specs.Top.{Did, ReadsInput, TellsFaults, IsGoodFor, IsShortInput, NoFault, GiveState}
 use Rattle.decibel_main.specs.declared.command.Command.{Command}
 use Rattle.decibel_main.specs.declared.command.Command.TheVariants.{Try, Create, Script, Check}
 use Rattle.decibel_main.specs.declared.status.Status.{Status}

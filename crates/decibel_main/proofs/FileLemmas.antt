@@ -1,10 +1,8 @@
 -- A dataset in two files, by its files.
-use Rattle.std.proofs.Common.{◌≡◌, ◌⊎◌, inl, inr, ◌∙◌, ◌+◌, ◌-◌, ◌^◌, ◌<◌, ◌≤◌, ◌++◌, ◌∷◌, [], List, ℕ, zero, suc, Bool, true, false, cond, refl, sym, ap, subst, arith, Option, Some, None}
+use Rattle.std.proofs.Common.{◌≡◌, ◌⊎◌, inl, inr, ◌∙◌, ◌+◌, ◌<◌, List, ℕ, zero, suc, Bool, true, false, cond, refl, ap, arith, Option, None}
 use Rattle.db_value.specs.declared.entry.Entry.{Entry}
-use Rattle.db_value.specs.declared.schema.Relation.{Relation}
 use Rattle.db_store.specs.State.{State}
 use Rattle.db_outside.specs.Device.{Rose}
-use Rattle.db_outside.specs.Disk.{LeavesOnly}
 use Rattle.db_outside.specs.declared.disk.Disk.{Ghosts}
 use Rattle.gate_journal.specs.Reads.{OnlyReads}
 use Rattle.entry_codec.specs.Logs.{Opening, gives, MayGive}

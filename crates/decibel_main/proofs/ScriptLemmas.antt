@@ -1,12 +1,12 @@
 -- A run on a log, and on two files.
-use Rattle.std.proofs.Common.{◌≡◌, ◌⊎◌, inl, inr, ◌∙◌, ◌+◌, ◌-◌, ◌^◌, ◌<◌, ◌≤◌, ◌++◌, ◌∷◌, [], List, ℕ, Bool, true, false, cond, nat_lt, refl, sym, ap, subst, arith, Option, Some, None}
+use Rattle.std.proofs.Common.{◌≡◌, inl, ◌∙◌, ◌+◌, ◌-◌, ◌^◌, ◌<◌, ◌≤◌, ◌++◌, ◌∷◌, [], List, ℕ, Bool, true, false, cond, nat_lt, refl, sym, ap, subst, arith, Option, Some, None}
 use Rattle.std.specs.Prelude.{Result, Ok, Err, OnOk, IsErrOf}
 use Rattle.std.proofs.lemmas.List.{append-nil}
 use Rattle.db_value.specs.declared.entry.Entry.{Entry}
 use Rattle.db_store.specs.State.{State}
 use Rattle.db_outside.specs.Count.{counted}
 use Rattle.db_outside.specs.declared.disk.Disk.{Ghosts}
-use Rattle.entry_codec.specs.Logs.{Opening, gives, MayGive}
+use Rattle.entry_codec.specs.Logs.{Opening, MayGive}
 use Rattle.db_core.specs.Order.{World, opening}
 use Rattle.db_core.specs.Kept.{Logged, world_of, new_kept}
 use Rattle.generations.specs.declared.dataset.Dataset.{Dataset}
@@ -19,15 +19,14 @@ use Rattle.generations.specs.Pairs.{RoseInOne, BothOnlyRead}
 use Rattle.db_outside.specs.Disk.{InAll}
 use Rattle.script_run.specs.declared.run.RunStop.{RunStop}
 use Rattle.script_run.specs.declared.run.RunStop.TheVariants.{Fault, Memory as NoMemory}
-use Rattle.script_run.specs.Device.{Appends}
-use Rattle.script_run.specs.Output.{Marked, lines_of, failures, world_after, out}
-use Rattle.script_run.specs.Acknowledged.{acknowledged, begun, listed, IsPending, GivesAny, KeepsAny, StoresAll}
+use Rattle.script_run.specs.Output.{failures, world_after}
+use Rattle.script_run.specs.Acknowledged.{acknowledged, begun, GivesAny}
 use Rattle.script_run.specs.Runs.{RunsAll, RunsCut, RunsWhole}
 use Rattle.script_run.proofs.OutputLemmas.{out_end}
 use Rattle.script_run.proofs.StoreLemmas.{stores_none, may_any}
 use Rattle.decibel_main.specs.Ends.{IsEndOf}
 use Rattle.decibel_main.specs.Images.{OpensNow, faults_in}
-use Rattle.decibel_main.specs.Scripts.{RunsOn, RunsLog, RunsScript}
+use Rattle.decibel_main.specs.Scripts.{RunsLog, RunsScript}
 use Rattle.decibel_main.specs.declared.status.Status.{Status}
 use Rattle.decibel_main.specs.declared.status.Status.TheVariants.{Done, Usage, NotDataset, Damaged, ReadFault, WriteFault, DiskFault, TooLong, Memory, AlreadyThere, BadLine}
 use Rattle.decibel_main.proofs.FileLemmas.{keeps_pairs, faults_are, one_rose}

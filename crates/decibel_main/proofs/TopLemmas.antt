@@ -1,23 +1,19 @@
 -- What a command does, by whether its input was read.
-use Rattle.std.proofs.Common.{◌≡◌, ◌⊎◌, inl, inr, ◌∙◌, ◌-◌, ◌^◌, ◌<◌, ◌≤◌, ◌++◌, [], List, ℕ, length, refl, sym, ap, subst, arith, Option, Some, None}
-use Rattle.std.specs.Prelude.{Ok, Err}
+use Rattle.std.proofs.Common.{◌≡◌, inl, inr, ◌∙◌, ◌≤◌, [], List, ℕ, length, refl, sym, ap, subst, arith, Option, Some}
+use Rattle.std.specs.Prelude.{Err}
 use Rattle.std.proofs.lemmas.List.{append-nil}
 use Rattle.db_value.specs.Text.{lines}
 use Rattle.db_value.specs.Schema.{schema_of}
-use Rattle.db_outside.specs.Device.{Rose}
 use Rattle.db_outside.specs.declared.disk.Disk.{Ghosts}
 use Rattle.generations.specs.declared.pair.Pair.{Pair}
-use Rattle.generations.specs.Created.{AreEmpty}
-use Rattle.generations.specs.Files.{counts, no_header, opened, damaged, reads}
 use Rattle.generations.specs.Pairs.{IfTold, BothOnlyRead}
 use Rattle.script_run.specs.Device.{Appends, AppendsFront, TakesAll, most_bytes}
 use Rattle.script_run.specs.Output.{lines_run}
 use Rattle.decibel_main.specs.Output.{output_of}
-use Rattle.decibel_main.specs.Ends.{BreaksOffIn, IsBadLineOrBefore, IsUnread, IsRunStatus, IsCreateStatus, IsOpenStatus, Completes}
+use Rattle.decibel_main.specs.Ends.{BreaksOffIn, IsBadLineOrBefore, IsUnread, IsRunStatus, IsCreateStatus, IsOpenStatus}
 use Rattle.decibel_main.specs.Creates.{schema_alone, CreatesFiles, FindsFiles, WritesCreated}
-use Rattle.decibel_main.specs.Checks.{Checks, IsFound}
-use Rattle.decibel_main.specs.Scripts.{Scripts, RunsScript, Answers, Stops, IsStop}
-use Rattle.decibel_main.specs.Top.{Did, ReadsInput, TellsFaults, Tries, Creates, RunsLines, ChecksFiles, IsGoodFor, NoFault, GiveState}
+use Rattle.decibel_main.specs.Scripts.{Scripts, Stops}
+use Rattle.decibel_main.specs.Top.{Did, ReadsInput, TellsFaults, Tries, Creates, RunsLines}
 use Rattle.decibel_main.specs.Inputs.{CarriesOut, IsWhyUnread, TriesInput, CreatesInput, RunsInput}
 use Rattle.decibel_main.specs.declared.command.Command.{Command}
 use Rattle.decibel_main.specs.declared.command.Command.TheVariants.{Try, Create, Script, Check}

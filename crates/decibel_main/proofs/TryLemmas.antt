@@ -1,8 +1,7 @@
 -- A run over a log that never fails.
-use Rattle.std.proofs.Common.{◌≡◌, ◌∙◌, ◌++◌, ◌∷◌, ◌+◌, ◌≤◌, [], List, ℕ, suc, Bool, true, false, cond, length, map, refl, sym, ap, arith, subst, inl, inr, Option, append_assoc}
+use Rattle.std.proofs.Common.{◌≡◌, ◌∙◌, ◌++◌, ◌∷◌, ◌+◌, ◌≤◌, [], List, ℕ, suc, Bool, true, false, cond, map, refl, sym, ap, arith, subst, inl, inr, Option, append_assoc}
 use Rattle.std.specs.Prelude.{Result, Ok, Err, OnOk, IsErrOf}
 use Rattle.std.proofs.lemmas.List.{map-append, append-nil}
-use Rattle.db_value.specs.declared.entry.Entry.{Entry}
 use Rattle.db_core.specs.Order.{World, next}
 use Rattle.db_core.specs.Kept.{Kept, Stands, world_of}
 use Rattle.script_run.specs.Device.{Appends, AppendsFront, AppendsShort}

@@ -1,5 +1,5 @@
 -- What `check` writes.
-use Rattle.std.specs.Prelude.{◌≡◌, ◌⊎◌, ◌+◌, ℕ, zero, suc, codes, List, [], ◌∷◌, ◌++◌, length, Option}
+use Rattle.std.specs.Prelude.{◌≡◌, ◌+◌, ℕ, zero, suc, codes, List, [], ◌∷◌, ◌++◌, length, Option}
 use Rattle.std.specs.Fmt.{decimal}
 use Rattle.db_value.specs.declared.entry.Entry.{Entry}
 use Rattle.db_store.specs.Dataset.{Dataset, last_of}
@@ -9,7 +9,7 @@ use Rattle.gate_journal.specs.declared.cause.Cause.TheVariants.{Grammar, Length,
 use Rattle.generations.specs.Files.{Outcome, damaged, opened, Files, no_header, counts, reads}
 use Rattle.script_run.specs.Device.{Appends, AppendsShort}
 use Rattle.decibel_main.specs.declared.status.Status.{Status}
-use Rattle.decibel_main.specs.declared.status.Status.TheVariants.{Done, NotDataset, Damaged, WriteFault, DiskFault, Memory}
+use Rattle.decibel_main.specs.declared.status.Status.TheVariants.{Done, NotDataset, Damaged, WriteFault}
 
 -- the root, and the versions that commits made on the first n branches
 abbrev pub versions_on : Dataset → ℕ → ℕ

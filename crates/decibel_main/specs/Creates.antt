@@ -1,10 +1,10 @@
 -- What `create` does.
-use Rattle.std.specs.Prelude.{◌≡◌, ◌⊎◌, ◌-◌, ℕ, suc, cond, codes, List, [], ◌∷◌, ◌++◌, length, Option, Some, None, Result, Ok, Err}
+use Rattle.std.specs.Prelude.{◌≡◌, ◌-◌, ℕ, suc, cond, codes, List, [], ◌∷◌, ◌++◌, length, Option, Some, None, Result, Ok, Err}
 use Rattle.db_value.specs.Text.{lines, is_passed_over}
 use Rattle.db_value.specs.Schema.{schema_of}
 use Rattle.db_value.specs.declared.schema.Relation.{Relation}
 use Rattle.db_outside.specs.declared.disk.Disk.{Ghosts}
-use Rattle.entry_codec.specs.Logs.{Opening, gives}
+use Rattle.entry_codec.specs.Logs.{gives}
 use Rattle.generations.specs.declared.pair.Pair.{Pair}
 use Rattle.generations.specs.declared.new.CreateStop.{CreateStop}
 use Rattle.generations.specs.declared.new.CreateStop.TheVariants.{AlreadyThere as IsThere, DiskFault as DiskFailed, Memory as NoMemory}

@@ -1,5 +1,5 @@
 -- The words with which the program is called.
-use Rattle.std.specs.Prelude.{◌≡◌, ◌&&◌, ◌==◌, ℕ, not, nat_le, cond, codes, Bool, true, false, List, [], ◌∷◌, length, Option, Some, None}
+use Rattle.std.specs.Prelude.{◌≡◌, ◌&&◌, ◌==◌, ℕ, not, nat_le, cond, codes, Bool, false, List, [], ◌∷◌, length, Option, Some, None}
 use Rattle.std.specs.Int.{is_in_range}
 use Rattle.std.specs.List.{list_all}
 use Rattle.db_value.specs.Text.{same}

@@ -238,11 +238,44 @@ fn acknowledged(output: &[u8]) -> usize {
 
 const TWO_ROWS: &str = "1 insert items 1 1 1\n1 insert items 2 2 2\n";
 
-// What `check` says after a crash now.
-fn checked(alloc: Global, disk: &MemDisk, fill: Fill) -> Result<Vec<u8>, Fail> {
+const FIRST_FAILED: &str =
+    "> 1 insert items 1 1 1\nrefused 19 fault disk\n> 1 insert items 2 2 2\nok master@1\n";
+
+const SECOND_FAILED: &str =
+    "> 1 insert items 1 1 1\nok master@1\n> 1 insert items 2 2 2\nrefused 19 fault disk\n";
+
+// What is written for a command after a crash now.
+fn after_crash(
+    alloc: Global,
+    disk: &MemDisk,
+    fill: Fill,
+    word: &str,
+    input: &str,
+) -> Result<Vec<u8>, Fail> {
     let stopped = disk.stop(MORE_THAN_ANY, fill)?;
-    let ran = run(alloc, "check", "", files_of(alloc, stopped.bytes(), b"")?)?;
+    let ran = run(alloc, word, input, files_of(alloc, stopped.bytes(), b"")?)?;
     Ok(ran.output)
+}
+
+// One of two lines failed: after a crash that leaves the old bytes the row of the other one is there.
+fn keeps_the_other_row(rt: &impl Abort, alloc: Global, ran: &Ran, call: u64) -> Result<(), Fail> {
+    let output = ran.output.as_slice();
+    let told = after_crash(
+        alloc,
+        &ran.disks.first,
+        Fill::Old,
+        "script",
+        "1 scan items\n",
+    )?;
+    if output == FIRST_FAILED.as_bytes() {
+        let rows = b"> 1 scan items\nrow 2 2 2\nrows 1\n";
+        assert!(rt; told.as_slice() == rows.as_slice(), "rows with {call}");
+    } else {
+        let rows = b"> 1 scan items\nrow 1 1 1\nrows 1\n";
+        assert!(rt; output == SECOND_FAILED.as_bytes(), "output with {call}");
+        assert!(rt; told.as_slice() == rows.as_slice(), "rows with {call}");
+    }
+    Ok(())
 }
 
 #[test]
@@ -263,8 +296,11 @@ fn keeps_what_was_acknowledged_if_a_call_fails(rt: HostRuntime) -> Result<(), Fa
         let stored = acknowledged(&ran.output);
         let failed = ran.status == Status::DiskFault;
         assert!(rt; failed == (stored < 2), "script with {call}");
+        if stored == 1 {
+            keeps_the_other_row(&rt, alloc, &ran, call)?;
+        }
         for fill in [Fill::Old, Fill::New] {
-            let told = checked(alloc, &ran.disks.first, fill)?;
+            let told = after_crash(alloc, &ran.disks.first, fill, "check", "")?;
             let least = format!(in alloc;
                 "ok generation 1 branches 1 versions {} entries {stored}\n",
                 stored + 1

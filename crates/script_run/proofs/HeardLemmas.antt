@@ -1,6 +1,6 @@
 -- A core after lines.
 use Rattle.std.proofs.Common.{◌≡◌, ◌∙◌, ◌++◌, ◌∷◌, [], List, ℕ, Bool, map, refl, sym, ap, subst, inl, inr, Option}
-use Rattle.std.proofs.lemmas.List.{map-append, append-nil}
+use Rattle.std.proofs.lemmas.List.{map-append}
 use Rattle.db_value.specs.declared.entry.Entry.{Entry}
 use Rattle.db_value.specs.declared.reply.Reply.{Reply}
 use Rattle.db_store.specs.State.{State}

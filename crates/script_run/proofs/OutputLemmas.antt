@@ -12,7 +12,7 @@ use Rattle.db_core.specs.Kept.{Kept, saids, world_of, Stands}
 use Rattle.db_core.proofs.Boards.{growth_law}
 use Rattle.db_core.proofs.Rooms.{room_law}
 use Rattle.script_run.specs.Device.{Appends, AppendsFront, AppendsShort}
-use Rattle.script_run.specs.Output.{Marked, lines_run, lines_of, said, failures, world_after, answer_of, out}
+use Rattle.script_run.specs.Output.{Marked, lines_run, lines_of, said, world_after, answer_of, out}
 use Rattle.script_run.specs.Heard.{Hears}
 
 -- ---- a script's lines

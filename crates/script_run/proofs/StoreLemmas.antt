@@ -10,7 +10,7 @@ use Rattle.stmt_text.specs.declared.stmt.Line.{Line}
 use Rattle.stmt_text.specs.Line.{line_of}
 use Rattle.db_outside.specs.Device.{Rose}
 use Rattle.entry_codec.specs.Spelling.{spelling}
-use Rattle.entry_codec.specs.Logs.{Opening, gives, GivesMore, MayGive, IsNoLater, AddsOnly}
+use Rattle.entry_codec.specs.Logs.{Opening, MayGive, IsNoLater, AddsOnly}
 use Rattle.store_tx.specs.Ends.{grown, is_open, ends}
 use Rattle.store_tx.specs.Stored.{Stores, GivesIf, EndsIf, stored_if}
 use Rattle.db_core.specs.Order.{Said, World, said_as, said_of, next, after, fate_of, needs_of, next_by}

@@ -3,7 +3,6 @@ use Rattle.std.specs.Prelude.{◌≡◌, ◌⊎◌, ℕ, List, [], ◌∷◌, �
 use Rattle.db_value.specs.declared.entry.Entry.{Entry}
 use Rattle.db_store.specs.State.{State}
 use Rattle.entry_codec.specs.Logs.{Opening}
-use Rattle.db_core.specs.Order.{World}
 use Rattle.db_core.specs.Kept.{Logged, world_of}
 use Rattle.script_run.specs.Device.{Appends, AppendsShort}
 use Rattle.script_run.specs.Output.{Marked, lines_of, world_after, answer_of, out}

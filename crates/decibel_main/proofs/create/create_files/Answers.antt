@@ -1,4 +1,4 @@
-use Rattle.std.proofs.Common.{◌≡◌, ◌∙◌, refl, sym, ap, subst, [], List, ℕ, None}
+use Rattle.std.proofs.Common.{◌∙◌, sym, subst, [], None}
 use Rattle.generations.specs.declared.pair.Pair.{Pair}
 use Rattle.generations.specs.Datasets.{pair_in}
 use Rattle.generations.specs.Files.{reads}

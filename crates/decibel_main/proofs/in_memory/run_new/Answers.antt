@@ -1,10 +1,10 @@
-use Rattle.std.proofs.Common.{arith, ◌≡◌, ◌∙◌, ◌∷◌, [], ap, sym, subst, refl, List, ℕ, Option, map}
+use Rattle.std.proofs.Common.{arith, subst}
 use Rattle.std.proofs.lemmas.Result.{on_ok_weaker}
 use Rattle.db_core.specs.Order.{World}
 use Rattle.db_core.specs.Kept.{world_of}
 use Rattle.db_value.specs.Text.{lines}
 use Rattle.script_run.specs.Device.{Appends, AppendsFront}
-use Rattle.script_run.specs.Output.{unmarked, lines_run, out}
+use Rattle.script_run.specs.Output.{lines_run, out}
 use Rattle.decibel_main.specs.Output.{unmarked_run, IsCut}
 use Rattle.decibel_main.proofs.TryLemmas.{no_failures, appends_all, front_all, front_cut, front_whole, front_by, is_cut}
 use Rattle.decibel_main.proofs.in_memory.run_new.Goals as goal

@@ -1,4 +1,4 @@
-use Rattle.std.proofs.Common.{◌≡◌, ◌∙◌, refl, sym, ap, subst, List, ℕ}
+use Rattle.std.proofs.Common.{sym, subst}
 use Rattle.db_value.specs.Text.{lines}
 use Rattle.script_run.specs.Output.{lines_run}
 use Rattle.db_core.specs.Order.{opening}

@@ -1,12 +1,12 @@
-use Rattle.std.proofs.Common.{◌≡◌, ◌∙◌, refl, sym, ap, subst, inl, inr, List, ℕ}
+use Rattle.std.proofs.Common.{refl, sym, subst, inl, inr}
 use Rattle.db_value.specs.Text.{lines}
 use Rattle.generations.specs.declared.pair.Pair.{Pair}
 use Rattle.generations.specs.Stored.{state_in}
 use Rattle.script_run.specs.Output.{lines_run}
 use Rattle.decibel_main.specs.Scripts.{IsStop, RunsScript}
 use Rattle.decibel_main.specs.declared.status.Status.{Status}
-use Rattle.decibel_main.proofs.ScriptLemmas.{runs_files, rose}
-use Rattle.decibel_main.proofs.CommandLemmas.{stop_why, stop_open_disk, stop_open_write}
+use Rattle.decibel_main.proofs.ScriptLemmas.{runs_files}
+use Rattle.decibel_main.proofs.CommandLemmas.{stop_why}
 use Rattle.decibel_main.proofs.script.script_files.Goals as goal
 
 pub returns-in-Err-clause-runs : goal.returns-in-Err-clause-runs

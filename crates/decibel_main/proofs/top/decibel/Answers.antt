@@ -1,4 +1,4 @@
-use Rattle.std.proofs.Common.{◌≡◌, ◌∙◌, refl, sym, subst, List, ℕ, Option, Some}
+use Rattle.std.proofs.Common.{◌∙◌, refl, sym, subst, Option, Some}
 use Rattle.decibel_main.specs.Top.{Did}
 use Rattle.decibel_main.specs.declared.command.Command.{Command}
 use Rattle.decibel_main.specs.declared.status.Status.{Status}

@@ -1,4 +1,4 @@
-use Rattle.std.proofs.Common.{◌≡◌, ◌≤◌, ◌++◌, List, ℕ, length}
+use Rattle.std.proofs.Common.{◌≡◌, ◌≤◌, ◌++◌, List, length}
 use Rattle.db_value.specs.Text.{lines}
 use Rattle.db_core.specs.Kept.{Stands, world_of}
 use Rattle.script_run.specs.Device.{Appends}
