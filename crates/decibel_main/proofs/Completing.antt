@@ -1,0 +1,117 @@
+-- A call without a fault, of words, input and files that break no rule.
+use Rattle.std.proofs.Common.{◌≡◌, ◌⊎◌, inl, inr, ◌∙◌, ◌-◌, ◌^◌, ◌<◌, List, ℕ, length, refl, sym, ap, arith, Option, Some}
+use Rattle.db_outside.specs.Device.{Rose}
+use Rattle.db_outside.specs.declared.disk.Disk.{Ghosts}
+use Rattle.gate_journal.specs.declared.cause.Cause.{Cause}
+use Rattle.generations.specs.declared.pair.Pair.{Pair}
+use Rattle.generations.specs.Created.{AreEmpty, IsOneThere}
+use Rattle.generations.specs.Files.{counts, no_header, damaged, reads}
+use Rattle.generations.specs.Pairs.{RoseInOne}
+use Rattle.decibel_main.specs.Ends.{Completes}
+use Rattle.decibel_main.specs.Scripts.{Scripts}
+use Rattle.decibel_main.specs.Top.{Did, ReadsInput, TellsFaults, IsGoodFor, IsShortInput, NoFault, GiveState}
+use Rattle.decibel_main.specs.declared.command.Command.{Command}
+use Rattle.decibel_main.specs.declared.command.Command.TheVariants.{Try, Create, Script, Check}
+use Rattle.decibel_main.specs.declared.status.Status.{Status}
+use Rattle.decibel_main.specs.declared.status.Status.TheVariants.{Done, Usage, NotDataset, Damaged, ReadFault, WriteFault, DiskFault, TooLong, Memory, AlreadyThere, BadLine}
+
+neither : {P : Type 0} → ⊥ ⊎ ⊥ → P
+neither (inl x) = absurd x
+neither (inr x) = absurd x
+
+-- a count that stays below its end has not risen
+no_rise : {P : Type 0} (a b : ℕ) → Rose a b → b ≡ a → a < 2 ^ 64 - 1 → P
+no_rise a b rose same below = absurd (omega (arith, rose (omega (arith, same, below)), same))
+
+not_long : {Q : List ℕ → Type 0} {P : Type 0} (left left' : Option (List ℕ)) (good : IsShortInput left Q) → ReadsInput left left' TooLong → P
+not_long left left' good r = absurd (omega (arith, good.short, r.too_long refl good.input good.told))
+
+one_there : (c d : List ℕ) → AreEmpty c d → IsOneThere c d → ⊥
+one_there c d e (inl some) = omega (arith, some, ap length e.0)
+one_there c d e (inr some) = omega (arith, some, ap length e.1)
+
+module _ (c d : List ℕ) (good : GiveState c d) where
+  has_header : {P : Type 0} → reads c d ≡ no_header → P
+  has_header is = absurd (cc (sym good.5 ∙ is))
+
+  is_whole : {P : Type 0} (file n at : ℕ) (cause : Cause) → reads c d ≡ counts file n (damaged at cause) → P
+  is_whole file n at cause is = absurd (cc (sym good.5 ∙ is))
+
+module _ {D : Type 0} (g : Ghosts D) (left left' before after : Option (List ℕ)) (disks disks' : Pair D) where
+  -- of words that are a form another status than that of usage is told
+  pub not_usage : (c : Command) → Did g (Some c) left left' before after disks disks' Usage → ⊥
+  not_usage Try d = neither d.1.ends
+  not_usage Create d = neither d.1.ends
+  not_usage Script d = neither d.1.ends
+  not_usage Check d = d.ends
+
+module _ {D : Type 0} (g : Ghosts D) (left left' before after : Option (List ℕ)) (disks disks' : Pair D) (s s' k k' : ℕ) (n : NoFault g s s' k k' disks disks') where
+  no_fault : {P : Type 0} → RoseInOne g disks disks' → P
+  no_fault (inl rose) = no_rise (g.faults disks.first) (g.faults disks'.first) rose n.first_same n.first_counts
+  no_fault (inr rose) = no_rise (g.faults disks.second) (g.faults disks'.second) rose n.second_same n.second_counts
+
+  tries : (status : Status) → Did g (Some Try) left left' before after disks disks' status → TellsFaults g s s' k k' disks disks' status → IsGoodFor g Try left disks → Completes status
+  tries Done d t good = tt
+  tries Memory d t good = tt
+  tries ReadFault d t good = no_rise s s' (t.read_fault refl) n.source_same n.source_counts
+  tries WriteFault d t good = no_rise k k' (t.write_fault refl) n.sink_same n.sink_counts
+  tries DiskFault d t good = no_fault (t.disk_fault refl)
+  tries TooLong d t good = not_long left left' good d.0
+  tries (BadLine m) d t good = absurd (cc (sym good.good.1 ∙ d.1.bad_line m refl good.input good.told))
+  tries Usage d t good = neither d.1.ends
+  tries NotDataset d t good = neither d.1.ends
+  tries (Damaged file at) d t good = neither d.1.ends
+  tries AlreadyThere d t good = neither d.1.ends
+
+  creates : (status : Status) → Did g (Some Create) left left' before after disks disks' status → TellsFaults g s s' k k' disks disks' status → IsGoodFor g Create left disks → Completes status
+  creates Done d t good = tt
+  creates Memory d t good = tt
+  creates ReadFault d t good = no_rise s s' (t.read_fault refl) n.source_same n.source_counts
+  creates WriteFault d t good = no_rise k k' (t.write_fault refl) n.sink_same n.sink_counts
+  creates DiskFault d t good = no_fault (t.disk_fault refl)
+  creates TooLong d t good = not_long left left' good.0 d.0
+  creates (BadLine m) d t good = absurd (cc (sym good.0.good.1 ∙ d.1.bad_line m refl good.0.input good.0.told))
+  creates AlreadyThere d t good = absurd (one_there good.1.first good.1.second good.1.good (d.1.there good.1.first good.1.second good.1.first_told good.1.second_told))
+  creates Usage d t good = neither d.1.ends
+  creates NotDataset d t good = neither d.1.ends
+  creates (Damaged file at) d t good = neither d.1.ends
+
+  stopped : {P : Type 0} (all : List (List ℕ)) (c e : List ℕ) → GiveState c e → Scripts g disks disks' all NotDataset before after c e → P
+  stopped all c e good (inl run) = absurd run.answers
+  stopped all c e good (inr stop) = has_header c e good stop.why
+
+  spoilt : {P : Type 0} (all : List (List ℕ)) (file at : ℕ) (c e : List ℕ) → GiveState c e → Scripts g disks disks' all (Damaged file at) before after c e → P
+  spoilt all file at c e good (inl run) = absurd run.answers
+  spoilt all file at c e good (inr stop) = is_whole c e good file stop.why.0 at stop.why.1 stop.why.2
+
+  scripts : (status : Status) → Did g (Some Script) left left' before after disks disks' status → TellsFaults g s s' k k' disks disks' status → IsGoodFor g Script left disks → Completes status
+  scripts Done d t good = tt
+  scripts Memory d t good = tt
+  scripts ReadFault d t good = no_rise s s' (t.read_fault refl) n.source_same n.source_counts
+  scripts WriteFault d t good = no_rise k k' (t.write_fault refl) n.sink_same n.sink_counts
+  scripts DiskFault d t good = no_fault (t.disk_fault refl)
+  scripts TooLong d t good = not_long left left' good.0 d.0
+  scripts NotDataset d t good = stopped _ good.1.first good.1.second good.1.good (d.1.lines tt good.0.input good.0.told good.1.first good.1.second good.1.first_told good.1.second_told)
+  scripts (Damaged file at) d t good = spoilt _ file at good.1.first good.1.second good.1.good (d.1.lines tt good.0.input good.0.told good.1.first good.1.second good.1.first_told good.1.second_told)
+  scripts Usage d t good = neither d.1.ends
+  scripts AlreadyThere d t good = neither d.1.ends
+  scripts (BadLine m) d t good = neither d.1.ends
+
+  checks : (status : Status) → Did g (Some Check) left left' before after disks disks' status → TellsFaults g s s' k k' disks disks' status → IsGoodFor g Check left disks → Completes status
+  checks Done d t good = tt
+  checks Memory d t good = tt
+  checks WriteFault d t good = no_rise k k' (t.write_fault refl) n.sink_same n.sink_counts
+  checks DiskFault d t good = no_fault (t.disk_fault refl)
+  checks NotDataset d t good = has_header good.first good.second good.good (d.tells good.first good.second good.first_told good.second_told).0
+  checks (Damaged file at) d t good = let is = (d.tells good.first good.second good.first_told good.second_told).0 in is_whole good.first good.second good.good file is.0 at is.1 is.2
+  checks ReadFault d t good = absurd d.ends
+  checks TooLong d t good = absurd d.ends
+  checks Usage d t good = absurd d.ends
+  checks AlreadyThere d t good = absurd d.ends
+  checks (BadLine m) d t good = absurd d.ends
+
+  pub completes : (c : Command) (status : Status) → Did g (Some c) left left' before after disks disks' status → TellsFaults g s s' k k' disks disks' status → IsGoodFor g c left disks → Completes status
+  completes Try status d t good = tries status d t good
+  completes Create status d t good = creates status d t good
+  completes Script status d t good = scripts status d t good
+  completes Check status d t good = checks status d t good

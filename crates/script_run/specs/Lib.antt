@@ -1,0 +1,5 @@
+pub mod Device
+pub mod Output
+pub mod Acknowledged
+pub mod Heard
+pub mod Runs

@@ -1,0 +1,50 @@
+-- How a run of lines ends.
+use Rattle.std.specs.Prelude.{◌≡◌, ◌⊎◌, ℕ, List, [], ◌∷◌, ◌++◌, Option}
+use Rattle.db_value.specs.declared.entry.Entry.{Entry}
+use Rattle.db_store.specs.State.{State}
+use Rattle.entry_codec.specs.Logs.{Opening}
+use Rattle.db_core.specs.Kept.{Logged, world_of}
+use Rattle.script_run.specs.Device.{Appends, AppendsShort}
+use Rattle.script_run.specs.Output.{Marked, lines_of, world_after, answer_of, out}
+use Rattle.script_run.specs.Acknowledged.{StoresAll}
+
+-- Of all these lines the first ones were run, with their marks, and these were not. The state is that after them, and the log did for them what a log does.
+pub record Runs
+    {L : Type 0} (faults : L → ℕ) (Keeps : L → State → List Entry → Option (List ℕ) → Type 0) (generation : L → ℕ) (moment : L → ℕ × ℕ) (opens_since : L → ℕ × ℕ → Opening → Type 0) (Quiet : L → ℕ × ℕ → Type 0)
+    (old new : Logged L) (all : List (List ℕ)) (ran : List Marked) (rest : List (List ℕ)) : Type 0 where
+  pub lines : all ≡ lines_of ran ++ rest
+  pub state : new.kept.now ≡ (world_after (world_of old.kept) ran).state
+  pub stores : StoresAll faults Keeps generation moment opens_since Quiet (world_of old.kept) ran old.log new.log
+
+-- all lines were run, and answered whole
+pub record RunsAll
+    {L : Type 0} (faults : L → ℕ) (Keeps : L → State → List Entry → Option (List ℕ) → Type 0) (generation : L → ℕ) (moment : L → ℕ × ℕ) (opens_since : L → ℕ × ℕ → Opening → Type 0) (Quiet : L → ℕ × ℕ → Type 0)
+    (old new : Logged L) (all : List (List ℕ)) (before written : Option (List ℕ)) : Type 0 where
+  pub ran : List Marked
+  pub runs : Runs faults Keeps generation moment opens_since Quiet old new all ran []
+  pub answers : Appends before written (out (world_of old.kept) ran)
+
+-- some were run, all but the last of these were answered whole, and of the answer to the last a part is missing
+pub record RunsCut
+    {L : Type 0} (faults : L → ℕ) (Keeps : L → State → List Entry → Option (List ℕ) → Type 0) (generation : L → ℕ) (moment : L → ℕ × ℕ) (opens_since : L → ℕ × ℕ → Opening → Type 0) (Quiet : L → ℕ × ℕ → Type 0)
+    (old new : Logged L) (all : List (List ℕ)) (before written : Option (List ℕ)) : Type 0 where
+  pub done : List Marked
+  pub last : Marked
+  pub rest : List (List ℕ)
+  pub runs : Runs faults Keeps generation moment opens_since Quiet old new all (done ++ last ∷ []) rest
+  pub answers : (later : List Marked) → AppendsShort before written (out (world_of old.kept) done) (answer_of (world_after (world_of old.kept) done) last later)
+
+-- the lines that were run are those that were answered, or one more
+abbrev pub IsOneMore : List Marked → List Marked → Type 0
+IsOneMore done ran = (ran ≡ done) ⊎ ((last : Marked) × (ran ≡ done ++ last ∷ []))
+
+-- some were run and answered whole, then at most one more was run, and no other byte was written
+pub record RunsWhole
+    {L : Type 0} (faults : L → ℕ) (Keeps : L → State → List Entry → Option (List ℕ) → Type 0) (generation : L → ℕ) (moment : L → ℕ × ℕ) (opens_since : L → ℕ × ℕ → Opening → Type 0) (Quiet : L → ℕ × ℕ → Type 0)
+    (old new : Logged L) (all : List (List ℕ)) (before written : Option (List ℕ)) : Type 0 where
+  pub done : List Marked
+  pub ran : List Marked
+  pub rest : List (List ℕ)
+  pub runs : Runs faults Keeps generation moment opens_since Quiet old new all ran rest
+  pub one_more : IsOneMore done ran
+  pub answers : Appends before written (out (world_of old.kept) done)
