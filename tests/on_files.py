@@ -183,7 +183,7 @@ def killed(base):
         program = subprocess.Popen([base.program, "script", base.name], stdin=subprocess.PIPE, stdout=subprocess.PIPE, stderr=subprocess.DEVNULL)
         program.stdin.write(given)
         program.stdin.close()
-        time.sleep(source.random() * whole)
+        time.sleep(source.random() * min(whole, 0.5))
         program.kill()
         written = program.stdout.read()
         program.wait()
