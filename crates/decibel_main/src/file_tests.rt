@@ -303,12 +303,12 @@ fn keeps_what_was_acknowledged_if_a_call_fails(rt: HostRuntime) -> Result<(), Fa
             let told = after_crash(alloc, &ran.disks.first, fill, "check", "")?;
             let least = format!(in alloc;
                 "ok generation 1 branches 1 versions {} entries {stored}\n",
-                stored + 1
+                stored.saturating_add(1)
             )?;
             let most = format!(in alloc;
                 "ok generation 1 branches 1 versions {} entries {}\n",
-                stored + 2,
-                stored + 1
+                stored.saturating_add(2),
+                stored.saturating_add(1)
             )?;
             let told = told.as_slice();
             assert!(rt;
