@@ -10,9 +10,6 @@ use std::test::Fail;
 
 const SCHEMA: &str = "relation items a b\nend\n";
 
-// The files have this when the image begins: a gate, a name of eight bytes, and 48 bytes more.
-const IMAGE_AT: usize = 57;
-
 /// How a call ended, what it wrote, and the files then.
 #[derive(Drop)]
 struct Ran {
@@ -123,62 +120,59 @@ fn keeps_what_a_script_stored(rt: HostRuntime) -> Result<(), Fail> {
     Ok(())
 }
 
+// What `check` tells of a file with these bytes beside an empty one.
+fn tells(
+    rt: &impl Abort,
+    alloc: Global,
+    file: &[u8],
+    status: Status,
+    line: &str,
+) -> Result<(), Fail> {
+    let files = files_of(alloc, file, b"")?;
+    let _ = runs(rt, alloc, "check", "", files, status, line)?;
+    Ok(())
+}
+
+// A script runs no line on such a file.
+fn stays_shut(rt: &impl Abort, alloc: Global, file: &[u8], status: Status) -> Result<(), Fail> {
+    let files = files_of(alloc, file, b"")?;
+    let _ = runs(rt, alloc, "script", "1 begin\n", files, status, "")?;
+    Ok(())
+}
+
 #[test]
-fn tells_what_is_wrong_with_files(rt: HostRuntime) -> Result<(), Fail> {
+fn tells_files_without_a_header(rt: HostRuntime) -> Result<(), Fail> {
+    let alloc = rt.alloc();
+    tells(&rt, alloc, b"", Status::NotDataset, "not a dataset\n")?;
+    stays_shut(&rt, alloc, b"", Status::NotDataset)
+}
+
+const AT_124: Status = Status::Damaged { file: 0, at: 124 };
+
+#[test]
+fn tells_a_cut_record(rt: HostRuntime) -> Result<(), Fail> {
     let alloc = rt.alloc();
     let disks = one_row(&rt, alloc)?;
-    let bytes = disks.first.bytes();
-    assert_eq!(rt; bytes.len(), 198);
-    let mut spoilt = Vec::from_slice(alloc, bytes)?;
+    let mut cut = Vec::from_slice(alloc, disks.first.bytes())?;
+    cut.truncate(150);
+    tells(&rt, alloc, &cut, AT_124, "damaged file 0 at 124 length\n")?;
+    stays_shut(&rt, alloc, &cut, AT_124)
+}
+
+#[test]
+fn tells_a_spoilt_record(rt: HostRuntime) -> Result<(), Fail> {
+    let alloc = rt.alloc();
+    let disks = one_row(&rt, alloc)?;
+    let mut spoilt = Vec::from_slice(alloc, disks.first.bytes())?;
+    assert_eq!(rt; spoilt.len(), 198);
     spoilt[161] = 9;
-    let mut image = Vec::from_slice(alloc, bytes)?;
-    image[IMAGE_AT] = 9;
-    let mut behind = Vec::from_slice(alloc, bytes)?;
-    behind.extend_from_slice(b"twelve bytes")?;
-    let cases: [(&str, &[u8], Status, &str); 5] = [
-        ("no header", b"", Status::NotDataset, "not a dataset\n"),
-        (
-            "a byte of a record",
-            &spoilt,
-            Status::Damaged { file: 0, at: 124 },
-            "damaged file 0 at 124 digest\n",
-        ),
-        (
-            "a cut record",
-            &bytes[..150],
-            Status::Damaged { file: 0, at: 124 },
-            "damaged file 0 at 124 length\n",
-        ),
-        (
-            "a byte of the image",
-            &image,
-            Status::Damaged { file: 0, at: 25 },
-            "damaged file 0 at 25 digest\n",
-        ),
-        (
-            "bytes behind a closed gate",
-            &behind,
-            Status::Done,
-            "ok generation 1 branches 1 versions 2 entries 1\n",
-        ),
-    ];
-    for (name, file, status, output) in cases {
-        let ran = run(alloc, "check", "", files_of(alloc, file, b"")?)?;
-        let ended = ran.status;
-        assert!(rt; ended == status, "{name}: {ended:?}");
-        assert!(rt;
-            ran.output.as_slice() == output.as_bytes(),
-            "{name}: the output"
-        );
-        let ran = run(alloc, "script", "1 begin\n", files_of(alloc, file, b"")?)?;
-        let ended = ran.status;
-        assert!(rt; ended == status, "script of {name}: {ended:?}");
-        assert!(rt;
-            ran.output.is_empty() == (status != Status::Done),
-            "script of {name}: the output"
-        );
-    }
-    Ok(())
+    tells(
+        &rt,
+        alloc,
+        &spoilt,
+        AT_124,
+        "damaged file 0 at 124 digest\n",
+    )
 }
 
 #[test]
