@@ -1,4 +1,11 @@
+pub mod Totals
+pub mod Rising
+pub mod PlaceLemmas
+pub mod Shared
+pub mod Distinct
+pub mod Agreeing
 pub mod Runs
+pub mod Joined
 pub mod Sorted
 pub mod Union
 pub mod Pairs

@@ -1,20 +1,21 @@
 -- Rows with positions: one by one, and joined by rows.
-use Rattle.std.proofs.Common.{◌≡◌, ℕ, ◌+◌, ◌<◌, ◌≤◌, ◌==◌, Bool, true, false, cond, ◌&&◌, ◌||◌, List, [], ◌∷◌, ◌++◌, length, map, ap, sym, ◌∙◌, refl, arith, nat_cmp, Ordering, Less, Equal, Greater}
+use Rattle.std.proofs.Common.{◌≡◌, ℕ, ◌+◌, ◌<◌, ◌≤◌, ◌==◌, Bool, true, false, cond, ◌&&◌, ◌||◌, List, [], ◌∷◌, ◌++◌, length, map, ap, sym, ◌∙◌, refl, subst, arith, nat_cmp, Ordering, Less, Equal, Greater}
 use Rattle.std.specs.List.{AllByRecursion, IsDistinct, list_any}
-use Rattle.std.specs.List.Sorted.{IsStrictlySortedBy, IsSorted, IsPermutation}
+use Rattle.std.specs.List.Sorted.{IsStrictlySortedBy}
 use Rattle.std.specs.Ordering.{eq_by_cmp, is_eq, ordering_then}
 use Rattle.std.specs.Cmp.{IsTotalOrder, nat_cmp_total, on_total, then_total, unsigned_ties, tied_itself, eq_by_cmp_equiv}
 use Rattle.std.specs.FinMap.{IsAntisymmetric, nat_cmp-IsAntisymmetric}
+use Rattle.std.proofs.Math.Dec.{ltb}
 use Rattle.std.proofs.lemmas.Bool.{lt-ltb}
+use Rattle.std.proofs.lemmas.Map.Views.{tells_apart}
 use Rattle.std.proofs.lemmas.List.Folds.{list_any-append}
-use Rattle.std.proofs.lemmas.List.Sorted.{list_any-IsPermutation}
-use Rattle.std.proofs.lemmas.Map.Keys.{IsDistinct-IsPermutation}
 use Rattle.db_value.specs.Order.{record_eq, record_cmp}
 use Rattle.db_value.proofs.OrderLemmas.{record_total, record_exact, record_ties, record_same, record_is, both_tie, tied}
 use Rattle.db_value.specs.declared.record.Record.{Record}
 use Rattle.db_value.specs.declared.record.Marked.{Marked}
-use Rattle.multi_scan.specs.declared.found.Found.{Found}
-use Rattle.multi_scan.specs.Found.{joined, found_cmp}
+use Rattle.multi_scan.specs.Found.{Found, found_cmp, row_cmp, spread, spread_one, times, weigh, is_same}
+use Rattle.multi_scan.proofs.Totals.{zero_plus}
+use Rattle.multi_scan.proofs.Joined.{HasPositions}
 use Rattle.multi_scan.specs.Multi.{has, union_of, positions_from, marked_in, union_marked}
 use Rattle.db_store.proofs.RowLemmas.{same_sorted, strictly_sorted, all_append}
 use Rattle.multi_scan.proofs.Sorted.{sorted_append, sorted_nil, sorted_cons, distinct_append, distinct_nil, all_map}
@@ -89,11 +90,6 @@ among_positions n k row (rows ∷ lists) = elim (has row rows) as (λ b. list_an
     and_true : (b : Bool) → b ≡ (b && true)
     and_true true = refl
     and_true false = refl
-
--- the pairs that marked rows stand for
-abbrev pub spread : List Marked → List Found
-spread [] = []
-spread (m ∷ ms) = map (λ i. pair i m.row) m.positions ++ spread ms
 
 among_marked : (k : ℕ) (row r : Record) (ps : List ℕ) → list_any (eq_by_cmp found_cmp (pair k row)) (map (λ i. pair i r) ps) ≡ (record_eq row r && list_any (λ i. k == i) ps)
 among_marked k row r [] = and_false (record_eq row r)
@@ -212,41 +208,56 @@ sorted_marked row (p ∷ ps) s =
     (all_map (λ (f : Found). found_cmp (pair p row) f ≡ Less) (λ i. pair i row) ps (all_imply (λ (k : ℕ). nat_cmp p k ≡ Less) (λ (k : ℕ). found_cmp (pair p row) (pair k row) ≡ Less) (λ k e. ap (λ o. ordering_then o (nat_cmp p k)) same ∙ e) ps s.0), sorted_marked row ps s.1)
 
 -- what holds of each row holds of each of their pairs
-rows_of_spread : (P : Record → Type 0) (lists : List (List Record)) (rows : List Record) → AllByRecursion P rows → AllByRecursion (λ f. P f.row) (spread (map (marked_in lists) rows))
-rows_of_spread P lists [] a = tt
-rows_of_spread P lists (r ∷ rows) a = all_append (λ f. P f.row) (map (λ i. pair i r) (positions_from 0 r lists)) (spread (map (marked_in lists) rows)) (all_map (λ (f : Found). P f.row) (λ i. pair i r) (positions_from 0 r lists) (all_of (λ (i : ℕ). P r) (λ i. a.0) (positions_from 0 r lists))) (rows_of_spread P lists rows a.1)
+rows_of_spread : (P : Record → Type 0) (ms : List Marked) → AllByRecursion (λ m. P m.row) ms → AllByRecursion (λ f. P f.row) (spread ms)
+rows_of_spread P [] a = tt
+rows_of_spread P (m ∷ ms) a = all_append (λ f. P f.row) (spread_one m) (spread ms) (all_map (λ (f : Found). P f.row) (λ i. pair i m.row) m.positions (all_of (λ (i : ℕ). P m.row) (λ i. a.0) m.positions)) (rows_of_spread P ms a.1)
 
-sorted_spread : (lists : List (List Record)) (rows : List Record) → IsStrictlySortedBy record_cmp rows → IsStrictlySortedBy found_cmp (spread (map (marked_in lists) rows))
+sorted_spread : (ms : List Marked) → IsStrictlySortedBy row_cmp ms → AllByRecursion (λ m. IsStrictlySortedBy nat_cmp m.positions) ms → IsStrictlySortedBy found_cmp (spread ms)
 unfolding IsStrictlySortedBy
-sorted_spread lists [] s = tt
-sorted_spread lists (r ∷ rows) s =
-    let rest = spread (map (marked_in lists) rows) in
-    let Before : ℕ → Type 0 = λ i. AllByRecursion (λ f. found_cmp (pair i r) f ≡ Less) rest in
-    let before : (i : ℕ) → Before i = λ i. all_imply (λ (f : Found). record_cmp r f.row ≡ Less) (λ (f : Found). found_cmp (pair i r) f ≡ Less) (λ f e. ap (λ o. ordering_then o (nat_cmp i f.position)) e) rest (rows_of_spread (λ (x : Record). record_cmp r x ≡ Less) lists rows s.0) in
-    sorted_append found_cmp (map (λ i. pair i r) (positions_from 0 r lists)) rest (sorted_marked r (positions_from 0 r lists) (sorted_positions 0 r lists)) (sorted_spread lists rows s.1)
-    (all_map (λ (x : Found). AllByRecursion (λ f. found_cmp x f ≡ Less) rest) (λ i. pair i r) (positions_from 0 r lists) (all_of Before before (positions_from 0 r lists)))
+sorted_spread [] s a = tt
+sorted_spread (m ∷ ms) s a =
+    let rest = spread ms in
+    let Before : ℕ → Type 0 = λ i. AllByRecursion (λ f. found_cmp (pair i m.row) f ≡ Less) rest in
+    let before : (i : ℕ) → Before i = λ i. all_imply (λ (f : Found). record_cmp m.row f.row ≡ Less) (λ (f : Found). found_cmp (pair i m.row) f ≡ Less) (λ f e. ap (λ o. ordering_then o (nat_cmp i f.position)) e) rest (rows_of_spread (λ (x : Record). record_cmp m.row x ≡ Less) ms s.0) in
+    sorted_append found_cmp (spread_one m) rest (sorted_marked m.row m.positions a.0) (sorted_spread ms s.1 a.1)
+    (all_map (λ (x : Found). AllByRecursion (λ f. found_cmp x f ≡ Less) rest) (λ i. pair i m.row) m.positions (all_of Before before m.positions))
+
+-- rows in order are so with the positions of the lists that have them
+marked_sorted : (lists : List (List Record)) (rows : List Record) → IsStrictlySortedBy record_cmp rows → IsStrictlySortedBy row_cmp (map (marked_in lists) rows)
+unfolding IsStrictlySortedBy
+marked_sorted lists [] s = tt
+marked_sorted lists (r ∷ rows) s = (all_map (λ (m : Marked). record_cmp r m.row ≡ Less) (marked_in lists) rows s.0, marked_sorted lists rows s.1)
 
 -- ---- joining what was spread
+
+-- neighbours with one row as that row, with the positions of all
+abbrev with_pair : Found → List Marked → List Marked
+with_pair f [] = record { row = f.row; positions = f.position ∷ [] } ∷ []
+with_pair f (m ∷ ms) = cond (record_eq f.row m.row) (record { row = f.row; positions = f.position ∷ m.positions } ∷ ms) (record { row = f.row; positions = f.position ∷ [] } ∷ m ∷ ms)
+
+abbrev gathered : List Found → List Marked
+gathered [] = []
+gathered (f ∷ fs) = with_pair f (gathered fs)
 
 abbrev Differs : Record → List Marked → Type 0
 Differs row [] = Unit {0}
 Differs row (m ∷ ms) = record_eq row m.row ≡ false
 
 abbrev IsRun : Record → List ℕ → List Found → List Marked → Type 0
-IsRun row ps rest ms = joined (map (λ i. pair i row) ps ++ rest) ≡ record { row = row; positions = ps } ∷ ms
+IsRun row ps rest ms = gathered (map (λ i. pair i row) ps ++ rest) ≡ record { row = row; positions = ps } ∷ ms
 
-last_joined : (row : Record) (p : ℕ) (rest : List Found) (ms : List Marked) → joined rest ≡ ms → Differs row ms → IsRun row (p ∷ []) rest ms
+last_joined : (row : Record) (p : ℕ) (rest : List Found) (ms : List Marked) → gathered rest ≡ ms → Differs row ms → IsRun row (p ∷ []) rest ms
 last_joined row p rest [] e d = rw e refl
 last_joined row p rest (m ∷ ms) e d = rw (e, d) refl
 
 more_joined : (row : Record) (p q : ℕ) (ps : List ℕ) (rest : List Found) (ms : List Marked) → IsRun row (q ∷ ps) rest ms → IsRun row (p ∷ q ∷ ps) rest ms
 more_joined row p q ps rest ms e = rw (e, record_same row) refl
 
-run_joined : (row : Record) (p : ℕ) (ps : List ℕ) (rest : List Found) (ms : List Marked) → joined rest ≡ ms → Differs row ms → IsRun row (p ∷ ps) rest ms
+run_joined : (row : Record) (p : ℕ) (ps : List ℕ) (rest : List Found) (ms : List Marked) → gathered rest ≡ ms → Differs row ms → IsRun row (p ∷ ps) rest ms
 run_joined row p [] rest ms e d = last_joined row p rest ms e d
 run_joined row p (q ∷ ps) rest ms e d = more_joined row p q ps rest ms (run_joined row q ps rest ms e d)
 
-some_joined : (row : Record) (ps : List ℕ) (rest : List Found) (ms : List Marked) → 0 < length ps → joined rest ≡ ms → Differs row ms → IsRun row ps rest ms
+some_joined : (row : Record) (ps : List ℕ) (rest : List Found) (ms : List Marked) → 0 < length ps → gathered rest ≡ ms → Differs row ms → IsRun row ps rest ms
 some_joined row [] rest ms h e d = absurd (omega arith)
 some_joined row (p ∷ ps) rest ms h e d = run_joined row p ps rest ms e d
 
@@ -260,29 +271,111 @@ some_position n row (rows ∷ lists) e = elim (has row rows) as (λ b. (b || any
 less_differs : (a b : Record) → record_cmp a b ≡ Less → record_eq a b ≡ false
 less_differs a b e = record_ties a b ∙ ap is_eq e
 
-differs_from : (lists : List (List Record)) (row : Record) (rows : List Record) → AllByRecursion (λ r. record_cmp row r ≡ Less) rows → Differs row (map (marked_in lists) rows)
-differs_from lists row [] a = tt
-differs_from lists row (r ∷ rows) a = less_differs row r a.0
+differs_from : (row : Record) (ms : List Marked) → AllByRecursion (λ m. record_cmp row m.row ≡ Less) ms → Differs row ms
+differs_from row [] a = tt
+differs_from row (m ∷ ms) a = less_differs row m.row a.0
 
-joined_spread : (lists : List (List Record)) (rows : List Record) → IsStrictlySortedBy record_cmp rows → AllByRecursion (λ row. anywhere row lists ≡ true) rows → joined (spread (map (marked_in lists) rows)) ≡ map (marked_in lists) rows
+gathered_spread : (ms : List Marked) → IsStrictlySortedBy row_cmp ms → AllByRecursion (λ m. 0 < length m.positions) ms → gathered (spread ms) ≡ ms
 unfolding IsStrictlySortedBy
-joined_spread lists [] s a = refl
-joined_spread lists (r ∷ rows) s a = some_joined r (positions_from 0 r lists) (spread (map (marked_in lists) rows)) (map (marked_in lists) rows) (some_position 0 r lists a.0) (joined_spread lists rows s.1 a.1) (differs_from lists r rows s.0)
+gathered_spread [] s a = refl
+gathered_spread (m ∷ ms) s a = some_joined m.row m.positions (spread ms) ms a.0 (gathered_spread ms s.1 a.1) (differs_from m.row ms s.0)
 
--- ---- pairs of lists, in order and joined, are the union of the lists
+-- ---- how often a pair is there
 
-flips : (a b : Found) → eq_by_cmp found_cmp a b ≡ eq_by_cmp found_cmp b a
-flips a b = (eq_by_cmp_equiv found_total).symm a b
+same_is : (q f : Found) → eq_by_cmp found_cmp q f ≡ is_same q f
+same_is q f = pair_eq q.position f.position q.row f.row
 
-any_found : Found
-any_found = record { row = record { key = 0; fields = [] }; position = 0 }
+flips : (a b : Found) → is_same a b ≡ is_same b a
+flips a b = sym (same_is a b) ∙ (eq_by_cmp_equiv found_total).symm a b ∙ same_is b a
 
-pub joined_pairs : (xss lists : List (List Record)) (fs : List Found) → Alike xss lists → AllByRecursion (IsDistinct record_eq) xss → IsPermutation (pairs_from 0 xss) fs → IsSorted found_cmp fs → joined fs ≡ union_marked lists
-joined_pairs xss lists fs alike distinct moved up =
+same_itself : (q : Found) → is_same q q ≡ true
+same_itself q = sym (same_is q q) ∙ (eq_by_cmp_equiv found_total).refl q
+
+is_found : (q f : Found) → is_same q f ≡ true → q ≡ f
+is_found q f e = tells_apart found_exact q f (same_is q f ∙ e)
+
+-- no time where none is the same, and some time otherwise
+never : (q : Found) (fs : List Found) → AllByRecursion (λ f. is_same q f ≡ false) fs → times q fs ≡ 0
+never q [] a = refl
+never q (f ∷ fs) a = (λ i. weigh (a.0 i) + times q fs) ∙ sym (zero_plus (times q fs)) ∙ never q fs a.1
+
+nowhere : (q : Found) (fs : List Found) → times q fs ≡ 0 → AllByRecursion (λ f. is_same q f ≡ false) fs
+nowhere q [] e = tt
+nowhere q (f ∷ fs) e = elim (is_same q f) as (λ b. is_same q f ≡ b → weigh b + times q fs ≡ 0 → (b ≡ false) × AllByRecursion (λ f. is_same q f ≡ false) fs) [
+  | true ↦ λ s z. absurd (omega (arith, z))
+  | false ↦ λ s z. (refl, nowhere q fs (omega (arith, z)))
+] refl e
+
+once : (fs : List Found) → IsDistinct is_same fs → (q : Found) → times q fs ≤ 1
+unfolding IsDistinct
+once [] d q = omega arith
+once (f ∷ fs) d q = elim (is_same q f) as (λ b. is_same q f ≡ b → weigh b + times q fs ≤ 1) [
+  | true ↦ λ e. let z : times q fs ≡ 0 = ap (λ (x : Found). times x fs) (is_found q f e) ∙ never f fs d.0 in omega (arith, z)
+  | false ↦ λ e. omega (arith, once fs d.1 q)
+] refl
+
+distinct_once : (fs : List Found) → ((q : Found) → times q fs ≤ 1) → IsDistinct is_same fs
+unfolding IsDistinct
+distinct_once [] h = tt
+distinct_once (f ∷ fs) h =
+    let first : weigh true + times f fs ≤ 1 = subst (λ b. weigh b + times f fs ≤ 1) (same_itself f) (h f) in
+    (nowhere f fs (omega (arith, first)), distinct_once fs (λ q. omega (arith, h q)))
+
+any_is : (q : Found) (fs : List Found) → list_any (is_same q) fs ≡ ltb 0 (times q fs)
+any_is q [] = refl
+any_is q (f ∷ fs) = elim (is_same q f) as (λ b. (b || list_any (is_same q) fs) ≡ ltb 0 (weigh b + times q fs)) [
+  | true ↦ sym (lt-ltb 0 (weigh true + times q fs) (omega arith))
+  | false ↦ any_is q fs ∙ ap (ltb 0) (zero_plus (times q fs))
+]
+
+distinct_front : (xs ys : List Found) → IsDistinct is_same (xs ++ ys) → IsDistinct is_same xs
+unfolding IsDistinct
+distinct_front [] ys d = tt
+distinct_front (x ∷ xs) ys d = (all_front (λ (f : Found). is_same x f ≡ false) xs ys d.0, distinct_front xs ys d.1)
+  where
+    all_front : (P : Found → Type 0) (xs ys : List Found) → AllByRecursion P (xs ++ ys) → AllByRecursion P xs
+    all_front P [] ys a = tt
+    all_front P (x ∷ xs) ys a = (a.0, all_front P xs ys a.1)
+
+distinct_back : (xs ys : List Found) → IsDistinct is_same (xs ++ ys) → IsDistinct is_same ys
+unfolding IsDistinct
+distinct_back [] ys d = d
+distinct_back (x ∷ xs) ys d = distinct_back xs ys d.1
+
+-- positions of one row that differ as pairs differ
+apart_positions : (row : Record) (ps : List ℕ) → IsDistinct is_same (map (λ i. pair i row) ps) → IsDistinct (eq_by_cmp nat_cmp) ps
+unfolding IsDistinct
+apart_positions row [] d = tt
+apart_positions row (p ∷ ps) d = (others ps d.0, apart_positions row ps d.1)
+  where
+    differ : (k : ℕ) → is_same (pair p row) (pair k row) ≡ false → eq_by_cmp nat_cmp p k ≡ false
+    differ k e = sym (unsigned_ties p k) ∙ sym (ap (λ b. b && p == k) (record_same row)) ∙ e
+
+    others : (ks : List ℕ) → AllByRecursion (λ f. is_same (pair p row) f ≡ false) (map (λ i. pair i row) ks) → AllByRecursion (λ k. eq_by_cmp nat_cmp p k ≡ false) ks
+    others [] a = tt
+    others (k ∷ ks) a = (differ k a.0, others ks a.1)
+
+strict_positions : (ms : List Marked) → IsDistinct is_same (spread ms) → AllByRecursion HasPositions ms → AllByRecursion (λ m. IsStrictlySortedBy nat_cmp m.positions) ms
+strict_positions [] d a = tt
+strict_positions (m ∷ ms) d a = (strictly_sorted nat_cmp_total m.positions 0 a.0.0 (apart_positions m.row m.positions (distinct_front (spread_one m) (spread ms) d)), strict_positions ms (distinct_back (spread_one m) (spread ms) d) a.1)
+
+-- ---- rows in order that have the pairs of lists are the union of the lists
+
+pub marked_pairs : (xss lists : List (List Record)) (ms : List Marked) → Alike xss lists → AllByRecursion (IsDistinct record_eq) xss → IsStrictlySortedBy row_cmp ms → AllByRecursion HasPositions ms → ((q : Found) → times q (spread ms) ≡ times q (pairs_from 0 xss)) → ms ≡ union_marked lists
+marked_pairs xss lists ms alike distinct up each same =
     let rows = union_of lists in
-    let sorted : IsStrictlySortedBy found_cmp fs = strictly_sorted found_total fs any_found up (IsDistinct-IsPermutation (eq_by_cmp found_cmp) flips (pairs_from 0 xss) fs moved (distinct_pairs 0 xss distinct)) in
-    let members : (q : Found) → list_any (eq_by_cmp found_cmp q) fs ≡ list_any (eq_by_cmp found_cmp q) (spread (map (marked_in lists) rows)) = λ q.
-    (sym (list_any-IsPermutation (eq_by_cmp found_cmp q) (pairs_from 0 xss) fs moved) ∙ among_pairs 0 q.position q.row xss ∙ at_alike 0 q.position q.row xss lists alike
+    let eq : eq_by_cmp found_cmp ≡ is_same = λ i q f. same_is q f i in
+    let pairs : IsDistinct is_same (pairs_from 0 xss) = subst (λ (e : Found → Found → Bool). IsDistinct e (pairs_from 0 xss)) eq (distinct_pairs 0 xss distinct) in
+    let apart : IsDistinct is_same (spread ms) = distinct_once (spread ms) (λ q. subst (λ n. n ≤ 1) (sym (same q)) (once (pairs_from 0 xss) pairs q)) in
+    let sorted : IsStrictlySortedBy found_cmp (spread ms) = sorted_spread ms up (strict_positions ms apart each) in
+    let union : IsStrictlySortedBy row_cmp (map (marked_in lists) rows) = marked_sorted lists rows (sorted_union lists) in
+    let here : (q : Found) → list_any (eq_by_cmp found_cmp q) (spread ms) ≡ list_any (eq_by_cmp found_cmp q) (pairs_from 0 xss) = λ q.
+    subst (λ (e : Found → Found → Bool). list_any (e q) (spread ms) ≡ list_any (e q) (pairs_from 0 xss)) (sym eq) (any_is q (spread ms) ∙ ap (λ n. ltb 0 n) (same q) ∙ sym (any_is q (pairs_from 0 xss))) in
+    let members : (q : Found) → list_any (eq_by_cmp found_cmp q) (spread ms) ≡ list_any (eq_by_cmp found_cmp q) (spread (map (marked_in lists) rows)) = λ q.
+    (here q ∙ among_pairs 0 q.position q.row xss ∙ at_alike 0 q.position q.row xss lists alike
     ∙ at_anywhere 0 q.position q.row lists ∙ ap (λ b. b && at 0 q.position q.row lists) (sym (has_union q.row lists)) ∙ sym (among_spread q.position q.row lists rows)) in
-    let is : fs ≡ spread (map (marked_in lists) rows) = same_sorted found_total found_exact fs (spread (map (marked_in lists) rows)) sorted (sorted_spread lists rows (sorted_union lists)) members in
-    ap joined is ∙ joined_spread lists rows (sorted_union lists) (each_member (λ row. anywhere row lists ≡ true) rows (λ q e. sym (has_union q lists) ∙ e))
+    let is : spread ms ≡ spread (map (marked_in lists) rows) = same_sorted found_total found_exact (spread ms) (spread (map (marked_in lists) rows)) sorted
+    (sorted_spread (map (marked_in lists) rows) union (all_map (λ (m : Marked). IsStrictlySortedBy nat_cmp m.positions) (marked_in lists) rows (all_of (λ (r : Record). IsStrictlySortedBy nat_cmp (positions_from 0 r lists)) (λ r. sorted_positions 0 r lists) rows))) members in
+    let some : AllByRecursion (λ m. 0 < length m.positions) (map (marked_in lists) rows) = all_map (λ (m : Marked). 0 < length m.positions) (marked_in lists) rows
+    (all_imply (λ (r : Record). anywhere r lists ≡ true) (λ (r : Record). 0 < length (positions_from 0 r lists)) (λ r e. some_position 0 r lists e) rows (each_member (λ row. anywhere row lists ≡ true) rows (λ q e. sym (has_union q lists) ∙ e))) in
+    sym (gathered_spread ms up (all_imply HasPositions (λ (m : Marked). 0 < length m.positions) (λ m h. h.1) ms each)) ∙ ap gathered is ∙ gathered_spread (map (marked_in lists) rows) union some

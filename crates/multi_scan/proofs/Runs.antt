@@ -1,43 +1,63 @@
 -- The rows of a run: what is equal to the first row, at the front.
-use Rattle.std.proofs.Common.{◌≡◌, ℕ, true, false, List, [], ◌∷◌, ◌++◌, map, take, drop, ap, sym, ◌∙◌, refl, subst, append_assoc}
+use Rattle.std.proofs.Common.{◌≡◌, ◌≤◌, ◌-◌, ℕ, suc, length, get_or, arith, true, false, List, [], ◌∷◌, ◌++◌, take, drop, ap, sym, ◌∙◌, refl, subst, append_assoc}
+use Rattle.std.proofs.Math.Seq.{take-length}
+use Rattle.std.proofs.lemmas.List.{append-nil}
 use Rattle.db_value.specs.Order.{record_eq}
 use Rattle.db_value.proofs.OrderLemmas.{record_is, record_same, record_flip}
 use Rattle.db_value.specs.declared.record.Record.{Record}
 use Rattle.db_value.specs.declared.record.Marked.{Marked}
-use Rattle.multi_scan.specs.declared.found.Found.{Found}
-use Rattle.multi_scan.specs.Found.{joined, run_length}
-
-abbrev pub positions : List Found → List ℕ
-positions fs = map (λ f. f.position) fs
+use Rattle.multi_scan.specs.Found.{joined, run_length, positions_of, Ascends, AreInOrder}
 
 -- a row and the positions of its run
-abbrev pub run_row : Record → ℕ → List Found → Marked
-run_row row n fs = record { row = row; positions = n ∷ positions (take (run_length row fs) fs) }
+abbrev pub run_row : Record → List ℕ → List Marked → Marked
+run_row row ps ms = record { row = row; positions = ps ++ positions_of (take (run_length row ms) ms) }
 
-abbrev Splits : Record → ℕ → List Found → Type 0
-Splits row n fs = joined (record { row = row; position = n } ∷ fs) ≡ run_row row n fs ∷ joined (drop (run_length row fs) fs)
+abbrev Splits : Record → List ℕ → List Marked → Type 0
+Splits row ps ms = joined (record { row = row; positions = ps } ∷ ms) ≡ run_row row ps ms ∷ joined (drop (run_length row ms) ms)
 
-split_same : (row : Record) (n m : ℕ) (fs : List Found) → Splits row m fs → Splits row n (record { row = row; position = m } ∷ fs)
-split_same row n m fs rest = rw (rest, record_same row) refl
+alone : (row : Record) (ps : List ℕ) (ms : List Marked) → record { row = row; positions = ps } ∷ ms ≡ record { row = row; positions = ps ++ [] } ∷ ms
+alone row ps ms = λ i. record { row = row; positions = sym (append-nil ps) i } ∷ ms
 
-split_other : (row : Record) (n : ℕ) (g : Found) (fs : List Found) → record_eq g.row row ≡ false → Splits g.row g.position fs → Splits row n (g ∷ fs)
-split_other row n g fs other rest = let back : record_eq row g.row ≡ false = record_flip row g.row ∙ other in rw (other, rest, back) refl
+split_same : (row : Record) (ps qs : List ℕ) (ms : List Marked) → Splits row qs ms → Splits row ps (record { row = row; positions = qs } ∷ ms)
+split_same row ps qs ms rest = rw (rest, record_same row) refl
+
+split_other : (row : Record) (ps : List ℕ) (g : Marked) (ms : List Marked) → record_eq g.row row ≡ false → Splits g.row g.positions ms → Splits row ps (g ∷ ms)
+split_other row ps g ms other rest = let back : record_eq row g.row ≡ false = record_flip row g.row ∙ other in rw (other, rest, back) (alone row ps (run_row g.row g.positions ms ∷ joined (drop (run_length g.row ms) ms)))
 
 -- what is joined begins with the row of the first run
-pub joined_run : (row : Record) (n : ℕ) (fs : List Found) → Splits row n fs
-joined_run row n [] = refl
-joined_run row n (g ∷ fs) = elim (record_eq g.row row) as (λ b. record_eq g.row row ≡ b → Splits row n (g ∷ fs)) [
-  | true ↦ λ e. subst (λ (r : Record). Splits row n (record { row = r; position = g.position } ∷ fs)) (sym (record_is g.row row e)) (split_same row n g.position fs (joined_run row g.position fs))
-  | false ↦ λ e. split_other row n g fs e (joined_run g.row g.position fs)
+pub joined_run : (row : Record) (ps : List ℕ) (ms : List Marked) → Splits row ps ms
+joined_run row ps [] = alone row ps []
+joined_run row ps (g ∷ ms) = elim (record_eq g.row row) as (λ b. record_eq g.row row ≡ b → Splits row ps (g ∷ ms)) [
+  | true ↦ λ e. subst (λ (r : Record). Splits row ps (record { row = r; positions = g.positions } ∷ ms)) (sym (record_is g.row row e)) (split_same row ps g.positions ms (joined_run row g.positions ms))
+  | false ↦ λ e. split_other row ps g ms e (joined_run g.row g.positions ms)
 ] refl
 
--- a run more: the rows so far and those of what is left stay all
-pub run_more : (rows next : List Marked) (all : List Marked) (rest others run more : List Found) (first : Found) (ps : List ℕ) (k : ℕ) → rest ≡ first ∷ others → k ≡ run_length first.row others → run ≡ take k others → more ≡ drop k others
-    → ps ≡ first.position ∷ positions run → next ≡ rows ++ record { row = first.row; positions = ps } ∷ [] → rows ++ joined rest ≡ all → next ++ joined more ≡ all
-run_more rows next all rest others run more first ps k r n f b p e h =
+order_more : (ms ns : List Marked) (m n : Marked) → AreInOrder ms ns → n.row ≡ m.row → Ascends m.positions n.positions → AreInOrder (ms ++ m ∷ []) (ns ++ n ∷ [])
+order_more [] [] m n a r p = (r, p, tt)
+order_more [] (y ∷ ns) m n a r p = absurd a
+order_more (x ∷ ms) [] m n a r p = absurd a
+order_more (x ∷ ms) (y ∷ ns) m n a r p = (a.0, a.1, order_more ms ns m n a.2 r p)
+
+-- the rows so far are those of the runs that were joined
+abbrev pub IsJoined : List Marked → List Marked → List Marked → Type 0
+IsJoined found rest rows = (done : List Marked) × (joined found ≡ done ++ joined rest) × AreInOrder done rows
+
+-- a run more
+pub run_more : (found rows next rest others run more : List Marked) (first : Marked) (ps : List ℕ) (k : ℕ) → rest ≡ first ∷ others → k ≡ run_length first.row others → run ≡ take k others → more ≡ drop k others
+    → Ascends (first.positions ++ positions_of run) ps → next ≡ rows ++ record { row = first.row; positions = ps } ∷ [] → IsJoined found rest rows → IsJoined found more next
+run_more found rows next rest others run more first ps k r n f b p e h =
     let run_is : run ≡ take (run_length first.row others) others = f ∙ ap (λ i. take i others) n in
     let more_is : more ≡ drop (run_length first.row others) others = b ∙ ap (λ i. drop i others) n in
-    let ps_is : ps ≡ first.position ∷ positions (take (run_length first.row others) others) = p ∙ ap (λ (t : List Found). first.position ∷ positions t) run_is in
-    let next_is : next ≡ rows ++ run_row first.row first.position others ∷ [] = e ∙ ap (λ (t : List ℕ). rows ++ record { row = first.row; positions = t } ∷ []) ps_is in
-    let parts : joined rest ≡ run_row first.row first.position others ∷ joined more = ap joined r ∙ joined_run first.row first.position others ∙ ap (λ (t : List Found). run_row first.row first.position others ∷ joined t) (sym more_is) in
-    ap (λ (t : List Marked). t ++ joined more) next_is ∙ append_assoc rows (run_row first.row first.position others ∷ []) (joined more) ∙ ap (λ (t : List Marked). rows ++ t) (sym parts) ∙ h
+    let row : Marked = run_row first.row first.positions others in
+    let parts : joined rest ≡ row ∷ joined more = ap joined r ∙ joined_run first.row first.positions others ∙ ap (λ (t : List Marked). row ∷ joined t) (sym more_is) in
+    let these : Ascends row.positions ps = subst (λ (t : List Marked). Ascends (first.positions ++ positions_of t) ps) run_is p in
+    let all : joined found ≡ (h.0 ++ row ∷ []) ++ joined more = h.1 ∙ ap (λ (t : List Marked). h.0 ++ t) parts ∙ sym (append_assoc h.0 (row ∷ []) (joined more)) in
+    (h.0 ++ row ∷ [], all, subst (λ (t : List Marked). AreInOrder (h.0 ++ row ∷ []) t) (sym e) (order_more h.0 rows row (record { row = first.row; positions = ps }) h.2 refl these))
+
+all_but_one : (n : ℕ) → suc n - 1 ≡ n
+all_but_one n = omega arith
+
+-- the pattern `[first, others @ ..]`
+pub first_and_others : {X : Type 0} (rest : List X) (first : X) → 1 ≤ length rest → first ≡ get_or rest 0 first → rest ≡ first ∷ take (length rest - 1) (drop 1 rest)
+first_and_others [] first h e = absurd (omega arith)
+first_and_others {X} (x ∷ xs) first h e = ap (λ (f : X). f ∷ xs) (sym e) ∙ ap (λ (t : List X). first ∷ t) (sym (ap (λ n. take n xs) (all_but_one (length xs)) ∙ take-length xs))

@@ -12,11 +12,17 @@ use Rattle.db_store.specs.Table.{Table, relation_at, rows_of}
 use Rattle.db_store.specs.Parts.{Part, rows_in}
 use Rattle.db_store.specs.Rows.{rows_where, marked, row_in_slot, row_if, kept_in_slots, kept_in_part, rows_found}
 use Rattle.db_store.proofs.RowLemmas.{same_sorted, has_moved, eq_is, sorted_where, found_filtered, distinct_found}
-use Rattle.multi_scan.specs.declared.found.Found.{Found}
-use Rattle.multi_scan.specs.Found.{joined, found_cmp, found_at, found_in_slots, found_in_parts, found_in_views}
+use Rattle.multi_scan.specs.declared.places.Place.{Place}
+use Rattle.multi_scan.specs.Found.{Found, joined, row_cmp, found_at, found_in_part, found_in_slots, found_in_parts, found_in_views, spread, spread_one, total, times, weigh, is_same, AreSame, AreInOrder}
+use Rattle.multi_scan.specs.Places.{shown, part_of, places_in, found_at_places}
+use Rattle.db_value.specs.declared.record.Marked.{Marked}
 use Rattle.multi_scan.specs.Multi.{has, union_of, marked_in, union_marked, multi}
 use Rattle.multi_scan.proofs.Union.{has_union, sorted_union, each_member}
-use Rattle.multi_scan.proofs.Pairs.{pair, pairs_from, Alike, joined_pairs}
+use Rattle.multi_scan.proofs.Pairs.{pair, pairs_from, Alike, marked_pairs}
+use Rattle.multi_scan.proofs.Totals.{total_append, total_moved}
+use Rattle.multi_scan.proofs.PlaceLemmas.{places_at}
+use Rattle.multi_scan.proofs.Shared.{at_places}
+use Rattle.multi_scan.proofs.Joined.{spread_joined, times_ordered, strict_joined, strict_ordered, positions_ordered}
 
 -- ---- what parts have, with the position of their view
 
@@ -56,6 +62,10 @@ one_table p r t = one_list (rows_where p r t) (sorted_where p r t)
 
 -- ---- views
 
+spread_times : (q : Found) (ms : List Marked) → times q (spread ms) ≡ total (λ m. times q (spread_one m)) ms
+spread_times q [] = refl
+spread_times q (m ∷ ms) = total_append (λ f. weigh (is_same q f)) (spread_one m) (spread ms) ∙ ap (λ n. times q (spread_one m) + n) (spread_times q ms)
+
 module _ {V : Type 0} (table : V → Table) (parts : V → ℕ → List Part) (r : ℕ) (p : Record → Bool) (law : (v : V) (r : ℕ) → r < length (table v) → IsPermutation (rows_in (parts v r)) (rows_of (relation_at (table v) r))) where
   found_pairs : (n : ℕ) (views : List V) → found_in_views p n (map (λ v. parts v r) views) ≡ pairs_from n (map (λ v. filter p (rows_in (parts v r))) views)
   found_pairs n [] = refl
@@ -69,8 +79,13 @@ module _ {V : Type 0} (table : V → Table) (parts : V → ℕ → List Part) (r
   no_repeat [] h = tt
   no_repeat (v ∷ views) h = (distinct_found (table v) r (parts v r) (law v r h.0) p, no_repeat views h.1)
 
-  -- what views have, in order and joined, are the rows of their tables
-  pub scanned : (views : List V) (fs : List Found) → All (λ v. r < length (table v)) views → IsPermutation (found_in_views p 0 (map (λ v. parts v r) views)) fs → IsSorted found_cmp fs → joined fs ≡ multi p r (map table views)
-  scanned views fs within moved up =
+  -- what was found at places, in order and joined, are the rows of the tables
+  pub scanned : (views : List V) (places : List Place) (found sorted rows : List Marked) → All (λ v. r < length (table v)) views → IsPermutation (places_in 0 (shown parts r views)) places → AreSame (spread found) (found_at_places p (shown parts r views) places) → IsPermutation found sorted → IsSorted row_cmp sorted → AreInOrder (joined sorted) rows → rows ≡ multi p r (map table views)
+  scanned views places found sorted rows within moved same by up order =
       let each : AllByRecursion (λ v. r < length (table v)) views = recursion_from_All (λ v. r < length (table v)) views within in
-      joined_pairs (map (λ v. filter p (rows_in (parts v r))) views) (map (rows_where p r) (map table views)) fs (alike views each) (no_repeat views each) (subst (λ (xs : List Found). IsPermutation xs fs) (found_pairs 0 views) moved) up
+      let all = shown parts r views in
+      let pairs : (q : Found) → times q (spread rows) ≡ times q (pairs_from 0 (map (λ v. filter p (rows_in (parts v r))) views)) = λ q.
+      (times_ordered q (joined sorted) rows order ∙ ap (times q) (spread_joined sorted) ∙ spread_times q sorted ∙ total_moved (λ m. times q (spread_one m)) found sorted by ∙ sym (spread_times q found) ∙ same q
+      ∙ at_places q p all places ∙ total_moved (λ s. times q (found_in_part p s.position (part_of all s))) (places_in 0 all) places moved ∙ sym (at_places q p all (places_in 0 all))
+      ∙ ap (times q) ((places_at p all 0 all refl).2 ∙ found_pairs 0 views)) in
+      marked_pairs (map (λ v. filter p (rows_in (parts v r))) views) (map (rows_where p r) (map table views)) rows (alike views each) (no_repeat views each) (strict_ordered (joined sorted) rows order (strict_joined sorted up)) (positions_ordered (joined sorted) rows order) pairs

@@ -1,9 +1,18 @@
--- How many slots views have. A part that several views show counts once for each of them.
-use Rattle.std.specs.Prelude.{ℕ, ◌+◌, List, [], ◌∷◌}
+-- How many slots views have. A part that several views show counts once.
+use Rattle.std.specs.Prelude.{ℕ, ◌==◌, Bool, cond, List, [], ◌∷◌}
+use Rattle.std.specs.List.{list_any, flat_map}
 use Rattle.db_store.specs.Parts.{Part}
 use Rattle.db_store.specs.Rows.{slots_of}
 
--- how many slots all parts of all views have
-abbrev pub slots_of_all : List (List Part) → ℕ
-slots_of_all [] = 0
-slots_of_all (parts ∷ views) = slots_of parts + slots_of_all views
+-- whether one of the parts has this id
+abbrev pub shows : ℕ → List Part → Bool
+shows id parts = list_any (λ part. part.id == id) parts
+
+-- one part of each id
+abbrev pub distinct_parts : List Part → List Part
+distinct_parts [] = []
+distinct_parts (part ∷ parts) = cond (shows part.id parts) (distinct_parts parts) (part ∷ distinct_parts parts)
+
+-- how many slots the distinct parts of views have
+abbrev pub slots_of_distinct : List (List Part) → ℕ
+slots_of_distinct views = slots_of (distinct_parts (flat_map (λ parts. parts) views))

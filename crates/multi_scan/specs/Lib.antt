@@ -1,4 +1,6 @@
 pub mod Multi
 pub mod Found
+pub mod Places
+pub mod Agree
 pub mod Cost
 pub mod Laws

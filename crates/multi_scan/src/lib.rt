@@ -6,16 +6,17 @@
 //! | file | has |
 //! |---|---|
 //! | `specs/Multi.antt` | the rows of several tables |
-//! | `specs/Found.antt` | rows as they are found, slot by slot |
-//! | `specs/Cost.antt` | how many slots views have |
-//! | `src/found.rt` | a row that was found |
-//! | `src/slots.rt` | the live records of views for which a condition holds |
+//! | `specs/Agree.antt` | parts of equal id have the same records |
+//! | `specs/Cost.antt` | how many slots the distinct parts of views have |
+//! | `specs/Places.antt`, `src/places.rt` | where views show parts |
+//! | `specs/Found.antt` | rows as they are found, and joined |
+//! | `src/slots.rt` | the live records of views for which a condition holds, part by part |
 //! | `specs/Laws.antt`, `src/laws.rt` | what a scan of one table is |
 //! | `src/scans.rt` | what was found, in order, each row once |
 #![tactic(auto)]
 
-mod found;
 pub mod laws;
+mod places;
 mod scans;
 mod slots;
 

@@ -1,37 +1,39 @@
 //! Scans of one view and of several.
-ghost use Rattle.std.specs.Prelude.{◌≡◌, ◌+◌, ◌<◌, ◌≤◌, length, map, IfOk};
+ghost use Rattle.std.specs.Prelude.{◌≡◌, ◌+◌, ◌<◌, ◌≤◌, ◌++◌, length, map, OnOk, IfOk};
 ghost use Rattle.std.specs.List.{All};
 ghost use Rattle.std.specs.List.Sorted.{IsPermutation, IsSorted};
 ghost use Rattle.db_value.specs.Pred.{pred_holds};
 ghost use Rattle.db_store.specs.Rows.{rows_where, marked, slots_of};
-ghost use Rattle.multi_scan.specs.Found.{joined, run_length, found_cmp};
+ghost use Rattle.multi_scan.specs.Agree.{AllAgree};
+ghost use Rattle.multi_scan.specs.Found.{joined, run_length, positions_of, Ascends, AreInOrder, row_cmp};
+ghost use Rattle.multi_scan.specs.Places.{shown};
 ghost use Rattle.multi_scan.specs.Multi.{multi};
-ghost use Rattle.multi_scan.specs.Cost.{slots_of_all};
+ghost use Rattle.multi_scan.specs.Cost.{slots_of_distinct};
 
-use crate::found::Found;
-use crate::slots::gather;
+use crate::places::{by_id, list_places};
+use crate::slots::{copied, gather};
 use db_store::{View, list_rows};
 use db_value::{Marked, Positions, Pred, Record, Rows, SharedList, Steps};
 use std::alloc::{AllocError, Global};
 use std::sync::ledger::Ledger;
 
-// In order, by row and then by position.
-fn sorted(mut found: Vec<Found>) -> Vec<Found>
+// In order, by row.
+fn by_row(mut found: Vec<Marked>) -> Vec<Marked>
     ensures permutation { IsPermutation found.items result.items }
-    ensures sorted { IsSorted found_cmp result.items }
+    ensures sorted { IsSorted row_cmp result.items }
 {
-    found.sort_unstable();
+    found.sort_unstable_by(|a, b| a.row.cmp(&b.row));
     found
 }
 
 // How many at the front have this row.
-fn count_run(row: &Record, found: &[Found]) -> usize
+fn count_run(row: &Record, found: &[Marked]) -> usize
     ensures value { result ≡ run_length row.now found.now }
     ensures within { result ≤ length found.now }
 {
     let mut count = 0;
-    for f in found {
-        if f.row != *row {
+    for marked in found {
+        if marked.row != *row {
             return count;
         }
         count += 1;
@@ -39,21 +41,56 @@ fn count_run(row: &Record, found: &[Found]) -> usize
     count
 }
 
-fn positions_of(alloc: Global, found: &[Found]) -> Result<Vec<u32>, AllocError>
-    ensures { IfOk result (λ v. v.items ≡ map (λ f. f.position) found.now) }
+fn push_positions(all: &mut Vec<u32>, positions: &Positions) -> Result<(), AllocError>
+    ensures items { OnOk result (all.new.items ≡ all.old.items ++ positions.now) }
+    ensures some { OnOk result (0 < length positions.now) }
 {
-    found.iter().map(|f| f.position).collect(alloc)
+    let (first, others) = positions.parts();
+    all.push(first)?;
+    all.extend_from_slice(others)?;
+    Ok(())
+}
+
+// The positions of a run.
+fn collect(all: &mut Vec<u32>, first: &Positions, run: &[Marked]) -> Result<(), AllocError>
+    ensures items { OnOk result (all.new.items ≡ first.now ++ positions_of run.now) }
+    ensures some { OnOk result (0 < length first.now) }
+{
+    all.clear();
+    push_positions(all, first)?;
+    for marked in run {
+        push_positions(all, &marked.positions)?;
+    }
+    Ok(())
+}
+
+// The positions of a run, ascending.
+fn ascending(
+    alloc: Global,
+    all: &mut Vec<u32>,
+    first: &Positions,
+    run: &[Marked],
+) -> Result<Positions, AllocError>
+    ensures { IfOk result (λ positions. Ascends (first.now ++ positions_of run.now) positions) }
+{
+    collect(all, first, run)?;
+    all.sort_unstable();
+    let [least, others @ ..] = all.as_slice() else {
+        unreachable!();
+    };
+    Ok(Positions::of(*least, copied(alloc, others)?))
 }
 
 // Neighbours with one row become that row, with the positions of all.
-fn join(alloc: Global, found: &[Found]) -> Result<Rows, AllocError>
-    ensures { IfOk result (λ rows. rows ≡ joined found.now) }
+fn join(alloc: Global, found: &[Marked]) -> Result<Rows, AllocError>
+    ensures { IfOk result (λ rows. AreInOrder (joined found.now) rows) }
 {
-    let mut rows = Vec::new(alloc);
+    let mut rows = Vec::with_capacity(alloc, found.len())?;
+    let mut all = Vec::new(alloc);
     let mut rest = found;
     while let [first, others @ ..] = rest {
         let (run, more) = others.split_at(count_run(&first.row, others));
-        let positions = Positions::of(first.position, positions_of(alloc, run)?);
+        let positions = ascending(alloc, &mut all, &first.positions, run)?;
         rows.push(Marked {
             row: first.row,
             positions,
@@ -105,13 +142,15 @@ pub fn scan<V: View, L: Ledger>(
     pred: &Pred,
     steps: &mut Steps<L>,
 ) -> Result<Rows, AllocError>
-    requires { All (λ v. relation < length (V.table v)) views.now }
+    requires relation { All (λ v. relation < length (V.table v)) views.now }
+    requires agree { AllAgree (shown V.parts_of relation views.now) }
     ensures rows { IfOk result (λ rows.
         rows ≡ multi (pred_holds pred.now) relation (map V.table views.now)) }
     ensures cost { steps.new
-        ≤ steps.old + slots_of_all (map (λ v. V.parts_of v relation) views.now) }
+        ≤ steps.old + slots_of_distinct (shown V.parts_of relation views.now) }
 {
-    let found = gather(alloc, views, relation, pred, steps)?;
-    let rows = join(alloc, &sorted(found))?;
+    let places = by_id(list_places(alloc, views, relation)?);
+    let found = gather(alloc, views, relation, pred, &places, steps)?;
+    let rows = join(alloc, &by_row(found))?;
     Ok(rows)
 }

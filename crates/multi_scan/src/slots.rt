@@ -1,92 +1,188 @@
-//! What views have, slot by slot.
+//! What views have, slot by slot. A part that several views share is read once.
 ghost use Rattle.std.specs.Prelude.{◌≡◌, ◌+◌, ◌<◌, ◌≤◌, ◌++◌, length, map, OnOk, IfOk};
 ghost use Rattle.std.specs.List.{All};
+ghost use Rattle.std.specs.List.Sorted.{IsSorted};
 ghost use Rattle.db_value.specs.Pred.{pred_holds};
-ghost use Rattle.db_store.specs.Parts.{part_at};
+ghost use Rattle.db_store.specs.Parts.{records_in};
 ghost use Rattle.db_store.specs.Rows.{slots_of};
-ghost use Rattle.multi_scan.specs.Found.{found_at, found_in_part, found_in_parts, found_in_views};
-ghost use Rattle.multi_scan.specs.Cost.{slots_of_all};
+ghost use Rattle.multi_scan.specs.Agree.{AllAgree};
+ghost use Rattle.multi_scan.specs.Found.{AreSame, spread};
+ghost use Rattle.multi_scan.specs.Places.{shown, place_cmp, part_of, slot_of, IsPlace, HasSlot, ShowsRecords, live_at, row_where, kept_at, found_shared, found_at_places};
+ghost use Rattle.multi_scan.specs.Cost.{distinct_parts};
 
-use crate::found::Found;
-use db_store::{Spot, View, row_at};
-use db_value::{Pred, Record, Steps};
+use crate::places::{Place, count_id};
+use db_store::{Spot, View, blank_record};
+use db_value::{Marked, Positions, Pred, Record, Steps};
 use std::alloc::{AllocError, Global};
 use std::sync::ledger::Ledger;
 
-// A row more, if there is one.
-fn keep(found: &mut Vec<Found>, row: Option<Record>, position: u32) -> Result<(), AllocError>
-    ensures { OnOk result (found.new.items ≡ found.old.items ++ found_at position row) }
-{
-    match row {
-        None => Ok(()),
-        Some(row) => Ok(found.push(Found { row, position })?),
-    }
-}
-
-fn gather_part<V: View, L: Ledger>(
-    view: &V,
+// The positions of those places at which a slot is live.
+fn find_live<V: View>(
+    views: &[V],
     relation: u8,
-    pred: &Pred,
-    index: u32,
-    position: u32,
-    found: &mut Vec<Found>,
-    steps: &mut Steps<L>,
+    places: &[Place],
+    slot: u32,
+    live: &mut Vec<u32>,
 ) -> Result<(), AllocError>
-    requires relation { relation < length (V.table view.now) }
-    requires index { index < length (V.parts_of view.now relation) }
-    ensures found { OnOk result (found.new.items ≡ found.old.items ++ found_in_part
-        (pred_holds pred.now) position (part_at (V.parts_of view.now relation) index)) }
-    ensures cost { steps.new
-        ≤ steps.old + length (part_at (V.parts_of view.now relation) index).slots }
+    requires relation { All (λ v. relation < length (V.table v)) views.now }
+    requires slot { All (HasSlot (shown V.parts_of relation views.now) slot) places.now }
+    ensures { OnOk result (live.new.items
+        ≡ live_at (shown V.parts_of relation views.now) slot places.now) }
 {
-    let info = view.part(relation, index);
-    for slot in 0..info.slots {
-        let row = row_at(view, relation, pred, Spot { part: index, slot }, steps);
-        keep(found, row, position)?;
+    live.clear();
+    for place in places {
+        let view = &views[place.position as usize];
+        if view.live(relation, place.index, slot) {
+            live.push(place.position)?;
+        }
     }
     Ok(())
 }
 
-// The live records of a view for which a condition holds, behind those that were found before.
-fn gather_view<V: View, L: Ledger>(
-    view: &V,
+// The record in a slot, if the condition holds of it.
+fn read_slot<V: View, L: Ledger>(
+    views: &[V],
     relation: u8,
     pred: &Pred,
-    position: u32,
-    found: &mut Vec<Found>,
+    place: &Place,
+    slot: u32,
+    steps: &mut Steps<L>,
+) -> Option<Record>
+    requires relation { All (λ v. relation < length (V.table v)) views.now }
+    requires slot { HasSlot (shown V.parts_of relation views.now) slot place.now }
+    ensures row { result ≡ row_where (pred_holds pred.now)
+        (slot_of (part_of (shown V.parts_of relation views.now) place.now) slot).0 }
+    ensures cost { steps.new ≤ steps.old + 1 }
+{
+    let view = &views[place.position as usize];
+    let mut row = blank_record();
+    let spot = Spot {
+        part: place.index,
+        slot,
+    };
+    view.read(relation, spot, &mut row, steps);
+    if pred.holds(&row) { Some(row) } else { None }
+}
+
+/// Positions in memory of their own, exactly as much as they take.
+pub fn copied(alloc: Global, positions: &[u32]) -> Result<Vec<u32>, AllocError>
+    ensures { IfOk result (λ all. all.items ≡ positions.now) }
+{
+    let mut all = Vec::with_capacity(alloc, positions.len())?;
+    all.extend_from_slice(positions)?;
+    Ok(all)
+}
+
+// A row more, if there is one and a view has it.
+fn keep(
+    alloc: Global,
+    found: &mut Vec<Marked>,
+    live: &[u32],
+    row: Option<Record>,
+) -> Result<(), AllocError>
+    ensures { OnOk result (found.new.items ≡ found.old.items ++ kept_at live.now row) }
+{
+    let [first, others @ ..] = live else {
+        return Ok(());
+    };
+    let Some(row) = row else {
+        return Ok(());
+    };
+    let positions = Positions::of(*first, copied(alloc, others)?);
+    Ok(found.push(Marked { row, positions })?)
+}
+
+// A slot of a part that is shown at places, one of which is read.
+fn gather_slot<V: View, L: Ledger>(
+    alloc: Global,
+    views: &[V],
+    relation: u8,
+    pred: &Pred,
+    first: &Place,
+    places: &[Place],
+    slot: u32,
+    live: &mut Vec<u32>,
+    found: &mut Vec<Marked>,
     steps: &mut Steps<L>,
 ) -> Result<(), AllocError>
-    requires { relation < length (V.table view.now) }
+    requires relation { All (λ v. relation < length (V.table v)) views.now }
+    requires first { HasSlot (shown V.parts_of relation views.now) slot first.now }
+    requires slot { All (HasSlot (shown V.parts_of relation views.now) slot) places.now }
     ensures found { OnOk result (found.new.items ≡ found.old.items
-        ++ found_in_parts (pred_holds pred.now) position (V.parts_of view.now relation)) }
-    ensures cost { steps.new ≤ steps.old + slots_of (V.parts_of view.now relation) }
+        ++ kept_at (live_at (shown V.parts_of relation views.now) slot places.now)
+        (row_where (pred_holds pred.now)
+        (slot_of (part_of (shown V.parts_of relation views.now) first.now) slot).0)) }
+    ensures cost { steps.new ≤ steps.old + 1 }
 {
-    for index in 0..view.parts(relation) {
-        gather_part(view, relation, pred, index, position, found, steps)?;
+    find_live(views, relation, places, slot, live)?;
+    if live.is_empty() {
+        return Ok(());
+    }
+    let row = read_slot(views, relation, pred, first, slot, steps);
+    keep(alloc, found, live, row)
+}
+
+// A part that is shown at places.
+fn gather_part<V: View, L: Ledger>(
+    alloc: Global,
+    views: &[V],
+    relation: u8,
+    pred: &Pred,
+    first: &Place,
+    places: &[Place],
+    live: &mut Vec<u32>,
+    found: &mut Vec<Marked>,
+    steps: &mut Steps<L>,
+) -> Result<(), AllocError>
+    requires relation { All (λ v. relation < length (V.table v)) views.now }
+    requires first { IsPlace (shown V.parts_of relation views.now) first.now }
+    requires records { All (ShowsRecords (shown V.parts_of relation views.now)
+        (records_in (part_of (shown V.parts_of relation views.now) first.now))) places.now }
+    ensures found { OnOk result (found.new.items ≡ found.old.items
+        ++ found_shared (pred_holds pred.now) (shown V.parts_of relation views.now)
+        (part_of (shown V.parts_of relation views.now) first.now) places.now
+        (length (part_of (shown V.parts_of relation views.now) first.now).slots)) }
+    ensures cost { steps.new ≤ steps.old
+        + length (part_of (shown V.parts_of relation views.now) first.now).slots }
+{
+    let view = &views[first.position as usize];
+    let info = view.part(relation, first.index);
+    for slot in 0..info.slots {
+        gather_slot(
+            alloc, views, relation, pred, first, places, slot, live, found, steps,
+        )?;
     }
     Ok(())
 }
 
-/// The live records of views for which a condition holds, each with the position of its view.
+/// The live records at places for which a condition holds, each with the positions of the views
+/// that have it in one slot.
 pub fn gather<V: View, L: Ledger>(
     alloc: Global,
     views: &[V],
     relation: u8,
     pred: &Pred,
+    places: &[Place],
     steps: &mut Steps<L>,
-) -> Result<Vec<Found>, AllocError>
-    requires { All (λ v. relation < length (V.table v)) views.now }
-    ensures found { IfOk result (λ found. found.items
-        ≡ found_in_views (pred_holds pred.now) 0 (map (λ v. V.parts_of v relation) views.now)) }
-    ensures cost { steps.new
-        ≤ steps.old + slots_of_all (map (λ v. V.parts_of v relation) views.now) }
+) -> Result<Vec<Marked>, AllocError>
+    requires relation { All (λ v. relation < length (V.table v)) views.now }
+    requires agree { AllAgree (shown V.parts_of relation views.now) }
+    requires places { All (IsPlace (shown V.parts_of relation views.now)) places.now }
+    requires sorted { IsSorted place_cmp places.now }
+    ensures found { IfOk result (λ found. AreSame (spread found.items) (found_at_places
+        (pred_holds pred.now) (shown V.parts_of relation views.now) places.now)) }
+    ensures cost { steps.new ≤ steps.old + slots_of (distinct_parts
+        (map (part_of (shown V.parts_of relation views.now)) places.now)) }
 {
     let mut found = Vec::new(alloc);
-    for (index, view) in views.iter().enumerate() {
-        let Ok(position) = u32::try_from(index) else {
-            return Err(AllocError);
-        };
-        gather_view(view, relation, pred, position, &mut found, steps)?;
+    let mut live = Vec::new(alloc);
+    let mut rest = places;
+    while let [first, ..] = rest {
+        let (run, more) = rest.split_at(count_id(first.id, rest));
+        gather_part(
+            alloc, views, relation, pred, first, run, &mut live, &mut found, steps,
+        )?;
+        rest = more;
     }
     Ok(found)
 }

@@ -1,12 +1,48 @@
-use Rattle.std.proofs.Common.{ap, ◌∙◌, subst, List}
+use Rattle.std.proofs.Common.{◌≤◌, List, map, sym, subst, arith}
+use Rattle.std.specs.List.{All}
 use Rattle.std.specs.List.Sorted.{IsPermutation}
 use Rattle.db_value.specs.Pred.{pred_holds}
-use Rattle.multi_scan.specs.declared.found.Found.{Found}
-use Rattle.multi_scan.specs.Found.{joined}
+use Rattle.db_value.specs.declared.record.Marked.{Marked}
+use Rattle.multi_scan.specs.declared.places.Place.{Place}
+use Rattle.multi_scan.specs.Found.{AreSame, AreInOrder, joined, spread}
+use Rattle.multi_scan.specs.Places.{shown, part_of, places_in, IsPlace, found_at_places}
+use Rattle.multi_scan.specs.Cost.{slots_of_distinct}
+use Rattle.multi_scan.proofs.Distinct.{distinct_slots}
+use Rattle.multi_scan.proofs.Agreeing.{places_there, scan_cost}
 use Rattle.multi_scan.proofs.Views.{scanned}
 use Rattle.multi_scan.proofs.scans.scan.Goals as goal
 
+pub gather-requires-clause-places : goal.gather-requires-clause-places
+gather-requires-clause-places g c =
+    let views = shown g.V.View.parts_of c.args.relation c.args.views.now in
+    subst (All (IsPlace views)) (sym c.deref.ensures.value) (places_there views c.by_id-places.result.items (subst (λ (t : List Place). IsPermutation t c.by_id-places.result.items) c.in_ok-list_places.ensures c.by_id-places.ensures.permutation))
+
+pub returns-in_err-found-clause-cost : goal.returns-in_err-found-clause-cost
+returns-in_err-found-clause-cost g c =
+    let views = shown g.V.View.parts_of c.args.relation c.args.views.now in
+    let moved : IsPermutation (places_in 0 views) c.by_id-places.result.items = subst (λ (t : List Place). IsPermutation t c.by_id-places.result.items) c.in_ok-list_places.ensures c.by_id-places.ensures.permutation in
+    let cost : distinct_slots (map (part_of views) c.deref.result.now) ≤ slots_of_distinct views = subst (λ (t : List Place). distinct_slots (map (part_of views) t) ≤ slots_of_distinct views) (sym c.deref.ensures.value) (scan_cost views c.requires.agree c.by_id-places.result.items moved) in
+    omega (arith, cost, c.gather.ensures.cost)
+
+pub returns-in_err-rows-clause-cost : goal.returns-in_err-rows-clause-cost
+returns-in_err-rows-clause-cost g c =
+    let views = shown g.V.View.parts_of c.args.relation c.args.views.now in
+    let moved : IsPermutation (places_in 0 views) c.by_id-places.result.items = subst (λ (t : List Place). IsPermutation t c.by_id-places.result.items) c.in_ok-list_places.ensures c.by_id-places.ensures.permutation in
+    let cost : distinct_slots (map (part_of views) c.deref.result.now) ≤ slots_of_distinct views = subst (λ (t : List Place). distinct_slots (map (part_of views) t) ≤ slots_of_distinct views) (sym c.deref.ensures.value) (scan_cost views c.requires.agree c.by_id-places.result.items moved) in
+    omega (arith, cost, c.gather.ensures.cost)
+
 pub returns-clause-rows : goal.returns-clause-rows
-returns-clause-rows g c = c.in_ok-rows.ensures ∙ ap joined c.deref.ensures.value
-    ∙ scanned g.V.View.table g.V.View.parts_of c.args.relation (pred_holds c.args.pred.now) g.met.V.View.rows_are c.args.views.now _ c.requires
-    (subst (λ (xs : List Found). IsPermutation xs c.sorted.result.items) c.in_ok-found.ensures.found c.sorted.ensures.permutation) c.sorted.ensures.sorted
+returns-clause-rows g c =
+    let views = shown g.V.View.parts_of c.args.relation c.args.views.now in
+    let p = pred_holds c.args.pred.now in
+    let moved : IsPermutation (places_in 0 views) c.by_id-places.result.items = subst (λ (t : List Place). IsPermutation t c.by_id-places.result.items) c.in_ok-list_places.ensures c.by_id-places.ensures.permutation in
+    let same : AreSame (spread c.in_ok-found.found.items) (found_at_places p views c.by_id-places.result.items) = subst (λ (t : List Place). AreSame (spread c.in_ok-found.found.items) (found_at_places p views t)) c.deref.ensures.value c.in_ok-found.ensures.found in
+    let order : AreInOrder (joined c.by_row.result.items) c.in_ok-rows.rows = subst (λ (t : List Marked). AreInOrder (joined t) c.in_ok-rows.rows) c.deref-2.ensures.value c.in_ok-rows.ensures in
+    scanned g.V.View.table g.V.View.parts_of c.args.relation p g.met.V.View.rows_are c.args.views.now c.by_id-places.result.items c.in_ok-found.found.items c.by_row.result.items c.in_ok-rows.rows c.requires.relation moved same c.by_row.ensures.permutation c.by_row.ensures.sorted order
+
+pub returns-clause-cost : goal.returns-clause-cost
+returns-clause-cost g c =
+    let views = shown g.V.View.parts_of c.args.relation c.args.views.now in
+    let moved : IsPermutation (places_in 0 views) c.by_id-places.result.items = subst (λ (t : List Place). IsPermutation t c.by_id-places.result.items) c.in_ok-list_places.ensures c.by_id-places.ensures.permutation in
+    let cost : distinct_slots (map (part_of views) c.deref.result.now) ≤ slots_of_distinct views = subst (λ (t : List Place). distinct_slots (map (part_of views) t) ≤ slots_of_distinct views) (sym c.deref.ensures.value) (scan_cost views c.requires.agree c.by_id-places.result.items moved) in
+    omega (arith, cost, c.gather.ensures.cost)
