@@ -8,7 +8,7 @@ use Rattle.db_store.specs.Rows.{slots_of}
 abbrev pub shows : ℕ → List Part → Bool
 shows id parts = list_any (λ part. part.id == id) parts
 
--- one part of each id
+-- the last part of each id
 abbrev pub distinct_parts : List Part → List Part
 distinct_parts [] = []
 distinct_parts (part ∷ parts) = cond (shows part.id parts) (distinct_parts parts) (part ∷ distinct_parts parts)
