@@ -15,12 +15,13 @@ use Rattle.db_store.specs.State.{State, part_records}
 use Rattle.db_store.specs.Parts.{Part, part_at, no_slot, records_in, AreOf}
 use Rattle.multi_scan.specs.declared.places.Place.{Place}
 use Rattle.multi_scan.specs.Agree.{AgreeOn, AllAgree}
-use Rattle.multi_scan.specs.Found.{Found, found_in_part, spread, times, AreSame}
+use Rattle.multi_scan.specs.Found.{Found, HasPositions, found_in_part, spread, times, AreSame}
 use Rattle.multi_scan.specs.Places.{part_of, slot_of, shown, IsPlace, ShowsRecords, found_shared, found_at_places, id_run, places_in}
 use Rattle.multi_scan.specs.Cost.{shows, slots_of_distinct}
+use Rattle.db_store.proofs.RowLemmas.{all_append}
 use Rattle.multi_scan.proofs.Totals.{all_from}
-use Rattle.multi_scan.proofs.PlaceLemmas.{places_at, ById, run_same, run_over, ids_drop, all_drop, all_take}
-use Rattle.multi_scan.proofs.Shared.{times_append, spread_append, shared_times}
+use Rattle.multi_scan.proofs.PlaceLemmas.{places_at, ById, run_same, run_over, IsAfter, ids_take, by_positions, ids_drop, all_drop, all_take}
+use Rattle.multi_scan.proofs.Shared.{shared_positions, times_append, spread_append, shared_times}
 use Rattle.multi_scan.proofs.Distinct.{GoesBy, distinct_slots, moved_slots, run_slots, shows_itself}
 
 -- ---- views of one state
@@ -118,6 +119,7 @@ module _ (views : List (List Part)) (agree : AllAgree views) where
   pub record Run (p : Record → Bool) (first : Place) (rest run more : List Place) : Type 0 where
     pub here : IsPlace views first
     pub less : length more < length rest
+    pub positions : AllByRecursion HasPositions (found_shared p views (part_of views first) run (length (part_of views first).slots))
     pub shows : AllByRecursion (ShowsRecords views (records_in (part_of views first))) run
     pub places : AllByRecursion (IsPlace views) more
     pub sorted : ById more
@@ -142,7 +144,7 @@ module _ (views : List (List Part)) (agree : AllAgree views) where
       let Same : Place → Type 0 = λ q. q.id ≡ first.id in
       let Over : Place → Type 0 = λ q. first.id < q.id in
       let same : AllByRecursion Same (take k others) = subst (λ n. AllByRecursion Same (take n others)) (sym e) (run_same first.id others) in
-      let over : AllByRecursion Over (drop k others) = subst (λ n. AllByRecursion Over (drop n others)) (sym e) (run_over first.id others s.0 s.1) in
+      let over : AllByRecursion Over (drop k others) = subst (λ n. AllByRecursion Over (drop n others)) (sym e) (run_over first.id others (all_from (IsAfter first) (λ (q : Place). first.id ≤ q.id) (λ q h. h.0) others s.0) s.1) in
       let run : AllByRecursion (IsPlace views) (take k others) = all_take (IsPlace views) k others a.1 in
       let more : AllByRecursion (IsPlace views) (drop k others) = all_drop (IsPlace views) k others a.1 in
       let shown : AllByRecursion (ShowsRecords views (records_in (part_of views first))) (first ∷ take k others) = run_shows first (first ∷ take k others) a.0 (a.0, run) (refl, same) in
@@ -150,6 +152,7 @@ module _ (views : List (List Part)) (agree : AllAgree views) where
       record {
         here = a.0;
         less = fewer k others;
+        positions = shared_positions p views (part_of views first) (first ∷ take k others) (length (part_of views first).slots) (by_positions first.id (first ∷ take k others) (all_take (IsAfter first) k others s.0, ids_take k others s.1) (refl, same));
         shows = shown;
         places = more;
         sorted = ids_drop k others s.1;
@@ -166,6 +169,10 @@ module _ (views : List (List Part)) (agree : AllAgree views) where
       let run_is : run ≡ x ∷ take n xs = f ∙ ap (λ i. take i (x ∷ xs)) k_is in
       let more_is : more ≡ drop n xs = b ∙ ap (λ i. drop i (x ∷ xs)) k_is in
       subst (λ (t : List Place). Run p x (x ∷ xs) t more) (sym run_is) (subst (λ (t : List Place). Run p x (x ∷ xs) (x ∷ take n xs) t) (sym more_is) (run_at p x xs n refl a s))
+
+  -- a run more has its positions in order
+  pub next_positions : (p : Record → Bool) (first : Place) (rest run more : List Place) (found next : List Marked) → Run p first rest run more → next ≡ found ++ found_shared p views (part_of views first) run (length (part_of views first).slots) → AllByRecursion HasPositions found → AllByRecursion HasPositions next
+  next_positions p first rest run more found next h e a = subst (AllByRecursion HasPositions) (sym e) (all_append HasPositions found (found_shared p views (part_of views first) run (length (part_of views first).slots)) a h.positions)
 
   -- a run more was found
   pub next_found : (p : Record → Bool) (first : Place) (all rest run more : List Place) (found next : List Marked) → Run p first rest run more → next ≡ found ++ found_shared p views (part_of views first) run (length (part_of views first).slots) → AreSame (spread found ++ found_at_places p views rest) (found_at_places p views all) → AreSame (spread next ++ found_at_places p views more) (found_at_places p views all)

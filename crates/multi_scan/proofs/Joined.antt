@@ -1,15 +1,15 @@
 -- What is joined: the same rows at the same positions, in order.
-use Rattle.std.proofs.Common.{◌≡◌, ℕ, ◌+◌, ◌<◌, true, false, cond, List, [], ◌∷◌, ◌++◌, length, ap, sym, ◌∙◌, refl, subst, append_assoc, nat_cmp, rules, Ordering, Less, Equal, Greater}
+use Rattle.std.proofs.Common.{◌≡◌, ℕ, ◌+◌, true, false, cond, List, [], ◌∷◌, ◌++◌, ap, sym, ◌∙◌, refl, subst, append_assoc, rules, Ordering, Less, Equal, Greater}
 use Rattle.std.specs.List.{AllByRecursion}
 use Rattle.std.specs.List.Sorted.{IsStrictlySortedBy, IsPermutation, IsSorted}
 use Rattle.std.specs.Ordering.{is_lt, is_eq, ordering_reverse}
 use Rattle.std.proofs.lemmas.List.{map-append}
-use Rattle.std.proofs.lemmas.List.Sorted.{IsPermutation-map, ranks_by}
+use Rattle.std.proofs.lemmas.List.Sorted.{IsPermutation-map, IsPermutation-refl, ranks_by}
 use Rattle.db_value.specs.Order.{record_eq, record_cmp}
 use Rattle.db_value.proofs.OrderLemmas.{record_is, record_total, record_ties}
 use Rattle.db_value.specs.declared.record.Record.{Record}
 use Rattle.db_value.specs.declared.record.Marked.{Marked}
-use Rattle.multi_scan.specs.Found.{Found, joined, with_row, spread, spread_one, times, weigh, is_same, AreInOrder, row_cmp}
+use Rattle.multi_scan.specs.Found.{Found, joined, with_row, spread, spread_one, times, weigh, is_same, AreInOrder, HasPositions, row_cmp}
 use Rattle.multi_scan.proofs.Totals.{total_append, total_moved, all_from}
 use Rattle.multi_scan.proofs.Rising.{Rises, rises}
 
@@ -93,12 +93,13 @@ strict_ordered [] (n ∷ ns) a s = absurd a
 strict_ordered (m ∷ ms) [] a s = absurd a
 strict_ordered (m ∷ ms) (n ∷ ns) a s = (subst (λ (r : Record). AllByRecursion (λ (x : Marked). record_cmp r x.row ≡ Less) ns) (sym a.0) (all_ordered (λ row. record_cmp m.row row ≡ Less) ms ns a.2 s.0), strict_ordered ms ns a.2 s.1)
 
--- positions that ascend, of each row at least one
-abbrev pub HasPositions : Marked → Type 0
-HasPositions m = IsSorted nat_cmp m.positions × (0 < length m.positions)
-
 pub positions_ordered : (ms ns : List Marked) → AreInOrder ms ns → AllByRecursion HasPositions ns
 positions_ordered [] [] a = tt
 positions_ordered [] (n ∷ ns) a = absurd a
 positions_ordered (m ∷ ms) [] a = absurd a
-positions_ordered (m ∷ ms) (n ∷ ns) a = ((a.1.up, a.1.some), positions_ordered ms ns a.2)
+positions_ordered (m ∷ ms) (n ∷ ns) a = (record { up = a.1.up; some = a.1.some }, positions_ordered ms ns a.2)
+
+-- rows that have positions in order are in order
+pub ordered : (ms : List Marked) → AllByRecursion HasPositions ms → AreInOrder ms ms
+ordered [] a = tt
+ordered (m ∷ ms) a = (refl, record { same = IsPermutation-refl m.positions; up = a.0.up; some = a.0.some }, ordered ms a.1)

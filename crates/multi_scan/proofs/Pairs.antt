@@ -7,17 +7,18 @@ use Rattle.std.specs.Cmp.{IsTotalOrder, nat_cmp_total, on_total, then_total, uns
 use Rattle.std.specs.FinMap.{IsAntisymmetric, nat_cmp-IsAntisymmetric}
 use Rattle.std.proofs.Math.Dec.{ltb}
 use Rattle.std.proofs.lemmas.Bool.{lt-ltb}
+use Rattle.std.proofs.lemmas.Bool.Decides.{nat_tests}
 use Rattle.std.proofs.lemmas.Map.Views.{tells_apart}
 use Rattle.std.proofs.lemmas.List.Folds.{list_any-append}
+use Rattle.std.proofs.lemmas.Map.Keys.{IsDistinct-head, IsDistinct-tail}
 use Rattle.db_value.specs.Order.{record_eq, record_cmp}
 use Rattle.db_value.proofs.OrderLemmas.{record_total, record_exact, record_ties, record_same, record_is, both_tie, tied}
 use Rattle.db_value.specs.declared.record.Record.{Record}
 use Rattle.db_value.specs.declared.record.Marked.{Marked}
-use Rattle.multi_scan.specs.Found.{Found, found_cmp, row_cmp, spread, spread_one, times, weigh, is_same}
+use Rattle.multi_scan.specs.Found.{Found, Climbs, HasPositions, found_cmp, row_cmp, spread, spread_one, times, weigh, is_same}
 use Rattle.multi_scan.proofs.Totals.{zero_plus}
-use Rattle.multi_scan.proofs.Joined.{HasPositions}
 use Rattle.multi_scan.specs.Multi.{has, union_of, positions_from, marked_in, union_marked}
-use Rattle.db_store.proofs.RowLemmas.{same_sorted, strictly_sorted, all_append}
+use Rattle.db_store.proofs.RowLemmas.{same_sorted, all_append}
 use Rattle.multi_scan.proofs.Sorted.{sorted_append, sorted_nil, sorted_cons, distinct_append, distinct_nil, all_map}
 use Rattle.multi_scan.proofs.Union.{anywhere, has_union, sorted_union, each_member}
 
@@ -355,9 +356,20 @@ apart_positions row (p ∷ ps) d = (others ps d.0, apart_positions row ps d.1)
     others [] a = tt
     others (k ∷ ks) a = (differ k a.0, others ks a.1)
 
+over : (p k : ℕ) → p ≤ k → (p == k) ≡ false → p < k
+over p k h e = grind (arith, nat_tests)
+
+strict_all : (p : ℕ) (ks : List ℕ) → AllByRecursion (λ k. p ≤ k) ks → AllByRecursion (λ k. eq_by_cmp nat_cmp p k ≡ false) ks → AllByRecursion (λ k. nat_cmp p k ≡ Less) ks
+strict_all p [] a b = tt
+strict_all p (k ∷ ks) a b = (less_is p k (over p k a.0 (unsigned_ties p k ∙ b.0)), strict_all p ks a.1 b.1)
+
+strict_climb : (ps : List ℕ) → Climbs ps → IsDistinct (eq_by_cmp nat_cmp) ps → IsStrictlySortedBy nat_cmp ps
+strict_climb [] c d = sorted_nil nat_cmp
+strict_climb (p ∷ ps) c d = sorted_cons nat_cmp p ps (strict_all p ps c.0 (IsDistinct-head (eq_by_cmp nat_cmp) p ps d)) (strict_climb ps c.1 (IsDistinct-tail (eq_by_cmp nat_cmp) p ps d))
+
 strict_positions : (ms : List Marked) → IsDistinct is_same (spread ms) → AllByRecursion HasPositions ms → AllByRecursion (λ m. IsStrictlySortedBy nat_cmp m.positions) ms
 strict_positions [] d a = tt
-strict_positions (m ∷ ms) d a = (strictly_sorted nat_cmp_total m.positions 0 a.0.0 (apart_positions m.row m.positions (distinct_front (spread_one m) (spread ms) d)), strict_positions ms (distinct_back (spread_one m) (spread ms) d) a.1)
+strict_positions (m ∷ ms) d a = (strict_climb m.positions a.0.up (apart_positions m.row m.positions (distinct_front (spread_one m) (spread ms) d)), strict_positions ms (distinct_back (spread_one m) (spread ms) d) a.1)
 
 -- ---- rows in order that have the pairs of lists are the union of the lists
 
@@ -378,4 +390,4 @@ marked_pairs xss lists ms alike distinct up each same =
     (sorted_spread (map (marked_in lists) rows) union (all_map (λ (m : Marked). IsStrictlySortedBy nat_cmp m.positions) (marked_in lists) rows (all_of (λ (r : Record). IsStrictlySortedBy nat_cmp (positions_from 0 r lists)) (λ r. sorted_positions 0 r lists) rows))) members in
     let some : AllByRecursion (λ m. 0 < length m.positions) (map (marked_in lists) rows) = all_map (λ (m : Marked). 0 < length m.positions) (marked_in lists) rows
     (all_imply (λ (r : Record). anywhere r lists ≡ true) (λ (r : Record). 0 < length (positions_from 0 r lists)) (λ r e. some_position 0 r lists e) rows (each_member (λ row. anywhere row lists ≡ true) rows (λ q e. sym (has_union q lists) ∙ e))) in
-    sym (gathered_spread ms up (all_imply HasPositions (λ (m : Marked). 0 < length m.positions) (λ m h. h.1) ms each)) ∙ ap gathered is ∙ gathered_spread (map (marked_in lists) rows) union some
+    sym (gathered_spread ms up (all_imply HasPositions (λ (m : Marked). 0 < length m.positions) (λ m h. h.some) ms each)) ∙ ap gathered is ∙ gathered_spread (map (marked_in lists) rows) union some

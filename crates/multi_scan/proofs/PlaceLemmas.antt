@@ -15,7 +15,7 @@ use Rattle.db_store.proofs.RowLemmas.{all_append}
 use Rattle.multi_scan.specs.declared.places.Place.{Place}
 use Rattle.multi_scan.specs.Found.{found_in_part, found_in_parts, found_in_views}
 use Rattle.multi_scan.specs.Places.{places_from, places_in, part_of, IsPlace, found_at_places, id_run, place_cmp}
-use Rattle.multi_scan.proofs.Totals.{all_from}
+use Rattle.multi_scan.proofs.Totals.{all_from, all_both}
 use Rattle.multi_scan.proofs.Rising.{Rises, rises}
 
 -- ---- where parts stand
@@ -59,20 +59,36 @@ places_at p views n (parts ∷ rest) e =
 place_total : IsTotalOrder place_cmp
 place_total = then_total (on_total (λ (p : Place). p.id) nat_cmp_total) (then_total (on_total (λ (p : Place). p.position) nat_cmp_total) (on_total (λ (p : Place). p.index) nat_cmp_total))
 
--- the ids don't fall
+-- a place is after another one: with a greater id, or with this id and not with a lesser position
+abbrev pub IsAfter : Place → Place → Type 0
+IsAfter p q = (p.id ≤ q.id) × (p.id ≡ q.id → p.position ≤ q.position)
+
+-- each is after those before it
 abbrev pub ById : List Place → Type 0
 ById [] = Unit {0}
-ById (p ∷ ps) = AllByRecursion (λ q. p.id ≤ q.id) ps × ById ps
+ById (p ∷ ps) = AllByRecursion (IsAfter p) ps × ById ps
 
 not_less : (a b : ℕ) (o : Ordering) → is_lt (ordering_then (nat_cmp b a) o) ≡ false → a ≤ b
 not_less a b o e = grind (arith, nat_tests)
+
+then_not_less : (a b : ℕ) (o : Ordering) → a ≡ b → is_lt (ordering_then (nat_cmp b a) o) ≡ false → is_lt o ≡ false
+then_not_less a b o s e = grind (arith, nat_tests)
 
 pub by_ids : (ps : List Place) → IsSorted place_cmp ps → ById ps
 by_ids ps up = each ps (rises (λ x y. is_lt (place_cmp x y)) (ranks_by place_total (λ (p : Place). p)) ps up)
   where
     each : (ps : List Place) → Rises (λ x y. is_lt (place_cmp x y)) ps → ById ps
     each [] a = tt
-    each (p ∷ ps) a = (all_from (λ (q : Place). is_lt (place_cmp q p) ≡ false) (λ (q : Place). p.id ≤ q.id) (λ q e. not_less p.id q.id _ e) ps a.0, each ps a.1)
+    each (p ∷ ps) a = (all_from (λ (q : Place). is_lt (place_cmp q p) ≡ false) (IsAfter p) (λ q e. (not_less p.id q.id _ e, λ s. not_less p.position q.position _ (then_not_less p.id q.id _ s e))) ps a.0, each ps a.1)
+
+-- the positions of places of one id don't fall
+abbrev pub ByPosition : List Place → Type 0
+ByPosition [] = Unit {0}
+ByPosition (p ∷ ps) = AllByRecursion (λ q. p.position ≤ q.position) ps × ByPosition ps
+
+pub by_positions : (id : ℕ) (ps : List Place) → ById ps → AllByRecursion (λ p. p.id ≡ id) ps → ByPosition ps
+by_positions id [] s e = tt
+by_positions id (p ∷ ps) s e = (all_from (λ (q : Place). IsAfter p q × (q.id ≡ id)) (λ (q : Place). p.position ≤ q.position) (λ q h. h.0.1 (e.0 ∙ sym h.1)) ps (all_both (IsAfter p) (λ (q : Place). q.id ≡ id) ps s.0 e.1), by_positions id ps s.1 e.1)
 
 pub run_same : (id : ℕ) (ps : List Place) → AllByRecursion (λ p. p.id ≡ id) (take (id_run id ps) ps)
 run_same id [] = tt
@@ -88,7 +104,7 @@ pub run_over : (id : ℕ) (ps : List Place) → AllByRecursion (λ p. id ≤ p.i
 run_over id [] a s = tt
 run_over id (p ∷ ps) a s = elim (p.id == id) as (λ b. (p.id == id) ≡ b → AllByRecursion (λ (q : Place). id < q.id) (drop (cond b (suc (id_run id ps)) 0) (p ∷ ps))) [
   | true ↦ λ e. run_over id ps a.1 s.1
-  | false ↦ λ e. (above id p.id a.0 e, all_from (λ (q : Place). p.id ≤ q.id) (λ (q : Place). id < q.id) (λ q h. omega (arith, above id p.id a.0 e, h)) ps s.0)
+  | false ↦ λ e. (above id p.id a.0 e, all_from (IsAfter p) (λ (q : Place). id < q.id) (λ q h. omega (arith, above id p.id a.0 e, h.0)) ps s.0)
 ] refl
 
 pub ids_drop : (n : ℕ) (ps : List Place) → ById ps → ById (drop n ps)
@@ -105,3 +121,8 @@ pub all_take : {K : Type 0} (P : K → Type 0) (n : ℕ) (xs : List K) → AllBy
 all_take P zero xs a = tt
 all_take P (suc n) [] a = tt
 all_take P (suc n) (x ∷ xs) a = (a.0, all_take P n xs a.1)
+
+pub ids_take : (n : ℕ) (ps : List Place) → ById ps → ById (take n ps)
+ids_take zero ps s = tt
+ids_take (suc n) [] s = tt
+ids_take (suc n) (p ∷ ps) s = (all_take (IsAfter p) n ps s.0, ids_take n ps s.1)

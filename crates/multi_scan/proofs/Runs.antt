@@ -61,3 +61,13 @@ all_but_one n = omega arith
 pub first_and_others : {X : Type 0} (rest : List X) (first : X) → 1 ≤ length rest → first ≡ get_or rest 0 first → rest ≡ first ∷ take (length rest - 1) (drop 1 rest)
 first_and_others [] first h e = absurd (omega arith)
 first_and_others {X} (x ∷ xs) first h e = ap (λ (f : X). f ∷ xs) (sym e) ∙ ap (λ (t : List X). first ∷ t) (sym (ap (λ n. take n xs) (all_but_one (length xs)) ∙ take-length xs))
+
+-- a row whose run is that row alone
+pub no_run : (rest others found : List Marked) (first : Marked) (k : ℕ) → rest ≡ first ∷ others → k ≡ run_length first.row others → k ≡ 0 → (joined rest ≡ rest → joined found ≡ found) → joined others ≡ others → joined found ≡ found
+no_run rest others found first k r n z h e =
+    let none : run_length first.row others ≡ 0 = sym n ∙ z in
+    let one : joined (first ∷ others) ≡ first ∷ others = joined_run first.row first.positions others ∙ (λ i. run_row_at (none i) ∷ joined (drop (none i) others)) ∙ (λ i. record { row = first.row; positions = append-nil first.positions i } ∷ e i) in
+    h (ap joined r ∙ one ∙ sym r)
+  where
+    run_row_at : ℕ → Marked
+    run_row_at j = record { row = first.row; positions = first.positions ++ positions_of (take j others) }

@@ -1,5 +1,5 @@
 -- What is found in a part that is shown at several places, and what it costs.
-use Rattle.std.proofs.Common.{◌≡◌, ℕ, zero, suc, ◌+◌, ◌<◌, ◌≤◌, Bool, true, false, cond, ◌&&◌, List, [], ◌∷◌, ◌++◌, length, map, take, append_assoc, ap, sym, ◌∙◌, refl, arith, Some, None}
+use Rattle.std.proofs.Common.{◌≡◌, ℕ, zero, suc, ◌+◌, ◌<◌, ◌≤◌, Bool, true, false, cond, ◌&&◌, List, [], ◌∷◌, ◌++◌, length, map, take, append_assoc, ap, sym, ◌∙◌, refl, arith, Some, None, Option}
 use Rattle.std.specs.List.{AllByRecursion}
 use Rattle.std.proofs.Math.Seq.{take-length}
 use Rattle.std.proofs.lemmas.List.{take_more, append-nil}
@@ -8,8 +8,10 @@ use Rattle.db_value.specs.declared.record.Record.{Record}
 use Rattle.db_value.specs.declared.record.Marked.{Marked}
 use Rattle.db_store.specs.Parts.{Part, no_slot}
 use Rattle.multi_scan.specs.declared.places.Place.{Place}
-use Rattle.multi_scan.specs.Found.{Found, found_at, found_in_slot, found_in_slots, found_in_part, spread, spread_one, times, weigh, is_same, total}
+use Rattle.multi_scan.specs.Found.{Found, Climbs, HasPositions, found_at, found_in_slot, found_in_slots, found_in_part, spread, spread_one, times, weigh, is_same, total}
 use Rattle.multi_scan.specs.Places.{part_of, slot_of, live_at, row_where, kept_at, found_shared, found_at_places}
+use Rattle.db_store.proofs.RowLemmas.{all_append}
+use Rattle.multi_scan.proofs.PlaceLemmas.{ByPosition}
 use Rattle.multi_scan.proofs.Totals.{zero_plus, total_append, total_flat, total_all, total_add, total_zero, all_from}
 
 pub times_append : (q : Found) (xs ys : List Found) → times q (xs ++ ys) ≡ times q xs + times q ys
@@ -79,3 +81,28 @@ module _ (q : Found) (p : Record → Bool) (views : List (List Part)) where
       ∙ total_all (λ s. times q (found_in_slots p s.position (take n (part_of views s).slots))) (λ s. times q (found_in_part p s.position (part_of views s))) ps
       (all_from (λ (s : Place). (length (part_of views s).slots ≡ n) × Same s) (λ (s : Place). times q (found_in_slots p s.position (take n (part_of views s).slots)) ≡ times q (found_in_part p s.position (part_of views s))) (λ s h. ap (λ (t : List (Record × Bool)). times q (found_in_slots p s.position t)) (ap (λ k. take k (part_of views s).slots) (sym h.0) ∙ take-length (part_of views s).slots)) ps a)
       ∙ sym (at_places ps)
+
+-- ---- their positions are in order
+
+live_from : (views : List (List Part)) (n k : ℕ) (ps : List Place) → AllByRecursion (λ s. k ≤ s.position) ps → AllByRecursion (λ j. k ≤ j) (live_at views n ps)
+live_from views n k [] a = tt
+live_from views n k (s ∷ ps) a = elim (slot_of (part_of views s) n).1 as (λ b. AllByRecursion (λ (j : ℕ). k ≤ j) (cond b (s.position ∷ live_at views n ps) (live_at views n ps))) [
+  | true ↦ (a.0, live_from views n k ps a.1)
+  | false ↦ live_from views n k ps a.1
+]
+
+live_climbs : (views : List (List Part)) (n : ℕ) (ps : List Place) → ByPosition ps → Climbs (live_at views n ps)
+live_climbs views n [] s = tt
+live_climbs views n (p ∷ ps) s = elim (slot_of (part_of views p) n).1 as (λ b. Climbs (cond b (p.position ∷ live_at views n ps) (live_at views n ps))) [
+  | true ↦ (live_from views n p.position ps s.0, live_climbs views n ps s.1)
+  | false ↦ live_climbs views n ps s.1
+]
+
+kept_positions : (ks : List ℕ) (row : Option Record) → Climbs ks → AllByRecursion HasPositions (kept_at ks row)
+kept_positions [] row c = tt
+kept_positions (k ∷ ks) None c = tt
+kept_positions (k ∷ ks) (Some row) c = (record { up = c; some = omega arith }, tt)
+
+pub shared_positions : (p : Record → Bool) (views : List (List Part)) (part : Part) (ps : List Place) (n : ℕ) → ByPosition ps → AllByRecursion HasPositions (found_shared p views part ps n)
+shared_positions p views part ps zero s = tt
+shared_positions p views part ps (suc n) s = all_append HasPositions (found_shared p views part ps n) (kept_at (live_at views n ps) (row_where p (slot_of part n).0)) (shared_positions p views part ps n s) (kept_positions (live_at views n ps) (row_where p (slot_of part n).0) (live_climbs views n ps s))

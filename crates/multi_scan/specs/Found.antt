@@ -1,7 +1,7 @@
 -- Rows as they are found, and what they are joined to.
-use Rattle.std.specs.Prelude.{◌≡◌, ℕ, suc, ◌+◌, ◌<◌, ◌==◌, Bool, ◌&&◌, cond, List, [], ◌∷◌, ◌++◌, length, map, Option, Some, None}
-use Rattle.std.specs.List.{flat_map}
-use Rattle.std.specs.List.Sorted.{IsPermutation, IsSorted}
+use Rattle.std.specs.Prelude.{◌≡◌, ℕ, suc, ◌+◌, ◌<◌, ◌≤◌, ◌==◌, Bool, ◌&&◌, cond, List, [], ◌∷◌, ◌++◌, length, map, Option, Some, None}
+use Rattle.std.specs.List.{AllByRecursion, flat_map}
+use Rattle.std.specs.List.Sorted.{IsPermutation}
 use Rattle.std.specs.Ordering.{nat_cmp, ordering_then}
 use Rattle.std.specs.declared.cmp.Ordering.{Ordering}
 use Rattle.db_value.specs.declared.record.Record.{Record}
@@ -90,10 +90,20 @@ run_length row (m ∷ ms) = cond (record_eq m.row row) (suc (run_length row ms))
 abbrev pub positions_of : List Marked → List ℕ
 positions_of ms = flat_map (λ m. m.positions) ms
 
+-- none is below one before it
+abbrev pub Climbs : List ℕ → Type 0
+Climbs [] = Unit {0}
+Climbs (n ∷ ns) = AllByRecursion (λ k. n ≤ k) ns × Climbs ns
+
+-- a row has positions in order, and at least one
+pub record HasPositions (m : Marked) : Type 0 where
+  pub up : Climbs m.positions
+  pub some : 0 < length m.positions
+
 -- these positions are those, in order, and at least one
 pub record Ascends (those these : List ℕ) : Type 0 where
   pub same : IsPermutation those these
-  pub up : IsSorted nat_cmp these
+  pub up : Climbs these
   pub some : 0 < length these
 
 -- the same rows, with their positions ascending

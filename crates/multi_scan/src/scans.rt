@@ -1,11 +1,11 @@
 //! Scans of one view and of several.
-ghost use Rattle.std.specs.Prelude.{◌≡◌, ◌+◌, ◌<◌, ◌≤◌, ◌++◌, length, map, OnOk, IfOk};
-ghost use Rattle.std.specs.List.{All};
+ghost use Rattle.std.specs.Prelude.{◌≡◌, ◌+◌, ◌<◌, ◌≤◌, ◌++◌, false, length, map, OnOk, IfOk};
+ghost use Rattle.std.specs.List.{All, AllByRecursion};
 ghost use Rattle.std.specs.List.Sorted.{IsPermutation, IsSorted};
 ghost use Rattle.db_value.specs.Pred.{pred_holds};
 ghost use Rattle.db_store.specs.Rows.{rows_where, marked, slots_of};
 ghost use Rattle.multi_scan.specs.Agree.{AllAgree};
-ghost use Rattle.multi_scan.specs.Found.{joined, run_length, positions_of, Ascends, AreInOrder, row_cmp};
+ghost use Rattle.multi_scan.specs.Found.{joined, run_length, positions_of, Ascends, Climbs, HasPositions, AreInOrder, row_cmp};
 ghost use Rattle.multi_scan.specs.Places.{shown};
 ghost use Rattle.multi_scan.specs.Multi.{multi};
 ghost use Rattle.multi_scan.specs.Cost.{slots_of_distinct};
@@ -19,6 +19,8 @@ use std::sync::ledger::Ledger;
 
 // In order, by row.
 fn by_row(mut found: Vec<Marked>) -> Vec<Marked>
+    requires { AllByRecursion HasPositions found.items }
+    ensures positions { AllByRecursion HasPositions result.items }
     ensures permutation { IsPermutation found.items result.items }
     ensures sorted { IsSorted row_cmp result.items }
 {
@@ -64,6 +66,13 @@ fn collect(all: &mut Vec<u32>, first: &Positions, run: &[Marked]) -> Result<(), 
     Ok(())
 }
 
+fn sort(all: &mut Vec<u32>)
+    ensures permutation { IsPermutation all.old.items all.new.items }
+    ensures sorted { Climbs all.new.items }
+{
+    all.sort_unstable();
+}
+
 // The positions of a run, ascending.
 fn ascending(
     alloc: Global,
@@ -74,16 +83,30 @@ fn ascending(
     ensures { IfOk result (λ positions. Ascends (first.now ++ positions_of run.now) positions) }
 {
     collect(all, first, run)?;
-    all.sort_unstable();
+    sort(all);
     let [least, others @ ..] = all.as_slice() else {
         unreachable!();
     };
     Ok(Positions::of(*least, copied(alloc, others)?))
 }
 
+// Do neighbours have one row?
+fn has_runs(found: &[Marked]) -> bool
+    ensures { result ≡ false → joined found.now ≡ found.now }
+{
+    let mut rest = found;
+    while let [first, others @ ..] = rest {
+        if count_run(&first.row, others) > 0 {
+            return true;
+        }
+        rest = others;
+    }
+    false
+}
+
 // Neighbours with one row become that row, with the positions of all.
-fn join(alloc: Global, found: &[Marked]) -> Result<Rows, AllocError>
-    ensures { IfOk result (λ rows. AreInOrder (joined found.now) rows) }
+fn join_runs(alloc: Global, found: &[Marked]) -> Result<Vec<Marked>, AllocError>
+    ensures { IfOk result (λ rows. AreInOrder (joined found.now) rows.items) }
 {
     let mut rows = Vec::with_capacity(alloc, found.len())?;
     let mut all = Vec::new(alloc);
@@ -97,6 +120,18 @@ fn join(alloc: Global, found: &[Marked]) -> Result<Rows, AllocError>
         })?;
         rest = more;
     }
+    Ok(rows)
+}
+
+// Most often each row stands alone, and then nothing is moved.
+fn join(alloc: Global, found: Vec<Marked>) -> Result<Rows, AllocError>
+    requires { AllByRecursion HasPositions found.items }
+    ensures { IfOk result (λ rows. AreInOrder (joined found.items) rows) }
+{
+    if !has_runs(&found) {
+        return Ok(SharedList::of(alloc, found)?);
+    }
+    let rows = join_runs(alloc, &found)?;
     Ok(SharedList::of(alloc, rows)?)
 }
 
@@ -151,6 +186,6 @@ pub fn scan<V: View, L: Ledger>(
 {
     let places = by_id(list_places(alloc, views, relation)?);
     let found = gather(alloc, views, relation, pred, &places, steps)?;
-    let rows = join(alloc, &by_row(found))?;
+    let rows = join(alloc, by_row(found))?;
     Ok(rows)
 }

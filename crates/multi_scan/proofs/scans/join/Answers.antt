@@ -1,5 +1,10 @@
-use Rattle.multi_scan.proofs.Runs.{run_more, first_and_others}
+use Rattle.std.proofs.Common.{◌≡◌, List, sym, subst, rules}
+use Rattle.db_value.specs.declared.record.Marked.{Marked}
+use Rattle.multi_scan.specs.Found.{AreInOrder, joined}
+use Rattle.multi_scan.proofs.Joined.{ordered}
 use Rattle.multi_scan.proofs.scans.join.Goals as goal
 
-pub loop-rest-preserved : goal.loop-rest-preserved
-loop-rest-preserved c = run_more c.args.found.now c.loop-rest.rows.items _ c.loop-rest.rest.now _ c.split_at.result.0.now _ c.first-item.result _ _ (first_and_others _ _ c.in-len1-up.len_at_least c.first-item.is) c.count_run.ensures.value c.split_at.ensures.front c.split_at.ensures.back c.in_ok-positions.ensures c.in_ok-push.ensures.items c.loop-rest.invariant
+pub returns-then-not-has_runs : goal.returns-then-not-has_runs
+returns-then-not-has_runs c =
+    let alone : joined c.args.found.items ≡ c.args.found.items = subst (λ (ms : List Marked). joined ms ≡ ms) c.deref.ensures.value (c.has_runs.ensures (search rules)) in
+    subst (AreInOrder (joined c.args.found.items)) (sym c.in_ok-of.ensures) (subst (λ (ms : List Marked). AreInOrder ms c.args.found.items) (sym alone) (ordered c.args.found.items c.requires))

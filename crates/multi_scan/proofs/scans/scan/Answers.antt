@@ -2,7 +2,6 @@ use Rattle.std.proofs.Common.{◌≤◌, List, map, sym, subst, arith}
 use Rattle.std.specs.List.{All}
 use Rattle.std.specs.List.Sorted.{IsPermutation}
 use Rattle.db_value.specs.Pred.{pred_holds}
-use Rattle.db_value.specs.declared.record.Marked.{Marked}
 use Rattle.multi_scan.specs.declared.places.Place.{Place}
 use Rattle.multi_scan.specs.Found.{AreSame, AreInOrder, joined, spread}
 use Rattle.multi_scan.specs.Places.{shown, part_of, places_in, IsPlace, found_at_places}
@@ -37,7 +36,7 @@ returns-clause-rows g c =
     let p = pred_holds c.args.pred.now in
     let moved : IsPermutation (places_in 0 views) c.by_id-places.result.items = subst (λ (t : List Place). IsPermutation t c.by_id-places.result.items) c.in_ok-list_places.ensures c.by_id-places.ensures.permutation in
     let same : AreSame (spread c.in_ok-found.found.items) (found_at_places p views c.by_id-places.result.items) = subst (λ (t : List Place). AreSame (spread c.in_ok-found.found.items) (found_at_places p views t)) c.deref.ensures.value c.in_ok-found.ensures.found in
-    let order : AreInOrder (joined c.by_row.result.items) c.in_ok-rows.rows = subst (λ (t : List Marked). AreInOrder (joined t) c.in_ok-rows.rows) c.deref-2.ensures.value c.in_ok-rows.ensures in
+    let order : AreInOrder (joined c.by_row.result.items) c.in_ok-rows.rows = c.in_ok-rows.ensures in
     scanned g.V.View.table g.V.View.parts_of c.args.relation p g.met.V.View.rows_are c.args.views.now c.by_id-places.result.items c.in_ok-found.found.items c.by_row.result.items c.in_ok-rows.rows c.requires.relation moved same c.by_row.ensures.permutation c.by_row.ensures.sorted order
 
 pub returns-clause-cost : goal.returns-clause-cost

@@ -1,7 +1,7 @@
 use Rattle.std.proofs.Common.{◌≡◌, ◌++◌, List, length}
 use Rattle.db_value.specs.declared.record.Marked.{Marked}
 use Rattle.multi_scan.specs.Found.{joined, AreInOrder}
-use Rattle.multi_scan.proofs.scans.join.Given as goal
+use Rattle.multi_scan.proofs.scans.join_runs.Given as goal
 
 -- the rows so far are those of the runs that were joined
 abbrev pub invariant-loop-rest : goal.invariant-loop-rest
