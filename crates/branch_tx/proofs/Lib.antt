@@ -1,6 +1,8 @@
 pub mod WideLemmas
 pub mod Spellings
 pub mod LentLemmas
+pub mod ShownLemmas
+pub mod SeenAgree
 pub mod Private
 pub mod Images
 pub mod WithSets

@@ -22,6 +22,8 @@ use Rattle.branch_tx.specs.Found.{Source, Own, Other, Lacking}
 use Rattle.branch_tx.specs.Act.{Tx, Outcome, Ground, act, insert_free, update_free, delete_free, insert_in, update_in, get_from, scan_over, join_in, minus_in, record_with}
 use Rattle.branch_tx.specs.Merging.{merge_in, merged_to, merge_refusal}
 use Rattle.branch_tx.specs.Frame.{is_changed}
+use Rattle.branch_tx.specs.Shown.{Shown, shown_code, ViewsOf}
+use Rattle.db_store.specs.State.{State}
 
 pub record Granted : Type 0 where
   pub schema : List Relation
@@ -37,6 +39,9 @@ pub record Granted : Type 0 where
   pub second : Option VersionPlace
   -- the versions that were lent, with their tables
   pub lent : List (VersionName × Table)
+  -- what the view under the working table shows, and what the views of the versions that were lent show
+  pub below : Shown
+  pub shown : List Shown
   -- the names of all branches, once they were noted
   pub heads : Option (List (List ℕ))
 
@@ -52,15 +57,23 @@ place_code = code_by (ℕ × ℕ) (coded× coded_ℕ coded_ℕ) (λ p. (p.branch
 -- a granted transaction can be told apart from others
 abbrev pub granted_code : Coded Granted
 granted_code = code_by
-    (List Relation × (List ℕ × (Option (Bool × Bool) × (Table × (List Overlay × (ℕ × (Option VersionPlace × (List (VersionName × Table) × Option (List (List ℕ))))))))))
-    (coded× (coded_list relation_code) (coded× (coded_list coded_ℕ) (coded× (coded_option (coded× coded_bool coded_bool)) (coded× table_code (coded× (coded_list overlay_code) (coded× coded_ℕ (coded× (coded_option place_code) (coded× (coded_list (coded× version_code table_code)) (coded_option (coded_list (coded_list coded_ℕ)))))))))))
-    (λ g. (g.schema, (g.name, (g.held, (g.head, (g.overlays, (g.room, (g.second, (g.lent, g.heads)))))))))
-    (λ p. record { schema = p.0; name = p.1.0; held = p.1.1.0; head = p.1.1.1.0; overlays = p.1.1.1.1.0; room = p.1.1.1.1.1.0; second = p.1.1.1.1.1.1.0; lent = p.1.1.1.1.1.1.1.0; heads = p.1.1.1.1.1.1.1.1 })
+    (List Relation × (List ℕ × (Option (Bool × Bool) × (Table × (List Overlay × (ℕ × (Option VersionPlace × (List (VersionName × Table) × (Shown × (List Shown × Option (List (List ℕ))))))))))))
+    (coded× (coded_list relation_code) (coded× (coded_list coded_ℕ) (coded× (coded_option (coded× coded_bool coded_bool)) (coded× table_code (coded× (coded_list overlay_code) (coded× coded_ℕ (coded× (coded_option place_code) (coded× (coded_list (coded× version_code table_code)) (coded× shown_code (coded× (coded_list shown_code) (coded_option (coded_list (coded_list coded_ℕ)))))))))))))
+    (λ g. (g.schema, (g.name, (g.held, (g.head, (g.overlays, (g.room, (g.second, (g.lent, (g.below, (g.shown, g.heads)))))))))))
+    (λ p. record { schema = p.0; name = p.1.0; held = p.1.1.0; head = p.1.1.1.0; overlays = p.1.1.1.1.0; room = p.1.1.1.1.1.0; second = p.1.1.1.1.1.1.0; lent = p.1.1.1.1.1.1.1.0; below = p.1.1.1.1.1.1.1.1.0; shown = p.1.1.1.1.1.1.1.1.1.0; heads = p.1.1.1.1.1.1.1.1.1.1 })
     (λ _. refl)
 
 -- a transaction to which nothing is granted yet
-abbrev pub ungranted : List Relation → List ℕ → Table → List Overlay → ℕ → Granted
-ungranted schema name head overlays room = record { schema = schema; name = name; held = None; head = head; overlays = overlays; room = room; second = None; lent = []; heads = None }
+abbrev pub ungranted : List Relation → List ℕ → Table → Shown → List Overlay → ℕ → Granted
+ungranted schema name head below overlays room = record { schema = schema; name = name; held = None; head = head; overlays = overlays; room = room; second = None; lent = []; below = below; shown = []; heads = None }
+
+-- what all its views show
+abbrev pub views_of : Granted → List Shown
+views_of g = g.below ∷ g.shown
+
+-- all its views are of one state
+abbrev pub AreAllOf : State → Granted → Type 0
+AreAllOf s g = ViewsOf s (views_of g)
 
 abbrev pub held_full : Option (Bool × Bool) → Bool
 held_full None = false
@@ -154,7 +167,7 @@ told_apart g r v w = minus_in (over_table g.head) (tx_in g) r (source_in g v) (s
 
 -- it after what it was granted since a mark is taken back
 abbrev pub back_at : Granted → Option (Bool × Bool) × (ℕ × Bool) → Granted
-back_at g mark = record g { held = mark.0; lent = take mark.1.0 g.lent; heads = cond mark.1.1 g.heads None }
+back_at g mark = record g { held = mark.0; lent = take mark.1.0 g.lent; shown = take mark.1.0 g.shown; heads = cond mark.1.1 g.heads None }
 
 -- what an insertion does where the branch isn't full
 abbrev pub placed : Granted → ℕ → List ℕ → Record → Outcome (List Overlay)

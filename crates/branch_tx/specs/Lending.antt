@@ -1,5 +1,5 @@
 -- The names under which versions were lent, and a map that finds them.
-use Rattle.std.specs.Prelude.{◌≡◌, ℕ, cond, List, [], ◌∷◌, Option, Some, None}
+use Rattle.std.specs.Prelude.{◌≡◌, ℕ, cond, List, [], ◌∷◌, ◌++◌, take, Option, Some, None}
 use Rattle.std.specs.Ordering.{nat_cmp, ordering_then}
 use Rattle.std.specs.Option.{option_cmp}
 use Rattle.std.specs.declared.cmp.Ordering.{Ordering}
@@ -11,11 +11,28 @@ use Rattle.db_value.specs.declared.version.VersionName.{VersionName}
 use Rattle.db_store.specs.Table.{Table, table_code}
 use Rattle.db_store.specs.Touched.{one_further}
 use Rattle.branch_tx.specs.declared.key.NameKey.{NameKey}
+use Rattle.branch_tx.specs.Shown.{Shown, shown_code}
 use Rattle.branch_tx.specs.Granted.{same_version, version_code}
 
--- names with their tables can be told apart from others
-abbrev pub lent_code : Coded (List (VersionName × Table))
-lent_code = coded_list (coded× version_code table_code)
+-- the versions that were lent, with their tables, and what their views show
+abbrev pub Views : Type 0
+Views = List (VersionName × Table) × List Shown
+
+-- they can be told apart from others
+abbrev pub views_code : Coded Views
+views_code = coded× (coded_list (coded× version_code table_code)) (coded_list shown_code)
+
+-- no version
+abbrev pub no_views : Views
+no_views = ([], [])
+
+-- one version more
+abbrev pub and_view : Views → VersionName → Table → Shown → Views
+and_view vs name table shown = (vs.0 ++ (name, table) ∷ [], vs.1 ++ shown ∷ [])
+
+-- the first few
+abbrev pub first_views : ℕ → Views → Views
+first_views n vs = (take n vs.0, take n vs.1)
 
 -- by the name of the branch, and then by position
 abbrev pub key_cmp : NameKey → NameKey → Ordering

@@ -3,7 +3,9 @@ pub mod Found
 pub mod Act
 pub mod Merging
 pub mod Alone
+pub mod Shown
 pub mod Granted
+pub mod SeenFrom
 pub mod Lending
 pub mod Stops
 pub mod TxState

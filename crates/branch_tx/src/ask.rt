@@ -5,6 +5,8 @@ ghost use Rattle.db_value.specs.Relations.{columns_at};
 ghost use Rattle.db_value.specs.Condition.{holds};
 ghost use Rattle.db_value.specs.Pred.{pred_holds, first_unknown};
 ghost use Rattle.db_store.specs.Rows.{marked, rows_where};
+ghost use Rattle.multi_scan.specs.Agree.{AllAgree};
+ghost use Rattle.multi_scan.specs.Places.{shown};
 ghost use Rattle.multi_scan.specs.Multi.{multi};
 ghost use Rattle.version_join.specs.Join.{join_of, minus_of};
 ghost use Rattle.db_store.specs.Found.{plain};
@@ -118,6 +120,7 @@ fn scan_counted<V: View, L: Ledger>(
     blank: Blank,
 ) -> Result<Rows, AllocError>
     requires relation { All (λ v. relation < length (V.table v)) views.now }
+    requires agree { AllAgree (shown V.parts_of relation views.now) }
     requires name { blank.name ≡ L.name }
     requires parts { blank.parts ≡ L.parts }
     requires some { 0 < L.parts }
@@ -137,7 +140,8 @@ pub fn scan_rows<V: View>(
     relation: u8,
     pred: &Pred,
 ) -> Result<Rows, AllocError>
-    requires { All (λ v. relation < length (V.table v)) views.now }
+    requires relation { All (λ v. relation < length (V.table v)) views.now }
+    requires agree { AllAgree (shown V.parts_of relation views.now) }
     ensures { IfOk result (λ rows.
         rows ≡ multi (pred_holds pred.now) relation (map V.table views.now)) }
 {

@@ -1,8 +1,9 @@
 //! The versions that were lent to a transaction.
-ghost use Rattle.std.specs.Prelude.{◌≡◌, ◌++◌, ◌∷◌, [], List, None, Some, OnOk, OnErr, IfNone, IfSome, length, take, is_some, ◌-◌};
+ghost use Rattle.std.specs.Prelude.{◌≡◌, ◌++◌, ◌∷◌, [], List, None, Some, OnOk, OnErr, IfNone, IfSome, length, is_some, ◌-◌};
 ghost use Rattle.db_value.specs.declared.version.VersionName.{VersionName};
 ghost use Rattle.branch_tx.specs.Granted.{lent_table};
-ghost use Rattle.branch_tx.specs.Lending.{ArePlaces};
+ghost use Rattle.branch_tx.specs.Shown.{parts_by, IsAmong};
+ghost use Rattle.branch_tx.specs.Lending.{ArePlaces, no_views, and_view, first_views};
 
 use crate::key::NameKey;
 use db_store::View;
@@ -27,16 +28,18 @@ pub struct Lending<V: View> {
 }
 
 impl<V: View> Model for Lending<V> {
-    ghost use Rattle.std.specs.Prelude.{List, map};
-    ghost use Rattle.db_value.specs.declared.version.VersionName.{VersionName};
-    ghost use Rattle.db_store.specs.Table.{Table};
-    ghost use Rattle.branch_tx.specs.Lending.{ArePlaces, lent_code};
+    ghost use Rattle.std.specs.Prelude.{map};
+    ghost use Rattle.branch_tx.specs.Shown.{parts_by};
+    ghost use Rattle.branch_tx.specs.Lending.{Views, ArePlaces, views_code};
 
-    ghost Value = { List (VersionName × Table) };
+    ghost Value = { Views };
 
-    ghost coded = { lent_code };
+    ghost coded = { views_code };
 
-    ghost view = { λ l. map (λ x. (x.name, V.table x.view)) l.lent.items };
+    ghost view = { λ l. (
+      map (λ x. (x.name, V.table x.view)) l.lent.items,
+      map (λ x. parts_by (V.parts_of x.view)) l.lent.items,
+    ) };
 
     ghost invariant = { λ l. ArePlaces (map (λ x. x.name) l.lent.items) l.places };
 }
@@ -76,7 +79,7 @@ fn forget(places: &mut BTreeMap<NameKey, usize>, name: &VersionName, place: usiz
 impl<V: View> Lending<V> {
     /// Nothing was lent.
     pub fn new(alloc: Global) -> Lending<V>
-        ensures { result ≡ [] }
+        ensures { result ≡ no_views }
     {
         Lending {
             lent: Vec::new(alloc),
@@ -86,7 +89,7 @@ impl<V: View> Lending<V> {
 
     /// How many were lent.
     pub fn len(&self) -> usize
-        ensures { result ≡ length self.now }
+        ensures { result ≡ length self.now.0 }
     {
         self.lent.len()
     }
@@ -98,7 +101,8 @@ impl<V: View> Lending<V> {
 
     /// Adds a view under a name.
     pub fn push(&mut self, name: VersionName, view: V) -> Result<(), AllocError>
-        ensures ok { OnOk result (self.new ≡ self.old ++ (name, V.table view) ∷ []) }
+        ensures ok { OnOk result (self.new
+            ≡ and_view self.old name (V.table view) (parts_by (V.parts_of view))) }
         ensures err { OnErr result (self.new ≡ self.old) }
     {
         let place = self.lent.len();
@@ -114,8 +118,10 @@ impl<V: View> Lending<V> {
 
     /// The view that was lent under a name; none if none was.
     pub fn find(&self, name: &VersionName) -> Option<&V>
-        ensures none { IfNone result (lent_table self.now name.now ≡ None) }
-        ensures some { IfSome result (λ v. lent_table self.now name.now ≡ Some (V.table v.now)) }
+        ensures none { IfNone result (lent_table self.now.0 name.now ≡ None) }
+        ensures some { IfSome result (λ v.
+            lent_table self.now.0 name.now ≡ Some (V.table v.now)) }
+        ensures shown { IfSome result (λ v. IsAmong self.now.1 (parts_by (V.parts_of v.now))) }
     {
         match self.places.get(&NameKey::of(name)) {
             None => None,
@@ -125,14 +131,14 @@ impl<V: View> Lending<V> {
 
     /// Was a view lent under a name?
     pub fn has(&self, name: &VersionName) -> bool
-        ensures { result ≡ is_some (lent_table self.now name.now) }
+        ensures { result ≡ is_some (lent_table self.now.0 name.now) }
     {
         self.places.contains_key(&NameKey::of(name))
     }
 
     // Takes back the last one.
     fn pop(&mut self)
-        ensures { self.new ≡ take (length self.old - 1) self.old }
+        ensures { self.new ≡ first_views (length self.old.0 - 1) self.old }
     {
         if let Some(last) = self.lent.pop() {
             forget(&mut self.places, &last.name, self.lent.len());
@@ -141,7 +147,7 @@ impl<V: View> Lending<V> {
 
     /// Keeps the first few. It takes no memory.
     pub fn keep_first(&mut self, count: usize)
-        ensures { self.new ≡ take count self.old }
+        ensures { self.new ≡ first_views count self.old }
     {
         while self.lent.len() > count {
             self.pop();

@@ -12,6 +12,7 @@
 //! | `specs/Merging.antt`, `src/merge.rt` | merges |
 //! | `specs/Alone.antt` | one transaction alone |
 //! | `specs/Granted.antt` | a granted transaction by itself |
+//! | `specs/Shown.antt`, `specs/SeenFrom.antt` | what views show, and where what a transaction sees comes from |
 //! | `specs/Lending.antt` | the names under which versions were lent, and a map that finds them |
 //! | `specs/Covers.antt` | which statements a granted transaction answers by itself |
 //! | `specs/Frame.antt` | a transaction's replies and needs, which entries of others leave |
@@ -20,9 +21,11 @@
 //! | `src/lent.rt`, `src/key.rt` | the versions that were lent to it, and names of versions in an order |
 //! | `src/covers.rt` | which statements it answers by itself |
 //! | `src/look.rt`, `src/ask.rt` | reading in a view, and questions to views |
+//! | `src/apart.rt` | whether a working table's own part can be told by its id |
 //! | `src/refuse.rt` | refusals |
 #![tactic(auto)]
 
+mod apart;
 mod ask;
 mod covers;
 mod key;

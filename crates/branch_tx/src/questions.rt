@@ -4,9 +4,10 @@ ghost use Rattle.branch_tx.specs.Keeping.{over_table};
 ghost use Rattle.branch_tx.specs.Granted.{tx_in, acted};
 
 use crate::Tx;
+use crate::apart::are_apart;
 use crate::ask::{condition, join_rows, list_rows, minus_rows, plain_names, scan_rows};
 use crate::refuse::{no_column, no_relation, refused};
-use db_store::{Seen, Store};
+use db_store::{Seen, Store, Work};
 use db_value::{Name, Pred, Refusal, Reply, SharedList, Terms, VersionName, VersionNames};
 use std::alloc::AllocError;
 use stmt_text::{ScanOver, Stmt};
@@ -21,20 +22,34 @@ impl<St: Store> Tx<St> {
     ghost use Rattle.db_store.specs.Found.{plain};
     ghost use Rattle.branch_tx.specs.Found.{lacking, first_lacking};
     ghost use Rattle.branch_tx.specs.Act.{scan_versions};
+    ghost use Rattle.branch_tx.specs.SeenFrom.{IsWorkOf, IsFrom, AreFrom};
     ghost use Rattle.branch_tx.specs.Granted.{source_in, names_or_none, table_from, scanned, joined, told_apart};
+
+    // Its working table.
+    fn working(&self) -> &Work<St::View>
+        ensures { IsWorkOf self.now result.now }
+    {
+        &self.work
+    }
 
     // What it sees under a name: its working table, or a version that was lent.
     #[tactic(auto, using(db_store::proofs::OverlayLemmas::length_laid))]
-    fn see<'a>(&'a self, version: &VersionName) -> Option<Seen<'a, St::View>>
+    fn see<'a>(
+        &'a self,
+        work: &'a Work<St::View>,
+        version: &VersionName,
+    ) -> Option<Seen<'a, St::View>>
+        requires { IsWorkOf self.now work.now }
         ensures none { IfNone result (lacking (source_in self.now version.now)
             ≡ Some Refusal.Line) }
         ensures some { IfSome result (λ s. lacking (source_in self.now version.now) ≡ None) }
         ensures table { IfSome result (λ s.
             seen_table s ≡ table_from self.now (source_in self.now version.now)) }
         ensures wide { IfSome result (λ s. length (seen_table s) ≡ length self.now.schema) }
+        ensures from { IfSome result (λ s. IsFrom self.now work.now s) }
     {
         if self.is_current(version) {
-            return Some(Seen::Own { work: &self.work });
+            return Some(Seen::Own { work });
         }
         match self.lent.find(version) {
             None => None,
@@ -55,10 +70,12 @@ impl<St: Store> Tx<St> {
             table_from self.now (source_in self.now n)) names.now)) }
         ensures wide { IfOk result (λ o.
             IfSome o (λ v. All (λ s. length (seen_table s) ≡ length self.now.schema) v.items)) }
+        ensures from { IfOk result (λ o. IfSome o (λ v. AreFrom self.now v.items)) }
     {
+        let work = self.working();
         let mut all = Vec::new(*self.lent.allocator());
         for name in names {
-            match self.see(name) {
+            match self.see(work, name) {
                 None => return Ok(None),
                 Some(seen) => all.push(seen)?,
             }
@@ -113,6 +130,9 @@ impl<St: Store> Tx<St> {
         match self.see_all(names.as_slice())? {
             None => Ok(refused(Refusal::Line)),
             Some(views) => {
+                if !are_apart(&views, relation) {
+                    return Err(AllocError);
+                }
                 let rows = scan_rows(*self.lent.allocator(), &views, relation, pred)?;
                 Ok(Reply::Listed { names, rows })
             }
@@ -181,10 +201,10 @@ impl<St: Store> Tx<St> {
         ensures { IfOk result (λ p.
             p ≡ (joined self.now r s first.now second.now (pred_holds pred.now)).reply) }
     {
-        let Some(left) = self.see(first) else {
+        let Some(left) = self.see(self.working(), first) else {
             return Ok(refused(Refusal::Line));
         };
-        let Some(right) = self.see(second) else {
+        let Some(right) = self.see(self.working(), second) else {
             return Ok(refused(Refusal::Line));
         };
         let pairs = join_rows(*self.lent.allocator(), &left, r, pred, &right, s)?;
@@ -224,10 +244,10 @@ impl<St: Store> Tx<St> {
         requires { relation < length self.now.schema }
         ensures { IfOk result (λ r. r ≡ (told_apart self.now relation first.now second.now).reply) }
     {
-        let Some(left) = self.see(first) else {
+        let Some(left) = self.see(self.working(), first) else {
             return Ok(refused(Refusal::Line));
         };
-        let Some(right) = self.see(second) else {
+        let Some(right) = self.see(self.working(), second) else {
             return Ok(refused(Refusal::Line));
         };
         let rows = minus_rows(*self.lent.allocator(), &left, &right, relation)?;

@@ -5,7 +5,8 @@ ghost use Rattle.db_store.specs.Parts.{IsViewable};
 ghost use Rattle.db_store.specs.WorkState.{under_of, overlays_of, room_of};
 ghost use Rattle.branch_tx.specs.Keeping.{over_table};
 ghost use Rattle.branch_tx.specs.Alone.{commit_entry};
-ghost use Rattle.branch_tx.specs.Granted.{ungranted, tx_in, has_done, acted, left, lent_table};
+ghost use Rattle.branch_tx.specs.Granted.{ungranted, tx_in, has_done, acted, left, lent_table, views_of};
+ghost use Rattle.branch_tx.specs.Shown.{parts_by, ViewsAgree};
 
 use crate::lent::Lending;
 use crate::look::find_record;
@@ -57,9 +58,10 @@ pub struct Tx<St: Store> {
 }
 
 impl<St: Store> Model for Tx<St> {
-    ghost use Rattle.std.specs.Prelude.{◌≡◌, length, map};
+    ghost use Rattle.std.specs.Prelude.{◌≡◌, ◌∷◌, length, map};
     ghost use Rattle.db_store.specs.WorkState.{under_of, overlays_of, room_of};
     ghost use Rattle.branch_tx.specs.Granted.{Granted, granted_code};
+    ghost use Rattle.branch_tx.specs.Shown.{parts_by, ViewsAgree};
     ghost use Rattle.branch_tx.specs.TxState.{held_of, AllWide};
 
     ghost Value = { Granted };
@@ -74,11 +76,13 @@ impl<St: Store> Model for Tx<St> {
       overlays = overlays_of t.work;
       room = room_of t.work;
       second = t.second;
-      lent = t.lent;
+      lent = t.lent.0;
+      below = parts_by (St.View.parts_of (under_of t.work));
+      shown = t.lent.1;
       heads = t.heads;
     } };
 
-    ghost invariant = { λ t. (length (St.View.table (under_of t.work)) ≡ length t.schema) × AllWide (length t.schema) (map (λ l. l.1) t.lent) };
+    ghost invariant = { λ t. (length (St.View.table (under_of t.work)) ≡ length t.schema) × AllWide (length t.schema) (map (λ l. l.1) t.lent.0) × ViewsAgree (parts_by (St.View.parts_of (under_of t.work)) ∷ t.lent.1) };
 }
 
 impl<St: Store> Tx<St> {
@@ -100,9 +104,10 @@ impl<St: Store> Tx<St> {
         work: Work<St::View>,
         current: Name,
     ) -> Result<Tx<St>, AllocError>
-        requires { length (St.View.table (under_of work)) ≡ length schema.now }
+        requires wide { length (St.View.table (under_of work)) ≡ length schema.now }
+        requires agree { ViewsAgree (parts_by (St.View.parts_of (under_of work)) ∷ []) }
         ensures { IfOk result (λ t. t ≡ ungranted schema.now current (St.View.table (under_of work))
-            (overlays_of work) (room_of work)) }
+            (parts_by (St.View.parts_of (under_of work))) (overlays_of work) (room_of work)) }
     {
         let schema = schema.duplicate()?;
         let lent = Lending::new(alloc);
@@ -123,10 +128,12 @@ impl<St: Store> Tx<St> {
         requires untouched { self.old.overlays ≡ untouched }
         requires viewable { IsViewable (St.View.table view) (St.View.parts_of view) }
         requires wide { length (St.View.table view) ≡ length self.old.schema }
+        requires agree { ViewsAgree (parts_by (St.View.parts_of view) ∷ self.old.shown) }
         ensures { self.new ≡ record self.old {
           held = Some
               (exclusive, full);
           head = St.View.table view;
+          below = parts_by (St.View.parts_of view);
         } }
     {
         self.work.rest_on(view);
@@ -135,10 +142,13 @@ impl<St: Store> Tx<St> {
 
     /// Lends it the view of a version under its name.
     pub fn lend(&mut self, name: VersionName, view: St::View) -> Result<(), AllocError>
-        requires { length (St.View.table view) ≡ length self.old.schema }
+        requires wide { length (St.View.table view) ≡ length self.old.schema }
+        requires agree { ViewsAgree (views_of self.old ++ parts_by (St.View.parts_of view) ∷ []) }
         ensures ok { OnOk result (self.new ≡ record self.old {
           lent = self.old.lent
               ++ (name, St.View.table view) ∷ [];
+          shown = self.old.shown
+              ++ parts_by (St.View.parts_of view) ∷ [];
         }) }
         ensures err { OnErr result (self.new ≡ self.old) }
     {

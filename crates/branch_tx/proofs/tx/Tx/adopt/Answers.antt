@@ -8,6 +8,7 @@ use Rattle.branch_tx.specs.Keeping.{over_table}
 use Rattle.branch_tx.specs.Merging.{relation_name, merged_to}
 use Rattle.branch_tx.specs.Granted.{Granted, tx_in, with_merge}
 use Rattle.branch_tx.specs.TxState.{held_of}
+use Rattle.branch_tx.specs.Shown.{parts_by}
 use Rattle.branch_tx.proofs.Fitting.{put_all_is}
 use Rattle.branch_tx.proofs.MergeLemmas.{stop_in, taken, filled, filled_within, crowded}
 use Rattle.branch_tx.proofs.tx.Tx.adopt.Goals as goal
@@ -42,7 +43,9 @@ returns-in-Ok-clause-left g c =
       overlays = c.in-Ok.ensures.changed i;
       room = c.in-Ok.ensures.stays.room i;
       second = Some c.args.from;
-      lent = c.self.inside.lent;
+      lent = c.self.inside.lent.0;
+      below = parts_by (g.St.View.View.parts_of (c.in-Ok.ensures.stays.under i));
+      shown = c.self.inside.lent.1;
       heads = c.self.inside.heads;
     })
     ∙ ap (λ (x : Granted). record x { overlays = touched_by x.overlays cs; second = Some c.args.from }) c.self.view_is
@@ -73,7 +76,9 @@ returns-in-Err-TableFull-clause-left g c =
       overlays = c.in-Err-TableFull.ensures.err i;
       room = c.in-Err-TableFull.ensures.stays.room i;
       second = c.self.inside.second;
-      lent = c.self.inside.lent;
+      lent = c.self.inside.lent.0;
+      below = parts_by (g.St.View.View.parts_of (c.in-Err-TableFull.ensures.stays.under i));
+      shown = c.self.inside.lent.1;
       heads = c.self.inside.heads;
     })
     ∙ c.self.view_is

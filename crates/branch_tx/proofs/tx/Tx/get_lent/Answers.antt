@@ -5,5 +5,5 @@ use Rattle.branch_tx.proofs.tx.Tx.get_lent.Goals as goal
 
 pub find_record-requires : goal.find_record-requires
 find_record-requires g c =
-    let wide = lent_wide (length c.self.inside.schema) c.self.inside.lent c.args.version.now _ c.self.invariant.1 c.in-Some.ensures.some ∙ ap (λ (x : Granted). length x.schema) c.self.view_is in
+    let wide = lent_wide (length c.self.inside.schema) c.self.inside.lent.0 c.args.version.now _ c.self.invariant.1 c.in-Some.ensures.some ∙ ap (λ (x : Granted). length x.schema) c.self.view_is in
     subst (λ n. c.args.relation < n) (sym wide) c.requires
