@@ -46,6 +46,7 @@ use Rattle.lock_table.proofs.Kept.{has_left, has_right}
 use Rattle.store_tx.specs.Ends.{is_end}
 use Rattle.db_store.specs.State.{State, dataset_of}
 use Rattle.store_tx.specs.Statements.{IsReady, IsRefusedFor, IsAct, IsWork, lacking_of, act_over, step_in}
+use Rattle.branch_tx.specs.Shown.{Shown}
 use Rattle.store_tx.specs.Keeps.{AllGranted, HeldFor, AllLent, HeadsFor, Keeps, IsMore}
 use Rattle.store_tx.proofs.Tagged.{within_granted}
 use Rattle.store_tx.proofs.Lends.{own_source, own_in, lent_is, lent_more, lent_last, lent_front}
@@ -381,49 +382,49 @@ pub more_tx : (g h : Granted) → IsMore g h → tx_in h ≡ tx_in g
 more_tx g h m = λ i. record { begun = true; room = m.room i; work = m.overlays i; second = m.second i; made = None; moved = None }
 
 -- what was granted more is taken back
-back_held : (d : Dataset) (rows : List Row) (s b : ℕ) (g h : Granted) (o : Option (Bool × Bool)) (ls : List (VersionName × Table)) (hs : Option (List (List ℕ))) → h.overlays ≡ g.overlays → h.second ≡ g.second → (is_some o ≡ true → h.head ≡ g.head) → HeldFor d rows s b g o
-    → HeldFor d rows s b (record h { held = o; lent = ls; heads = hs }) o
-back_held d rows s b g h None ls hs w two head k = (w ∙ k.0, two ∙ k.1)
-back_held d rows s b g h (Some (false, full)) ls hs w two head k = ((w ∙ k.0.0, two ∙ k.0.1), record { head_is = head refl ∙ k.1.head_is; full_is = k.1.full_is; owned = k.1.owned })
-back_held d rows s b g h (Some (true, full)) ls hs w two head k = (k.0, record { head_is = head refl ∙ k.1.head_is; full_is = k.1.full_is; owned = k.1.owned })
+back_held : (d : Dataset) (rows : List Row) (s b : ℕ) (g h : Granted) (o : Option (Bool × Bool)) (ls : List (VersionName × Table)) (ss : List Shown) (hs : Option (List (List ℕ))) → h.overlays ≡ g.overlays → h.second ≡ g.second → (is_some o ≡ true → h.head ≡ g.head) → HeldFor d rows s b g o
+    → HeldFor d rows s b (record h { held = o; lent = ls; shown = ss; heads = hs }) o
+back_held d rows s b g h None ls ss hs w two head k = (w ∙ k.0, two ∙ k.1)
+back_held d rows s b g h (Some (false, full)) ls ss hs w two head k = ((w ∙ k.0.0, two ∙ k.0.1), record { head_is = head refl ∙ k.1.head_is; full_is = k.1.full_is; owned = k.1.owned })
+back_held d rows s b g h (Some (true, full)) ls ss hs w two head k = (k.0, record { head_is = head refl ∙ k.1.head_is; full_is = k.1.full_is; owned = k.1.owned })
 
 back_heads : (d : Dataset) (rows : List Row) (s : ℕ) (o p : Option (List (List ℕ))) → (is_some o ≡ true → p ≡ o) → HeadsFor d rows s o → HeadsFor d rows s (cond (is_some o) p None)
 back_heads d rows s None p e h = tt
 back_heads d rows s (Some names) p e h = subst (HeadsFor d rows s) (sym (e refl)) h
 
-pub back_keeps : (d : Dataset) (rows : List Row) (s b : ℕ) (g h : Granted) → IsMore g h → Keeps d rows s b g → Keeps d rows s b (record h { held = g.held; lent = take (length g.lent) h.lent; heads = cond (is_some g.heads) h.heads None })
+pub back_keeps : (d : Dataset) (rows : List Row) (s b : ℕ) (g h : Granted) → IsMore g h → Keeps d rows s b g → Keeps d rows s b (record h { held = g.held; lent = take (length g.lent) h.lent; shown = take (length g.lent) h.shown; heads = cond (is_some g.heads) h.heads None })
 back_keeps d rows s b g h m k = record {
   schema = m.schema ∙ k.schema;
   name = m.name ∙ k.name;
-  held = back_held d rows s b g h g.held (take (length g.lent) h.lent) (cond (is_some g.heads) h.heads None) m.overlays m.second m.head k.held;
+  held = back_held d rows s b g h g.held (take (length g.lent) h.lent) (take (length g.lent) h.shown) (cond (is_some g.heads) h.heads None) m.overlays m.second m.head k.held;
   lent = subst (AllLent d rows s b) (sym m.lent) k.lent;
   heads = back_heads d rows s g.heads h.heads m.heads k.heads;
 }
 
 -- ---- one version more
 
-abbrev pub with_lent : Granted → VersionName → Table → Granted
-with_lent g v t = record g { lent = g.lent ++ (v, t) ∷ [] }
+abbrev pub with_lent : Granted → VersionName → Table → Shown → Granted
+with_lent g v t shown = record g { lent = g.lent ++ (v, t) ∷ []; shown = g.shown ++ shown ∷ [] }
 
-lent_held : (d : Dataset) (rows : List Row) (s b : ℕ) (g : Granted) (ls : List (VersionName × Table)) (o : Option (Bool × Bool)) → HeldFor d rows s b g o → HeldFor d rows s b (record g { lent = ls }) o
-lent_held d rows s b g ls None h = h
-lent_held d rows s b g ls (Some (false, full)) h = (h.0, record { head_is = h.1.head_is; full_is = h.1.full_is; owned = h.1.owned })
-lent_held d rows s b g ls (Some (true, full)) h = (h.0, record { head_is = h.1.head_is; full_is = h.1.full_is; owned = h.1.owned })
+lent_held : (d : Dataset) (rows : List Row) (s b : ℕ) (g : Granted) (ls : List (VersionName × Table)) (ss : List Shown) (o : Option (Bool × Bool)) → HeldFor d rows s b g o → HeldFor d rows s b (record g { lent = ls; shown = ss }) o
+lent_held d rows s b g ls ss None h = h
+lent_held d rows s b g ls ss (Some (false, full)) h = (h.0, record { head_is = h.1.head_is; full_is = h.1.full_is; owned = h.1.owned })
+lent_held d rows s b g ls ss (Some (true, full)) h = (h.0, record { head_is = h.1.head_is; full_is = h.1.full_is; owned = h.1.owned })
 
-pub lent_keeps : (d : Dataset) (rows : List Row) (s b : ℕ) (g : Granted) (v : VersionName) (t : Table) → Keeps d rows s b g → source_of b (found d v) ≡ Other t → AllGranted rows s (found_needs (found d v)) → Keeps d rows s b (with_lent g v t)
-lent_keeps d rows s b g v t k e n = record {
+pub lent_keeps : (d : Dataset) (rows : List Row) (s b : ℕ) (g : Granted) (v : VersionName) (t : Table) (shown : Shown) → Keeps d rows s b g → source_of b (found d v) ≡ Other t → AllGranted rows s (found_needs (found d v)) → Keeps d rows s b (with_lent g v t shown)
+lent_keeps d rows s b g v t shown k e n = record {
   schema = k.schema;
   name = k.name;
-  held = lent_held d rows s b g (g.lent ++ (v, t) ∷ []) g.held k.held;
+  held = lent_held d rows s b g (g.lent ++ (v, t) ∷ []) (g.shown ++ shown ∷ []) g.held k.held;
   lent = lent_more d rows s b g.lent v t k.lent e (within_granted rows s (found_needs (found d v)) n);
   heads = k.heads;
 }
 
-pub lent_has : (g : Granted) (v : VersionName) (t : Table) → is_current g v ≡ false → has_version (with_lent g v t) v ≡ true
-lent_has g v t c = ap (λ q. cond q (is_some g.held) (is_some (lent_table (g.lent ++ (v, t) ∷ []) v))) c ∙ lent_last g.lent v t
+pub lent_has : (g : Granted) (v : VersionName) (t : Table) (shown : Shown) → is_current g v ≡ false → has_version (with_lent g v t shown) v ≡ true
+lent_has g v t shown c = ap (λ q. cond q (is_some g.held) (is_some (lent_table (g.lent ++ (v, t) ∷ []) v))) c ∙ lent_last g.lent v t
 
-pub more_lent : (g : Granted) (v : VersionName) (t : Table) → IsMore g (with_lent g v t)
-more_lent g v t = record { schema = refl; name = refl; held = λ e. e; head = λ e. refl; overlays = refl; room = refl; second = refl; lent = take-append_seam g.lent ((v, t) ∷ []); heads = λ e. refl }
+pub more_lent : (g : Granted) (v : VersionName) (t : Table) (shown : Shown) → IsMore g (with_lent g v t shown)
+more_lent g v t shown = record { schema = refl; name = refl; held = λ e. e; head = λ e. refl; overlays = refl; room = refl; second = refl; lent = take-append_seam g.lent ((v, t) ∷ []); heads = λ e. refl }
 
 -- ---- several versions
 

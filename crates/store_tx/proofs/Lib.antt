@@ -4,3 +4,4 @@ pub mod KeepsLemmas
 pub mod Storing
 pub mod OwnLines
 pub mod Merges
+pub mod Shows

@@ -3,7 +3,7 @@ use Rattle.std.specs.Prelude.{ℕ, Bool, List, None, Option, Some, [], false, is
 use Rattle.branch_tx.specs.Alone.{ground_of}
 use Rattle.branch_tx.specs.Found.{Other, source_of}
 use Rattle.branch_tx.specs.Frame.{Within}
-use Rattle.branch_tx.specs.Granted.{Granted, tx_in, has_done}
+use Rattle.branch_tx.specs.Granted.{Granted, tx_in, has_done, AreAllOf}
 use Rattle.db_store.specs.Dataset.{Dataset, branch_at, head_of}
 use Rattle.db_store.specs.Found.{branch_names, found}
 use Rattle.db_store.specs.Overlay.{untouched}
@@ -62,12 +62,13 @@ pub record Keeps (d : Dataset) (rows : List Row) (s b : ℕ) (g : Granted) : Typ
   pub lent : AllLent d rows s b g.lent
   pub heads : HeadsFor d rows s g.heads
 
--- the branch is there, and for some session the transaction keeps what it was granted
+-- the branch is there, for some session the transaction keeps what it was granted, and its views are of the state
 pub record IsKept (st : State) (b : ℕ) (g : Granted) : Type 0 where
   pub there : b < length (dataset_of st).branches
   pub rows : List Row
   pub session : ℕ
   pub keeps : Keeps (dataset_of st) rows session b g
+  pub shown : AreAllOf st g
 
 -- and that session has these needs
 pub record HasNeeds (st : State) (b : ℕ) (ns : List Need) (g : Granted) : Type 0 where

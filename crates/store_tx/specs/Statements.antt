@@ -7,6 +7,7 @@ use Rattle.branch_tx.specs.Found.{first_lacking, lacking, source_of}
 use Rattle.branch_tx.specs.Frame.{step_over}
 use Rattle.branch_tx.specs.Granted.{Granted, tx_in, has_done}
 use Rattle.branch_tx.specs.Keeping.{over_table}
+use Rattle.branch_tx.specs.Shown.{Shown}
 use Rattle.store_tx.specs.Ends.{entry_at}
 use Rattle.store_tx.specs.Keeps.{Keeps, HasNeeds, KeepsWith, needs_in}
 use Rattle.db_store.specs.Dataset.{Dataset, branch_named, head_of}
@@ -83,9 +84,9 @@ abbrev pub IsBegun : Dataset → ℕ → ℕ → Option Granted → Type 0
 IsBegun d b room None = ⊥
 IsBegun d b room (Some g) = ((rows : List Row) (s : ℕ) → Keeps d rows s b g) × (tx_in g ≡ begun_tx room)
 
--- a transaction under which the head of its branch was put
-abbrev pub held_by : Dataset → ℕ → Bool → Granted → Granted
-held_by d b alone g = record g { held = Some (alone, (ground_of d b).full); head = head_of d b }
+-- a transaction under which the head of its branch was put, with what the view of it shows
+abbrev pub held_by : Dataset → ℕ → Bool → Shown → Granted → Granted
+held_by d b alone below g = record g { held = Some (alone, (ground_of d b).full); head = head_of d b; below = below }
 
 -- why the version that a look-up names stands for nothing, if it does
 abbrev pub lacking_at : Dataset → ℕ → Option VersionName → Option Refusal

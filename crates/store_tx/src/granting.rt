@@ -2,7 +2,7 @@
 ghost use Rattle.std.specs.Prelude.{◌≡◌, ◌<◌, ℕ, List, [], ◌∷◌, Some, None, true, false, length, is_some, IfOk, IfSome, OnOk, OnErr};
 ghost use Rattle.std.specs.List.{list_all};
 ghost use Rattle.db_store.specs.Dataset.{head_of, head_place, IsMade};
-ghost use Rattle.db_store.specs.Parts.{IsViewable};
+ghost use Rattle.db_store.specs.Parts.{IsViewable, AreOf};
 ghost use Rattle.db_store.specs.State.{dataset_of};
 ghost use Rattle.lock_table.specs.Rows.{Row};
 ghost use Rattle.db_store.specs.Overlay.{untouched};
@@ -10,7 +10,7 @@ ghost use Rattle.store_tx.specs.Statements.{IsReady, IsAct, IsRefusedFor, begun_
 ghost use Rattle.db_store.specs.Found.{found, branch_names};
 ghost use Rattle.branch_tx.specs.Found.{Lacking, source_of};
 ghost use Rattle.branch_tx.specs.Alone.{ground_of};
-ghost use Rattle.branch_tx.specs.Granted.{tx_in, is_current};
+ghost use Rattle.branch_tx.specs.Granted.{tx_in, is_current, AreAllOf};
 ghost use Rattle.branch_tx.specs.Covers.{covers, holds_alone, has_version, has_at, has_heads, has_over};
 ghost use Rattle.line_needs.specs.Needs.{found_needs, source_needs, names_needs, scan_needs, needs};
 ghost use Rattle.store_tx.specs.Keeps.{Keeps, IsKept, HasNeeds, KeepsWith, KeepsBy, IsBack, IsMore, head_need, needs_in};
@@ -45,6 +45,7 @@ fn head_view<St: Store>(store: &St, branch: u32) -> Result<St::View, AllocError>
     ensures wide { IfOk result (λ v.
         length (St.View.table v) ≡ length (dataset_of (St.state store.now)).schema) }
     ensures viewable { IfOk result (λ v. IsViewable (St.View.table v) (St.View.parts_of v)) }
+    ensures parts { IfOk result (λ v. AreOf (St.state store.now) (St.View.parts_of v)) }
 {
     store.view(head_place(store, branch))
 }
@@ -68,6 +69,7 @@ pub fn open_tx<St: Store>(
     ensures keeps { IfOk result (λ t. (rows : List Row) (s : ℕ)
         → Keeps (dataset_of (St.state store.now)) rows s branch t) }
     ensures tx { IfOk result (λ t. tx_in t ≡ begun_tx room) }
+    ensures shown { IfOk result (λ t. AreAllOf (St.state store.now) t) }
 {
     let below = head_view(store, branch)?;
     let work = Work::over(alloc, below, room)?;
@@ -80,8 +82,10 @@ fn hold<St: Store>(store: &St, tx: &mut Tx<St>, branch: u32, alone: bool) -> Res
     requires branch { branch < length (dataset_of (St.state store.now)).branches }
     requires schema { tx.old.schema ≡ (dataset_of (St.state store.now)).schema }
     requires untouched { tx.old.overlays ≡ untouched }
+    requires shown { AreAllOf (St.state store.now) tx.old }
     ensures ok { OnOk result (tx.new
-        ≡ held_by (dataset_of (St.state store.now)) branch alone tx.old) }
+        ≡ held_by (dataset_of (St.state store.now)) branch alone tx.new.below tx.old) }
+    ensures shown { AreAllOf (St.state store.now) tx.new }
     ensures err { OnErr result (tx.new ≡ tx.old) }
 {
     let view = head_view(store, branch)?;
@@ -102,6 +106,7 @@ pub fn grant_head<St: Store>(
     ensures held { OnOk result (is_some tx.new.held ≡ true) }
     ensures alone { OnOk result (alone ≡ true → holds_alone tx.new.held ≡ true) }
     ensures more { IsMore tx.old tx.new }
+    ensures shown { AreAllOf (St.state store.now) tx.new }
 {
     if tx.holds_alone() {
         return Ok(());
@@ -127,6 +132,7 @@ fn lend<St: Store>(
     ensures lacks { IfOk result (λ o. IfSome o (λ why.
         source_of branch (found (dataset_of (St.state store.now)) version.now) ≡ Lacking why)) }
     ensures more { IsMore tx.old tx.new }
+    ensures shown { AreAllOf (St.state store.now) tx.new }
 {
     if tx.has_lent(version) {
         return Ok(None);
@@ -155,6 +161,7 @@ fn grant_version<St: Store>(
     ensures lacks { IfOk result (λ o. IfSome o (λ why.
         source_of branch (found (dataset_of (St.state store.now)) version.now) ≡ Lacking why)) }
     ensures more { IsMore tx.old tx.new }
+    ensures shown { AreAllOf (St.state store.now) tx.new }
 {
     if tx.is_current(version) {
         grant_head(store, tx, branch, false)?;
@@ -178,6 +185,7 @@ fn grant_at<St: Store>(
     ensures lacks { IfOk result (λ o. IfSome o (λ why.
         lacking_at (dataset_of (St.state store.now)) branch at.now ≡ Some why)) }
     ensures more { IsMore tx.old tx.new }
+    ensures shown { AreAllOf (St.state store.now) tx.new }
 {
     match at {
         None => {
@@ -206,6 +214,7 @@ fn grant_names<St: Store>(
     ensures lacks { IfOk result (λ o. IfSome o (λ why.
         lacking_of (dataset_of (St.state store.now)) branch names.now ≡ Some why)) }
     ensures more { IsMore tx.old tx.new }
+    ensures shown { AreAllOf (St.state store.now) tx.new }
 {
     for name in names {
         match grant_version(store, tx, branch, name)? {
@@ -232,6 +241,7 @@ fn grant_two<St: Store>(
     ensures lacks { IfOk result (λ o. IfSome o (λ why.
         lacking_of (dataset_of (St.state store.now)) branch (first.now ∷ second.now ∷ []) ≡ Some why)) }
     ensures more { IsMore tx.old tx.new }
+    ensures shown { AreAllOf (St.state store.now) tx.new }
 {
     let names = [*first, *second];
     let lacking = grant_names(store, tx, branch, &names)?;
@@ -263,6 +273,7 @@ fn grant_heads<St: Store>(
     ensures lacks { IfOk result (λ o. IfSome o (λ why.
         lacking_over (dataset_of (St.state store.now)) branch ScanOver.Heads ≡ Some why)) }
     ensures more { IsMore tx.old tx.new }
+    ensures shown { AreAllOf (St.state store.now) tx.new }
 {
     let heads = branch_names(tx.allocator(), store)?;
     let names = plain_names(tx.allocator(), heads.as_slice())?;
@@ -291,6 +302,7 @@ fn grant_over<St: Store>(
     ensures lacks { IfOk result (λ o. IfSome o (λ why.
         lacking_over (dataset_of (St.state store.now)) branch over.now ≡ Some why)) }
     ensures more { IsMore tx.old tx.new }
+    ensures shown { AreAllOf (St.state store.now) tx.new }
 {
     match over {
         ScanOver::Current => {
@@ -325,6 +337,7 @@ pub fn grant<St: Store>(
     ensures covered { IfOk result (λ o. o ≡ None → covers tx.new stmt.now ≡ true) }
     ensures lacks { IfOk result (λ o. IfSome o (IsRefusedFor (St.state store.now) branch tx.old stmt.now)) }
     ensures more { IsMore tx.old tx.new }
+    ensures shown { AreAllOf (St.state store.now) tx.new }
 {
     match stmt {
         Stmt::Insert { .. } => {
@@ -374,6 +387,7 @@ pub fn grant_or_back<St: Store>(
     ensures keeps { OnOk result (KeepsWith (St.state store.now) branch
         (needs_in (St.state store.now) branch tx.old stmt.now) tx.old tx.new) }
     ensures more { OnOk result (IsMore tx.old tx.new) }
+    ensures shown { AreAllOf (St.state store.now) tx.new }
     ensures err { OnErr result (IsBack branch tx.old tx.new) }
 {
     if tx.covers(stmt) {

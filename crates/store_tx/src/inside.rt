@@ -5,7 +5,7 @@ ghost use Rattle.db_store.specs.State.{dataset_of};
 ghost use Rattle.db_store.specs.Overlay.{untouched};
 ghost use Rattle.store_tx.specs.Ends.{is_end};
 ghost use Rattle.store_tx.specs.Statements.{IsAct, IsWork, MayWork, GoesOn, acted_over, merged_over, step_in};
-ghost use Rattle.branch_tx.specs.Granted.{has_done};
+ghost use Rattle.branch_tx.specs.Granted.{has_done, AreAllOf};
 ghost use Rattle.line_needs.specs.Needs.{lock_of, exclusive, needs};
 ghost use Rattle.store_tx.specs.Keeps.{HasNeeds, IsBack, IsMore, needs_in};
 
@@ -35,6 +35,7 @@ fn merge_head<St: Store>(
         (exclusive (lock_of branch) ∷ [])
         (merged_over (St.state store.now) branch tx.old prefer other) tx.old tx.new) }
     ensures short { IfOk result (λ r. IsLong r → ⊥) }
+    ensures shown { AreAllOf (St.state store.now) tx.new }
     ensures err { OnErr result (IsMore tx.old tx.new) }
 {
     grant_head(store, tx, branch, true)?;
@@ -62,6 +63,7 @@ fn merge<St: Store>(
         (needs_in (St.state store.now) branch tx.old (Stmt.Merge name.now prefer))
         (acted_over (St.state store.now) branch tx.old (Stmt.Merge name.now prefer)) tx.old tx.new) }
     ensures short { IfOk result (λ r. IsLong r → ⊥) }
+    ensures shown { AreAllOf (St.state store.now) tx.new }
     ensures err { OnErr result (IsMore tx.old tx.new) }
 {
     if tx.has_done() {
@@ -93,6 +95,7 @@ fn act<St: Store>(
         (needs_in (St.state store.now) branch tx.old stmt.now)
         (acted_over (St.state store.now) branch tx.old stmt.now) tx.old tx.new) }
     ensures long { IfOk result (λ r. IsLong r → IsMore tx.old tx.new) }
+    ensures shown { AreAllOf (St.state store.now) tx.new }
     ensures err { OnErr result (IsMore tx.old tx.new) }
 {
     if tx.covers(stmt) {
@@ -123,6 +126,7 @@ fn work<St: Store>(
         (needs_in (St.state store.now) branch tx.old stmt.now)
         (acted_over (St.state store.now) branch tx.old stmt.now) tx.old tx.new) }
     ensures long { IfOk result (λ r. IsLong r → IsMore tx.old tx.new) }
+    ensures shown { AreAllOf (St.state store.now) tx.new }
     ensures err { OnErr result (IsMore tx.old tx.new) }
 {
     match stmt {
@@ -154,6 +158,7 @@ pub fn work_twice<St: Store>(
     ensures tx { OnOk result (GoesOn (St.state store.now) branch
         (needs_in (St.state store.now) branch tx.old stmt.now)
         (acted_over (St.state store.now) branch tx.old stmt.now) tx.old tx.new) }
+    ensures shown { AreAllOf (St.state store.now) tx.new }
     ensures err { OnErr result (IsMore tx.old tx.new) }
 {
     let reply = work(store, tx, branch, stmt)?;
@@ -175,6 +180,7 @@ fn work_or_back<St: Store>(
     ensures tx { OnOk result (GoesOn (St.state store.now) branch
         (needs_in (St.state store.now) branch tx.old stmt.now)
         (acted_over (St.state store.now) branch tx.old stmt.now) tx.old tx.new) }
+    ensures shown { AreAllOf (St.state store.now) tx.new }
     ensures err { OnErr result (IsBack branch tx.old tx.new) }
 {
     let mark = tx.mark();
@@ -203,6 +209,7 @@ pub fn go_on<St: Store>(
     ensures tx { OnOk result (GoesOn (St.state store.now) branch
         (needs_in (St.state store.now) branch tx.old stmt.now)
         (step_in (dataset_of (St.state store.now)) branch tx.old stmt.now) tx.old tx.new) }
+    ensures shown { AreAllOf (St.state store.now) tx.new }
     ensures err { OnErr result (IsBack branch tx.old tx.new) }
 {
     match stmt {

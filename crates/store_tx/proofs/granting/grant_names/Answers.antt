@@ -18,7 +18,7 @@ use Rattle.store_tx.proofs.granting.grant_names.Goals as goal
 pub grant_version-requires : goal.grant_version-requires
 grant_version-requires g c =
     let k = c.requires.needs in
-    record { kept = record { there = k.kept.there; rows = k.kept.rows; session = k.kept.session; keeps = c.loop-name.invariant.keeps k.kept.rows k.kept.session k.kept.keeps k.granted } }
+    record { kept = record { there = k.kept.there; rows = k.kept.rows; session = k.kept.session; keeps = c.loop-name.invariant.keeps k.kept.rows k.kept.session k.kept.keeps k.granted; shown = c.loop-name.invariant.shown } }
 
 pub returns-in-Some-clause-keeps : goal.returns-in-Some-clause-keeps
 returns-in-Some-clause-keeps g c = λ rows s k n.
@@ -45,5 +45,6 @@ loop-name-preserved g c =
       keeps = λ rows s h n. c.in_ok-why.ensures.keeps rows s (inv.keeps rows s h n) (needed rows s n);
       granted = list_all_more (has_version after) names i _ c.loop-name-test.true ∙ and_from (list_all (has_version after) (take i names)) _ (versions_stay tx after c.in_ok-why.ensures.more (take i names) inv.granted) (ap (has_version after) (sym c.name-item.is) ∙ one);
       there = lack_step (λ u. source_of b (found d u)) names _ i v _ c.loop-name-test.true (sym c.name-item.is) same.there inv.there;
+      shown = c.in_ok-why.ensures.shown;
       more = more_more c.args.tx.now tx after inv.more c.in_ok-why.ensures.more;
     }

@@ -14,5 +14,6 @@ returns-in_ok-answer-in_default g c =
     record {
       reply = c.in_ok-answer-in_default.ensures.reply ∙ ap (λ (o : Outcome (List Overlay)). o.reply) (sym one);
       tx = record { tx = c.in_ok-answer-in_default.ensures.tx.tx ∙ ap (λ (o : Outcome (List Overlay)). o.tx) (sym one); keeps = c.in_ok-answer-in_default.ensures.tx.keeps };
+      shown = c.in_ok-answer-in_default.ensures.shown;
       err = tt;
     }

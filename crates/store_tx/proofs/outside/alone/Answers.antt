@@ -17,7 +17,7 @@ work_twice-requires-clause-may g c =
     let d = dataset_of (g.St.Store.state c.args.store.now) in
     let ns = needs d c.args.branch true (has_done c.in_ok-tx.tx) c.args.stmt.now in
     record {
-      needs = record { kept = record { there = c.requires.branch; rows = tagged 0 ns []; session = 0; keeps = c.in_ok-tx.ensures.keeps (tagged 0 ns []) 0 }; granted = tagged_new 0 ns [] };
+      needs = record { kept = record { there = c.requires.branch; rows = tagged 0 ns []; session = 0; keeps = c.in_ok-tx.ensures.keeps (tagged 0 ns []) 0; shown = c.in_ok-tx.ensures.shown }; granted = tagged_new 0 ns [] };
       clean = λ e. ap (λ (t : Tx (List Overlay)). t.work) c.in_ok-tx.ensures.tx;
     }
 

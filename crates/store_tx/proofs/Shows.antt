@@ -1,0 +1,21 @@
+-- The views of a transaction are of the state.
+use Rattle.std.proofs.Common.{ℕ, suc, Bool, List, [], ◌∷◌, Option}
+use Rattle.std.specs.Prelude.{Result, Ok, Err, IfOk}
+use Rattle.db_store.specs.State.{State}
+use Rattle.db_store.specs.Parts.{Part, AreOf}
+use Rattle.branch_tx.specs.Granted.{Granted, AreAllOf, back_at, views_of}
+use Rattle.branch_tx.specs.Shown.{parts_by, ViewsOf}
+use Rattle.branch_tx.proofs.ShownLemmas.{of_front, of_none, of_taken, view_of}
+
+-- what is taken back leaves views of the state
+pub back_of : (st : State) (g : Granted) (mark : Option (Bool × Bool) × (ℕ × Bool)) → AreAllOf st g → AreAllOf st (back_at g mark)
+back_of st g mark of = of_taken st (suc mark.1.0) (views_of g) of
+
+-- the views of a transaction on its branch's head are the one below
+pub one_of : (st : State) (parts : ℕ → List Part) → AreOf st parts → ViewsOf st (parts_by parts ∷ [])
+one_of st parts of = of_front st (parts_by parts) [] (view_of st parts of) (λ v. of_none st)
+
+-- what follows of a good result
+pub if_ok : {A E : Type 0} (r : Result A E) (P Q : A → Type 0) → ((a : A) → P a → Q a) → IfOk r P → IfOk r Q
+if_ok (Ok a) P Q f p = f a p
+if_ok (Err e) P Q f p = tt
