@@ -8,7 +8,7 @@ use Rattle.lock_table.specs.Rows.{Row, holder}
 use Rattle.lock_table.specs.Grants.{added}
 use Rattle.stmt_text.specs.declared.stmt.Stmt.{Stmt}
 use Rattle.branch_tx.specs.Act.{Tx, Outcome}
-use Rattle.branch_tx.specs.Granted.{Granted, tx_in, has_done, acted, left}
+use Rattle.branch_tx.specs.Granted.{Granted, tx_in, has_done, acted, left, AreAllOf}
 use Rattle.branch_tx.specs.Covers.{covers}
 use Rattle.line_needs.specs.Needs.{needs}
 use Rattle.db_core.specs.Order.{World, opening, said_of, after}
@@ -30,8 +30,8 @@ pub granted_counts : (b : Kept) (k : AtDesk) (g h : Granted) (x : Stmt) (text : 
     → Stands b → k.waiting ≡ [] → k.open_tx ≡ Some g → Sits (world_of b) k.session k.current k.skipping k.open_tx → k.skipping ≡ false
     → holder k.session (needs (dataset_of b.now) k.current true (has_done g) x) b.rows ≡ None → said_of text false ≡ heard k.session x → covers h x ≡ true → IsMore g h
     → ((rows : List Row) → Keeps (dataset_of b.now) rows k.session k.current g → AllGranted rows k.session (needs (dataset_of b.now) k.current true (has_done g) x) → Keeps (dataset_of b.now) rows k.session k.current h)
-    → Agrees (record b { steps = b.steps ++ step_of text false (acted h x).reply ∷ []; rows = added k.session (needs (dataset_of b.now) k.current true (has_done g) x) b.rows }) (record k { open_tx = Some (left h x) })
-granted_counts b k g h x text name schema stands none opened sits listens free line e more keeps =
+    → AreAllOf b.now h → Agrees (record b { steps = b.steps ++ step_of text false (acted h x).reply ∷ []; rows = added k.session (needs (dataset_of b.now) k.current true (has_done g) x) b.rows }) (record k { open_tx = Some (left h x) })
+granted_counts b k g h x text name schema stands none opened sits listens free line e more keeps views =
     let d : Dataset = dataset_of b.now in
     let n = k.session in
     let cur = k.current in
@@ -45,7 +45,7 @@ granted_counts b k g h x text name schema stands none opened sits listens free l
     let kept = keeps (tagged n ns w.rows) (keeps_tagged w b.now b.rows n cur k.skipping g seated ns) (tagged_new n ns w.rows) in
     let line_is : acted h x ≡ step_over d cur (tx_in g) x = covered_line d (tagged n ns w.rows) n cur h kept sound here x e ∙ ap (λ (t : Tx (List Overlay)). step_over d cur t x) (more_tx g h more) in
     let stay = after_stay w b.now b.rows n cur k.skipping (Some g) seated x roomy listens free (covered_goes h x e) (left h x) (covered_keeps d (tagged n ns w.rows) n cur h kept sound here x e)
-    (left_is h x ∙ ap (λ (o : Outcome (List Overlay)). o.tx) line_is) in
+    (left_is h x ∙ ap (λ (o : Outcome (List Overlay)). o.tx) line_is) views in
     let told : (acted h x).reply ≡ told_now w n x false = ap (λ (o : Outcome (List Overlay)). o.reply) line_is ∙ sym (covered_told b.now h x _ e)
     ∙ sym (reply_free w b.now b.rows n cur k.skipping (Some g) seated x roomy listens free) in
     agrees_bare (record b { steps = b.steps ++ step_of text false (acted h x).reply ∷ []; rows = added n ns b.rows }) (record k { open_tx = Some (left h x) }) none
