@@ -327,30 +327,15 @@ impl<St: Store> Tx<St> {
         }
     }
 
-    fn update(&mut self, name: &Name, key: u64, sets: &NamedSets) -> Result<Reply, AllocError>
-        ensures reply { IfOk result (λ r.
-            r ≡ (acted self.old (Stmt.Update name.now key sets.now)).reply) }
-        ensures left { OnOk result (self.new ≡ left self.old (Stmt.Update name.now key sets.now)) }
-        ensures err { OnErr result (self.new ≡ self.old) }
+    fn update(&mut self, name: &Name, key: u64, sets: &NamedSets) -> Reply
+        ensures reply { result ≡ (acted self.old (Stmt.Update name.now key sets.now)).reply }
+        ensures left { self.new ≡ left self.old (Stmt.Update name.now key sets.now) }
     {
         let Some(relation) = self.relation_of(name) else {
-            return Ok(no_relation(*name));
+            return no_relation(*name);
         };
-        let sets = self.resolved(relation, sets)?;
-        Ok(self.update_in(relation, *name, key, &sets))
-    }
-
-    // New values by the numbers of their columns, or the first column that isn't there.
-    fn resolved(&self, relation: u8, sets: &NamedSets) -> Result<Result<Sets, Name>, AllocError>
-        requires { relation < length self.now.schema }
-        ensures { IfOk result (λ r. r ≡ resolved (columns_at self.now.schema relation) sets.now) }
-    {
-        resolve(
-            *self.lent.allocator(),
-            &self.schema,
-            relation,
-            sets.as_slice(),
-        )
+        let sets = resolve(&self.schema, relation, sets);
+        self.update_in(relation, *name, key, &sets)
     }
 
     // Takes a record away, on a branch that isn't full.
@@ -475,7 +460,7 @@ impl<St: Store> Tx<St> {
                 relation,
                 key,
                 sets,
-            } => self.update(relation, *key, sets),
+            } => Ok(self.update(relation, *key, sets)),
             Stmt::Delete { relation, key } => Ok(self.delete(relation, *key)),
             Stmt::Get { relation, key, at } => Ok(self.get(relation, *key, at)),
             Stmt::Scan {

@@ -12,7 +12,7 @@ use std::alloc::Global;
 use std::process::Abort;
 use std::test::Fail;
 
-/// A log that stores nothing, and fails at its first call and at every second one after it.
+/// A log that takes batches and drops them, and fails at its first call and at every second one after it.
 #[derive(Drop)]
 struct Faulty {
     fails: bool,
@@ -33,6 +33,10 @@ impl<St: Store> Log<St> for Faulty {
     ghost opens_since = { λ _ _ _. ⊥ };
 
     ghost Quiet = { λ _ _. Unit {0} };
+
+    fn stores_nothing(&self) -> bool {
+        false
+    }
 
     fn append(&mut self, _batch: &Batch) -> Result<(), Failed> {
         let fails = self.fails;

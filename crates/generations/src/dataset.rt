@@ -95,6 +95,10 @@ impl<D: Disk + Drop, St: Store> Log<St> for Dataset<D> {
 
     ghost Quiet = { λ l t. InAll (D.since l.beside t.1) (IsBeside l.second l.generation) };
 
+    fn stores_nothing(&self) -> bool {
+        false
+    }
+
     fn append(&mut self, batch: &Batch) -> Result<(), Failed> {
         self.file.append(batch)?;
         Ok(())

@@ -1,11 +1,10 @@
 //! The columns of a relation, and new values by the numbers of the columns.
-ghost use Rattle.std.specs.Prelude.{◌≡◌, ◌<◌, ◌≤◌, length, IfOk};
+ghost use Rattle.std.specs.Prelude.{◌≡◌, ◌<◌, ◌≤◌, length};
 ghost use Rattle.db_value.specs.Relations.{columns_at};
 ghost use Rattle.line_needs.specs.Columns.{set_at, resolved};
 
-use db_value::{ListOf, Name, Schema, Set, Sets};
-use std::alloc::{AllocError, Global};
-use stmt_text::NamedSet;
+use db_value::{Name, Schema, Set, Sets};
+use stmt_text::{NamedSet, NamedSets};
 
 /// How many columns a relation has.
 pub fn column_count(schema: &Schema, relation: u8) -> usize
@@ -29,22 +28,19 @@ fn set_at(column: u8, set: &NamedSet) -> Set
     }
 }
 
-/// New values by the numbers of their columns, or the first name that no column of the relation has.
-pub fn resolve(
-    alloc: Global,
-    schema: &Schema,
-    relation: u8,
-    sets: &[NamedSet],
-) -> Result<Result<Sets, Name>, AllocError>
+/// New values by the numbers of their columns, or the first name that no column of the relation has. It
+/// takes no memory.
+pub fn resolve(schema: &Schema, relation: u8, sets: &NamedSets) -> Result<Sets, Name>
     requires { relation < length schema.now }
-    ensures { IfOk result (λ r. r ≡ resolved (columns_at schema.now relation) sets.now) }
+    ensures { result ≡ resolved (columns_at schema.now relation) sets.now }
 {
-    let mut all = Vec::new(alloc);
+    let sets = sets.as_slice();
+    let mut all = Sets::new();
     for set in sets {
         match schema.column(relation, &set.column) {
-            None => return Ok(Err(set.column)),
-            Some(column) => all.push(set_at(column, set))?,
+            None => return Err(set.column),
+            Some(column) => all.push(set_at(column, set)),
         }
     }
-    Ok(Ok(ListOf::of(all)))
+    Ok(all)
 }

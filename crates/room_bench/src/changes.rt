@@ -20,11 +20,11 @@ enum Step {
 }
 
 // New values of one column.
-fn one_set(alloc: Global) -> Result<Sets, AllocError> {
+fn one_set() -> Sets {
     let (column, value) = (0, 5);
-    let mut sets = Vec::new(alloc);
-    sets.push(Set { column, value })?;
-    Ok(ListOf::of(sets))
+    let mut sets = Sets::new();
+    sets.push(Set { column, value });
+    sets
 }
 
 // Changes of two keys of the first relation.
@@ -105,7 +105,7 @@ pub fn tell_changes<St: Store, R: Print + AllocGlobal>(rt: &R, store: &St) -> Re
         return Ok(());
     }
     let alloc = rt.alloc();
-    let (sets, changes) = (one_set(alloc)?, two_changes(alloc)?);
+    let (sets, changes) = (one_set(), two_changes(alloc)?);
     let at = head_place(store);
     let mut work = Work::over(alloc, store.view(at)?, 3)?;
     let mut merged = Work::over(alloc, store.view(at)?, 2)?;

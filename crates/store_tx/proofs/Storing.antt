@@ -17,7 +17,7 @@ use Rattle.db_outside.specs.Record.{most_body}
 use Rattle.entry_codec.specs.Spelling.{spelling, entry_size, second_size, change_size, changes_size, field_count, HasFewChanges}
 use Rattle.entry_codec.specs.Grammar.{entries_in}
 use Rattle.entry_codec.specs.Laws.{IsEntry, IsChange, AreChanges, AreFields}
-use Rattle.entry_codec.specs.Logs.{Follows, Opening, MayGive, GivesOneOf, GivesOnly, GoesOn, IsNoLater, AddsOnly, KeepsOneOf, WhereKept}
+use Rattle.entry_codec.specs.Logs.{Follows, Opening, MayGive, GivesOneOf, GivesOnly, GoesOn, IsNoLater, AddsOnly, KeepsAny, KeepsOneOf, WhereKept}
 use Rattle.db_outside.specs.Device.{Rose}
 use Rattle.store_tx.specs.Stored.{GivesIf, Stores}
 use Rattle.entry_codec.proofs.Back.{size_is, all}
@@ -138,6 +138,19 @@ module _
     any_moment = λ es f keeps o opens. kept_opens log s es f keeps o (only_now log o opens);
     quiet = λ es f keeps. record { stays = λ t q. q; adds = λ t le q o opens. inl opens };
     kept = λ es f keeps. keeps;
+    generation_stays = refl;
+    time = (omega arith, omega arith);
+    later = omega arith;
+  }
+
+  -- it keeps any state, so that the entry is as good as stored
+  pub stores_unasked : (s : State) (e : Entry) (log : L) → KeepsAny Keeps log → Stores faults Keeps generation moment opens_since Quiet s false (Some e) log log
+  stores_unasked s e log any = record {
+    some = λ bad. absurd (cc bad);
+    cause = λ bad. absurd (cc bad);
+    any_moment = λ es f keeps o opens. inl (kept_opens log s es f keeps o (only_now log o opens));
+    quiet = λ es f keeps. record { stays = λ t q. q; adds = λ t le q o opens. inl opens };
+    kept = λ es f keeps. any (grow s e) (es ++ e ∷ []) None;
     generation_stays = refl;
     time = (omega arith, omega arith);
     later = omega arith;

@@ -73,6 +73,25 @@ fn batch_of<St: Store>(alloc: Global, _store: &St, entry: &Entry) -> Result<Batc
     }
 }
 
+// Adds an entry that no log has to store.
+fn add_entry<St: Store>(store: &mut St, entry: &Entry) -> Result<(), AllocError>
+    requires fits { fits (dataset_of (St.state store.old)) entry.now ≡ true }
+    ensures ok { OnOk result (St.state store.new ≡ grown (St.state store.old) (Some entry.now)) }
+    ensures err { OnErr result (St.state store.new ≡ St.state store.old) }
+{
+    match entry {
+        Entry::Commit { .. } => {
+            let prepared = store.prepare(entry)?;
+            store.install(prepared);
+        }
+        Entry::Branch { .. } => {
+            let prepared = store.prepare_branch(entry)?;
+            store.install_branch(prepared);
+        }
+    }
+    Ok(())
+}
+
 // Stores an entry, and adds it. It tells whether the log failed; then the state stays.
 fn store_entry<St: Store, J: Log<St>>(
     alloc: Global,
@@ -88,6 +107,10 @@ fn store_entry<St: Store, J: Log<St>>(
         J.opens_since J.Quiet (St.state store.old) failed (Some entry.now) log.old log.new) }
     ensures err { OnErr result ((St.state store.new ≡ St.state store.old) × (log.new ≡ log.old)) }
 {
+    if log.stores_nothing() {
+        add_entry(store, entry)?;
+        return Ok(false);
+    }
     let batch = batch_of(alloc, store, entry)?;
     match entry {
         Entry::Commit { .. } => {

@@ -1,4 +1,4 @@
-use Rattle.store_tx.proofs.Storing.{stores_done, stores_failed}
+use Rattle.store_tx.proofs.Storing.{stores_done, stores_failed, stores_unasked}
 use Rattle.store_tx.proofs.stored.store_entry.Goals as goal
 
 pub returns-in-Err-clause-stores : goal.returns-in-Err-clause-stores
@@ -28,3 +28,8 @@ returns-clause-stores g c =
     stores_done g.J.Log.faults g.J.Log.Keeps g.J.Log.generation g.J.Log.moment g.J.Log.opens_since g.J.Log.Quiet
     (g.St.Store.state c.args.store.now) c.args.entry.now c.in_ok-batch.batch c.in_ok-batch.ensures.bytes c.requires.fits c.in_ok-batch.ensures.within c.args.log.now c.append-in-Branch.new.self
     a.any_moment a.goes_on a.faults.later c.in-Ok-append.ensures.done
+
+pub returns-then-stores_nothing-clause-stores : goal.returns-then-stores_nothing-clause-stores
+returns-then-stores_nothing-clause-stores g c =
+    stores_unasked g.J.Log.faults g.J.Log.Keeps g.J.Log.generation g.J.Log.moment g.J.Log.opens_now g.J.Log.opens_since g.J.Log.Quiet
+    g.met.J.Log.kept_opens g.met.J.Log.only_now (g.St.Store.state c.args.store.now) c.args.entry.now c.args.log.now (c.stores_nothing.ensures c.if-stores_nothing.true)
