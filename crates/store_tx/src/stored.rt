@@ -81,12 +81,12 @@ fn add_entry<St: Store>(store: &mut St, entry: &Entry) -> Result<(), AllocError>
 {
     match entry {
         Entry::Commit { .. } => {
-            let prepared = store.prepare(entry)?;
-            store.install(prepared);
+            let commit = store.prepare(entry)?;
+            store.install(commit);
         }
         Entry::Branch { .. } => {
-            let prepared = store.prepare_branch(entry)?;
-            store.install_branch(prepared);
+            let branch = store.prepare_branch(entry)?;
+            store.install_branch(branch);
         }
     }
     Ok(())
