@@ -123,7 +123,9 @@ fn visit_alone<St: Store, J: Log<St>>(
     ensures agree { OnOk result (Agrees board.new.kept desk.new) }
     ensures waiting { OnOk result (desk.new.waiting ≡ []) }
     ensures session { OnOk result (desk.new.session ≡ desk.old.session) }
-    ensures others { OnOk result ((k : AtDesk) → Agrees board.old.kept k → k.session ≢ desk.old.session → Agrees board.new.kept k) }
+    ensures others { OnOk result
+        ((k : AtDesk) → Agrees board.old.kept k → k.session ≢ desk.old.session
+        → Agrees board.new.kept k) }
 {
     other_lines_law();
     let reply = board.visit(desk, text, stmt)?;
@@ -144,7 +146,8 @@ pub fn hold<St: Store, J: Log<St>>(
     ensures agree { OnOk result (Agrees board.new.kept desk.new) }
     ensures waiting { OnOk result (desk.new.waiting ≡ []) }
     ensures session { OnOk result (desk.new.session ≡ 2) }
-    ensures others { OnOk result ((k : AtDesk) → Agrees board.old.kept k → k.session ≢ 2 → Agrees board.new.kept k) }
+    ensures others { OnOk result
+        ((k : AtDesk) → Agrees board.old.kept k → k.session ≢ 2 → Agrees board.new.kept k) }
 {
     let text = text_of(alloc, line)?;
     match read_line(alloc, text.as_slice()) {

@@ -105,7 +105,8 @@ fn record_at<D: Disk>(alloc: Global, disk: &mut D, at: u64, left: u64) -> Result
 fn found_at<D: Disk>(alloc: Global, disk: &mut D, at: u64, len: u64) -> Result<Found, ReadStop>
     requires there { at < len }
     requires told { IfTold (D.seen disk.old) (λ s. len ≡ length s) }
-    ensures told { IfOk result (λ f. IfTold (D.seen disk.old) (λ s. records_from at s ≡ told_by f at s)) }
+    ensures told { IfOk result
+        (λ f. IfTold (D.seen disk.old) (λ s. records_from at s ≡ told_by f at s)) }
     ensures within { IfOk result (λ f. EndsBy f at len) }
     ensures reads { OnlyReads D.faults D.writes D.seen D.image D.moment D.since disk.old disk.new }
     ensures cause { IsErrOf result ReadStop.DiskFault → Faulted D.faults disk.old disk.new }

@@ -23,7 +23,8 @@ pub(crate) enum End {
 impl<T> Fork<T> {
     /// A fork that leads nowhere.
     pub(crate) fn new(relation: u8, key: u64, item: T) -> Fork<T>
-        ensures { result ≡ record { relation = relation; key = key; left = 0; right = 0; item = item } }
+        ensures { result ≡ record
+            { relation = relation; key = key; left = 0; right = 0; item = item } }
     {
         Fork {
             relation,

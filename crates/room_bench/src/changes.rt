@@ -69,8 +69,10 @@ fn answers_of<V: View>(
     changes: &Changes,
 ) -> [Result<(), WorkStop>; 12]
     requires work { 0 < length (V.table (under_of work.old)) }
-    requires merged { (overlays_of merged.old ≡ untouched) × (0 < length (V.table (under_of merged.old))) }
-    requires crowded { (overlays_of crowded.old ≡ untouched) × (0 < length (V.table (under_of crowded.old))) }
+    requires merged { (overlays_of merged.old ≡ untouched)
+        × (0 < length (V.table (under_of merged.old))) }
+    requires crowded { (overlays_of crowded.old ≡ untouched)
+        × (0 < length (V.table (under_of crowded.old))) }
     requires changes { (n : ℕ) → 0 < n → AreAdoptable n changes.now }
 {
     [
