@@ -16,6 +16,7 @@ use Rattle.db_store.specs.Table.{Table, table_code, relation_at, with_changes}
 use Rattle.db_store.specs.Adopt.{full_from}
 use Rattle.db_store.specs.Overlay.{Overlay, overlay_code, laid}
 use Rattle.stmt_text.specs.declared.stmt.Stmt.{Stmt}
+use Rattle.stmt_text.specs.declared.stmt.Stmt.TheVariants.{Scan, Join, Minus}
 use Rattle.stmt_text.specs.declared.stmt.ScanOver.{ScanOver}
 use Rattle.branch_tx.specs.Keeping.{over_table}
 use Rattle.branch_tx.specs.Found.{Source, Own, Other, Lacking}
@@ -124,6 +125,13 @@ has_done g = is_changed (tx_in g)
 -- what a statement does in it
 abbrev pub acted : Granted → Stmt → Outcome (List Overlay)
 acted g x = act (over_table g.head) (ground_in g) (source_in g) (names_or_none g.heads) (tx_in g) x
+
+-- the statements that list rows, which takes memory; no change of a record does, and no look at one
+abbrev pub lists_rows : Stmt → Bool
+lists_rows (Scan relation over terms) = true
+lists_rows (Join l r first second terms) = true
+lists_rows (Minus relation first second) = true
+lists_rows _ = false
 
 -- it after what was done in it
 abbrev pub with_work : Granted → Outcome (List Overlay) → Granted

@@ -1,11 +1,11 @@
 //! A granted transaction.
-ghost use Rattle.std.specs.Prelude.{◌≡◌, ◌++◌, ◌∷◌, [], None, Some, length, IfOk, OnOk, OnErr, map};
+ghost use Rattle.std.specs.Prelude.{◌≡◌, ◌++◌, ◌∷◌, [], true, None, Some, length, IfOk, OnOk, OnErr, map};
 ghost use Rattle.db_store.specs.Overlay.{untouched};
 ghost use Rattle.db_store.specs.Parts.{IsViewable};
 ghost use Rattle.db_store.specs.WorkState.{under_of, overlays_of, room_of};
 ghost use Rattle.branch_tx.specs.Keeping.{over_table};
 ghost use Rattle.branch_tx.specs.Alone.{commit_entry};
-ghost use Rattle.branch_tx.specs.Granted.{ungranted, tx_in, has_done, acted, left, lent_table, views_of};
+ghost use Rattle.branch_tx.specs.Granted.{ungranted, tx_in, has_done, acted, left, lent_table, lists_rows, views_of};
 ghost use Rattle.branch_tx.specs.Shown.{parts_by, ViewsAgree};
 
 use crate::lent::Lending;
@@ -443,12 +443,13 @@ impl<St: Store> Tx<St> {
     }
 
     /// Answers a statement that it covers. A refused statement leaves everything as before, and so does
-    /// want of memory.
+    /// want of memory, which only a statement that lists rows has.
     #[tactic(auto, using(crate::proofs::SeenLemmas::scan_left, crate::proofs::SeenLemmas::join_left, crate::proofs::SeenLemmas::minus_left))]
     pub fn act(&mut self, stmt: &Stmt) -> Result<Reply, AllocError>
         ensures reply { IfOk result (λ r. r ≡ (acted self.old stmt.now).reply) }
         ensures left { OnOk result (self.new ≡ left self.old stmt.now) }
         ensures err { OnErr result (self.new ≡ self.old) }
+        ensures sure { OnErr result (lists_rows stmt.now ≡ true) }
     {
         match stmt {
             Stmt::Insert {
