@@ -179,13 +179,13 @@ keyed_not a b f e = true≢false (sym (eq-eqb a b e) ∙ f)
 
 last_from_none : (slot : ℕ) (xs : List Record) (key : ℕ) → last_from slot xs key ≡ None → (j : ℕ) → j < length xs → (record_at xs j).key ≢ key
 last_from_none slot [] key e j h = absurd (omega (arith, h))
-last_from_none slot (x ∷ xs) key e j h = by (last_from (suc slot) xs key) refl (x.key == key) refl e j h
+last_from_none slot (x ∷ xs) key e j h = by (last_from_none (suc slot) xs key) (last_from (suc slot) xs key) refl (x.key == key) refl e j h
   where
-    by : (o : Option ℕ) → last_from (suc slot) xs key ≡ o → (b : Bool) → (x.key == key) ≡ b → option_or o (cond b (Some slot) None) ≡ None → (j : ℕ) → j < length (x ∷ xs) → (record_at (x ∷ xs) j).key ≢ key
-    by (Some t) f b g n j h = absurd (none-some t (sym n))
-    by None f true g n j h = absurd (none-some slot (sym n))
-    by None f false g n zero h = keyed_not x.key key g
-    by None f false g n (suc j) h = last_from_none (suc slot) xs key f j (omega (arith, h))
+    by : (last_from (suc slot) xs key ≡ None → (j : ℕ) → j < length xs → (record_at xs j).key ≢ key) → (o : Option ℕ) → last_from (suc slot) xs key ≡ o → (b : Bool) → (x.key == key) ≡ b → option_or o (cond b (Some slot) None) ≡ None → (j : ℕ) → j < length (x ∷ xs) → (record_at (x ∷ xs) j).key ≢ key
+    by rest (Some t) f b g n j h = absurd (none-some t (sym n))
+    by rest None f true g n j h = absurd (none-some slot (sym n))
+    by rest None f false g n zero h = keyed_not x.key key g
+    by rest None f false g n (suc j) h = rest f j (omega (arith, h))
 
 -- no record has the key
 pub last_none : (xs : List Record) (key : ℕ) → last_slot xs key ≡ None → (j : ℕ) → j < length xs → (record_at xs j).key ≢ key
@@ -199,7 +199,7 @@ pub record IsLast (xs : List Record) (key s : ℕ) : Type 0 where
 
 last_from_some : (slot : ℕ) (xs : List Record) (key s : ℕ) → last_from slot xs key ≡ Some s → (d : ℕ) × ((s ≡ slot + d) × IsLast xs key d)
 last_from_some slot [] key s e = absurd (none-some s e)
-last_from_some slot (x ∷ xs) key s e = by (last_from (suc slot) xs key) refl (x.key == key) refl e
+last_from_some slot (x ∷ xs) key s e = by (last_from_some (suc slot) xs key s) (last_from (suc slot) xs key) refl (x.key == key) refl e
   where
     past_first : last_from (suc slot) xs key ≡ None → (j : ℕ) → 0 < j → j < length (x ∷ xs) → (record_at (x ∷ xs) j).key ≢ key
     past_first f zero l h = absurd (omega (arith, l))
@@ -209,14 +209,14 @@ last_from_some slot (x ∷ xs) key s e = by (last_from (suc slot) xs key) refl (
     past_more d is zero l h = absurd (omega (arith, l))
     past_more d is (suc j) l h = is.none_past j (omega (arith, l)) (omega (arith, h))
 
-    by : (o : Option ℕ) → last_from (suc slot) xs key ≡ o → (b : Bool) → (x.key == key) ≡ b → option_or o (cond b (Some slot) None) ≡ Some s → (d : ℕ) × ((s ≡ slot + d) × IsLast (x ∷ xs) key d)
-    by (Some t) f b g n =
-        let r = last_from_some (suc slot) xs key s (f ∙ n) in
+    by : (last_from (suc slot) xs key ≡ Some s → (d : ℕ) × ((s ≡ suc slot + d) × IsLast xs key d)) → (o : Option ℕ) → last_from (suc slot) xs key ≡ o → (b : Bool) → (x.key == key) ≡ b → option_or o (cond b (Some slot) None) ≡ Some s → (d : ℕ) × ((s ≡ slot + d) × IsLast (x ∷ xs) key d)
+    by rest (Some t) f b g n =
+        let r = rest (f ∙ n) in
         let e : s ≡ suc slot + r.0 = r.1.0 in
         let w = r.1.1.within in
         (suc r.0, (omega (arith, e), record { within = omega (arith, w); key_is = r.1.1.key_is; none_past = past_more r.0 r.1.1 }))
-    by None f false g n = absurd (none-some s n)
-    by None f true g n =
+    by rest None f false g n = absurd (none-some s n)
+    by rest None f true g n =
         let e : slot ≡ s = cc in
         (0, (omega (arith, e), record { within = omega arith; key_is = eqb-true x.key key g; none_past = past_first f }))
 
