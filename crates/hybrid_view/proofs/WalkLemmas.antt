@@ -75,24 +75,22 @@ left_less xs s = by (slot_before xs s) refl
 
 none_slot_in : (slot : ℕ) (xs : List Record) (p : ℕ → Bool) (key : ℕ) → ((j : ℕ) → j < length xs → (record_at xs j).key ≡ key → p (slot + j) ≡ false) → slot_in slot xs p key ≡ None
 none_slot_in slot [] p key f = refl
-none_slot_in slot (x ∷ xs) p key f = by (cases_Bool (x.key == key))
+none_slot_in slot (x ∷ xs) p key f =
+    by (none_slot_in (suc slot) xs p key (λ j h k. let e : suc slot + j ≡ slot + suc j = omega arith in ap p e ∙ f (suc j) (omega (arith, h)) k)) (cases_Bool (x.key == key))
   where
-    rest : slot_in (suc slot) xs p key ≡ None
-    rest = none_slot_in (suc slot) xs p key (λ j h k. let e : suc slot + j ≡ slot + suc j = omega arith in ap p e ∙ f (suc j) (omega (arith, h)) k)
-
-    none : (a b : Bool) → (a && b) ≡ false → cond (a && b) (Some slot) (slot_in (suc slot) xs p key) ≡ None
-    none a b e = ap (λ q. cond q (Some slot) (slot_in (suc slot) xs p key)) e ∙ rest
+    none : slot_in (suc slot) xs p key ≡ None → (a b : Bool) → (a && b) ≡ false → cond (a && b) (Some slot) (slot_in (suc slot) xs p key) ≡ None
+    none rest a b e = ap (λ q. cond q (Some slot) (slot_in (suc slot) xs p key)) e ∙ rest
 
     and_no : (a : Bool) → (a && false) ≡ false
     and_no true = refl
     and_no false = refl
 
-    by : ((x.key == key) ≡ true) ⊎ ((x.key == key) ≡ false) → slot_in slot (x ∷ xs) p key ≡ None
-    by (inl t) =
+    by : slot_in (suc slot) xs p key ≡ None → ((x.key == key) ≡ true) ⊎ ((x.key == key) ≡ false) → slot_in slot (x ∷ xs) p key ≡ None
+    by rest (inl t) =
         let e : slot ≡ slot + 0 = omega arith in
         let dead : p slot ≡ false = ap p e ∙ f 0 (omega arith) (eqb-true x.key key t) in
-        none (p slot) (x.key == key) (ap (λ q. q && x.key == key) dead)
-    by (inr n) = none (p slot) (x.key == key) (ap (λ q. p slot && q) n ∙ and_no (p slot))
+        none rest (p slot) (x.key == key) (ap (λ q. q && x.key == key) dead)
+    by rest (inr n) = none rest (p slot) (x.key == key) (ap (λ q. p slot && q) n ∙ and_no (p slot))
 
 -- at its end no record with the key is live
 pub left_none : (xs : List Record) (p : ℕ → Bool) (key : ℕ) → IsLeft xs p key None → slot_in 0 xs p key ≡ None
@@ -132,25 +130,19 @@ one_slot slot [] p key k once h l e = absurd (omega (arith, h))
 one_slot slot (x ∷ xs) p key zero once h l e =
     let z : slot ≡ slot + 0 = omega arith in
     (λ i. cond ((ap p z ∙ l) i && eq-eqb x.key key e i) (Some slot) (slot_in (suc slot) xs p key)) ∙ ap (λ n. Some n) z
-one_slot slot (x ∷ xs) p key (suc k) once h l e = by (cases_Bool (p slot && x.key == key))
+one_slot slot (x ∷ xs) p key (suc k) once h l e =
+    let later : suc slot + k ≡ slot + suc k = omega arith in
+    by (one_slot (suc slot) xs p key k (fewer (p slot) x (live_from (suc slot) xs p) key once) (omega (arith, h)) (ap p later ∙ l) e ∙ ap (λ n. Some n) later)
+    (live_times (suc slot) xs p key k (omega (arith, h)) (ap p later ∙ l) e)
+    (cases_Bool (p slot && x.key == key))
   where
-    later : suc slot + k ≡ slot + suc k
-    later = omega arith
-
-    there : 0 < times key (live_from (suc slot) xs p)
-    there = live_times (suc slot) xs p key k (omega (arith, h)) (ap p later ∙ l) e
-
-    by : ((p slot && x.key == key) ≡ true) ⊎ ((p slot && x.key == key) ≡ false) → slot_in slot (x ∷ xs) p key ≡ Some (slot + suc k)
-    by (inl t) =
+    by : slot_in (suc slot) xs p key ≡ Some (slot + suc k) → 0 < times key (live_from (suc slot) xs p) → ((p slot && x.key == key) ≡ true) ⊎ ((p slot && x.key == key) ≡ false) → slot_in slot (x ∷ xs) p key ≡ Some (slot + suc k)
+    by rest there (inl t) =
         let two = and_parts (p slot) (x.key == key) t in
         let one : times key (live_from slot (x ∷ xs) p) ≡ cond (x.key == key) 1 0 + times key (live_from (suc slot) xs p) = ap (λ b. times key (cond b (x ∷ live_from (suc slot) xs p) (live_from (suc slot) xs p))) two.0 in
         let same : cond (x.key == key) 1 0 + times key (live_from (suc slot) xs p) ≡ 1 + times key (live_from (suc slot) xs p) = ap (λ b. cond b 1 0 + times key (live_from (suc slot) xs p)) two.1 in
-        let more = there in
-        absurd (omega (arith, once, one, same, more))
-    by (inr f) =
-        ap (λ q. cond q (Some slot) (slot_in (suc slot) xs p key)) f
-        ∙ one_slot (suc slot) xs p key k (fewer (p slot) x (live_from (suc slot) xs p) key once) (omega (arith, h)) (ap p later ∙ l) e
-        ∙ ap (λ n. Some n) later
+        absurd (omega (arith, once, one, same, there))
+    by rest there (inr f) = ap (λ q. cond q (Some slot) (slot_in (suc slot) xs p key)) f ∙ rest
 
 -- ---- in pieces
 
