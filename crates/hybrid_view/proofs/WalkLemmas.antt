@@ -1,5 +1,5 @@
 -- The walk over the slots with a key, from the last one on, up to one that is live.
-use Rattle.std.proofs.Common.{◌≡◌, ◌≢◌, ◌⊎◌, inl, inr, ℕ, zero, suc, ◌+◌, ◌-◌, ◌<◌, ◌≤◌, ◌==◌, ◌&&◌, Bool, true, false, cond, List, [], ◌∷◌, ◌++◌, length, take, drop, get_or, Option, Some, None, refl, arith, ap, sym, ◌∙◌, subst}
+use Rattle.std.proofs.Common.{◌≡◌, ◌⊎◌, inl, inr, ℕ, zero, suc, ◌+◌, ◌<◌, ◌≤◌, ◌==◌, ◌&&◌, Bool, true, false, cond, List, [], ◌∷◌, ◌++◌, length, take, drop, Option, Some, None, refl, arith, ap, sym, ◌∙◌}
 use Rattle.std.proofs.lemmas.Bool.{cases_Bool, cases_lt, and_parts, eqb-true, eq-eqb}
 use Rattle.std.proofs.lemmas.List.{length-take, get_or-take, take_all, drop_all, drop_more}
 use Rattle.db_value.specs.declared.record.Record.{Record}
@@ -9,7 +9,7 @@ use Rattle.db_store.specs.Layout.{live_from}
 use Rattle.db_store.specs.LaidOut.{times}
 use Rattle.db_store.proofs.LaidLemmas.{times_append}
 use Rattle.segment.specs.Keys.{last_slot, slot_before}
-use Rattle.segment.proofs.KeyLemmas.{IsLast, last_none, last_some}
+use Rattle.segment.proofs.KeyLemmas.{last_none, last_some}
 use Rattle.hybrid_view.specs.Live.{Piece, no_piece, piece_at, slot_in, place_or, place_of, live_piece, live_pieces}
 
 abbrev no_row : Record

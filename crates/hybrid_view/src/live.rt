@@ -159,6 +159,16 @@ impl LiveRelation {
         }
     }
 
+    // The same after changes.
+    fn index_with(&self, alloc: Global, spots: &SpotChanges) -> Result<KeyIndex, AllocError>
+        ensures { IfOk result (λ index. index ≡ with_changes self.now.places spots.now) }
+    {
+        match &self.index {
+            Some(index) => index.with_changes(spots),
+            None => index_anew(alloc, &self.parts)?.with_changes(spots),
+        }
+    }
+
     /// What a new dataset has of a relation: one part, without records.
     #[tactic(auto, using(crate::proofs::EmptyLemmas::empty_is_lived))]
     pub fn empty(alloc: Global, head: LivePart) -> Result<LiveRelation, AllocError>
@@ -246,7 +256,7 @@ impl LiveRelation {
     {
         let places = self.places_of(alloc, changes, relation)?;
         let parts = self.parts_after(alloc, &places, head, rows)?;
-        let index = self.index_of(alloc)?.with_changes(spots)?;
+        let index = self.index_with(alloc, spots)?;
         Ok(LiveRelation::of(parts, index, count))
     }
 

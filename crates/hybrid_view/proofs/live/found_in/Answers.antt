@@ -1,4 +1,4 @@
-use Rattle.std.proofs.Common.{◌≡◌, ◌<◌, ◌∙◌, ap, sym, subst, arith, length, List, Some, None, true, ℕ}
+use Rattle.std.proofs.Common.{◌≡◌, ◌<◌, ◌∙◌, ap, sym, subst, arith, length, List, Some, None, true}
 use Rattle.std.proofs.lemmas.List.{get_or_default}
 use Rattle.plain_bits.specs.Truth.{bit_of}
 use Rattle.record_page.specs.Page.{record_at}

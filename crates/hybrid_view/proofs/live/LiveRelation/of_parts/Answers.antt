@@ -1,4 +1,4 @@
-use Rattle.std.proofs.Common.{◌≡◌, ℕ, sym, subst}
+use Rattle.std.proofs.Common.{ℕ, sym, subst}
 use Rattle.hybrid_view.specs.Live.{IsLived}
 use Rattle.hybrid_view.specs.Spots.{places_anew}
 use Rattle.hybrid_view.proofs.live.LiveRelation.of_parts.Goals as goal

@@ -1,4 +1,4 @@
-use Rattle.std.proofs.Common.{◌≡◌, ◌<◌, ◌∙◌, ap, sym, subst, length, Option, Some, ℕ}
+use Rattle.std.proofs.Common.{◌<◌, ◌∙◌, ap, sym, subst, length}
 use Rattle.plain_bits.specs.Truth.{bit_of}
 use Rattle.record_page.specs.Page.{Rows}
 use Rattle.hybrid_view.specs.Live.{Piece}
