@@ -1,9 +1,8 @@
 -- As many records of pieces are live as bits of them are true.
-use Rattle.std.proofs.Common.{◌≡◌, ℕ, suc, ◌+◌, ◌<◌, ◌≤◌, Bool, true, false, cond, List, [], ◌∷◌, ◌++◌, length, drop, Some, refl, arith, ap, sym, ◌∙◌}
+use Rattle.std.proofs.Common.{◌≡◌, ℕ, suc, ◌+◌, ◌<◌, ◌≤◌, Bool, true, false, cond, List, [], ◌∷◌, ◌++◌, length, drop, Some, refl, arith, ap, ◌∙◌}
 use Rattle.std.proofs.lemmas.List.Sums.{sum_by-cons}
 use Rattle.std.proofs.lemmas.List.{length-append, get_or_past, drop_all, drop_more}
 use Rattle.db_value.specs.declared.record.Record.{Record}
-use Rattle.key_index.specs.declared.changes.SpotChange.{SpotChange}
 use Rattle.plain_bits.specs.Truth.{bit_of, count_true}
 use Rattle.hybrid_view.specs.Live.{Piece, no_piece, piece_at}
 use Rattle.hybrid_view.specs.Spots.{spots_in, spots_of_piece, spots_of_pieces}

@@ -1,4 +1,4 @@
-use Rattle.std.proofs.Common.{◌≡◌, ◌<◌, ◌^◌, ◌∙◌, ap, sym, subst, length, List}
+use Rattle.std.proofs.Common.{◌<◌, ◌^◌, ◌∙◌, ap, sym, subst, length, List}
 use Rattle.std.proofs.lemmas.List.Elements.{All-same}
 use Rattle.hybrid_view.specs.Live.{Piece, Lived, IsLived}
 use Rattle.hybrid_view.specs.Spots.{spots_of_pieces, lived_of}
