@@ -4,3 +4,4 @@ pub mod ChangedLemmas
 pub mod SpotsLemmas
 pub mod SeenLemmas
 pub mod ToldLemmas
+pub mod CountLemmas

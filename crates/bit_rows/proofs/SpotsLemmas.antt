@@ -1,12 +1,11 @@
--- An index that is made anew of pieces has the places of their live records.
-use Rattle.std.proofs.Common.{◌≡◌, ℕ, zero, suc, ◌+◌, ◌-◌, ◌^◌, ◌<◌, ◌≤◌, ◌==◌, ◌&&◌, Bool, true, false, cond, List, [], ◌∷◌, ◌++◌, length, drop, get_or, Option, Some, None, refl, arith, ap, sym, ◌∙◌, subst, nat_cmp}
-use Rattle.std.specs.List.{flat_map}
+-- The changes that make an index anew of pieces give the places of their live records.
+use Rattle.std.proofs.Common.{◌≡◌, ℕ, zero, suc, ◌+◌, ◌-◌, ◌^◌, ◌<◌, ◌≤◌, ◌==◌, ◌&&◌, Bool, true, false, cond, List, [], ◌∷◌, ◌++◌, length, Option, Some, None, refl, arith, ap, sym, ◌∙◌, nat_cmp}
 use Rattle.std.specs.Prelude.{is_some}
 use Rattle.std.specs.FinMap as finite
 use Rattle.std.specs.Cmp.{unsigned_tied}
 use Rattle.std.proofs.lemmas.Cmp.{nat_cmp_total}
 use Rattle.std.proofs.lemmas.Bool.{eq-eqb}
-use Rattle.std.proofs.lemmas.List.{length-append, drop_more}
+use Rattle.std.proofs.lemmas.List.{length-append}
 use Rattle.std.proofs.lemmas.Option.{none-some}
 use Rattle.db_value.specs.Value.{Value}
 use Rattle.db_value.specs.declared.record.Record.{Record}
@@ -19,7 +18,7 @@ use Rattle.db_store.proofs.BitLemmas.{flip_eqb, get_contents}
 use Rattle.db_store.proofs.LaidLemmas.{times_append}
 use Rattle.hybrid_view.specs.Live.{Piece, piece_at, slot_in, place_or, place_of, live_piece, live_pieces, rises, IsLived}
 use Rattle.hybrid_view.specs.LiveRules.{times_none}
-use Rattle.bit_rows.specs.Seen.{spots_in, spots_of_piece, spots_of_pieces, lived_of}
+use Rattle.hybrid_view.specs.Spots.{spots_in, spots_of_piece, spots_of_pieces, lived_of}
 
 -- ---- the places of live records
 
@@ -152,16 +151,3 @@ spots_lived ps ascend apart few covered = record {
   few = few;
   covered = covered;
 }
-
--- ---- one slot after another
-
-spot_first : (b : Bool) (c : SpotChange) (u v : List SpotChange) → u ≡ v → cond b (c ∷ u) u ≡ cond b (c ∷ []) [] ++ v
-spot_first true c u v e = ap (λ (ys : List SpotChange). c ∷ ys) e
-spot_first false c u v e = e
-
-pub spots_drop : (segment slot : ℕ) (xs : List Record) (p : ℕ → Bool) (z : Record) → slot < length xs → spots_in segment slot (drop slot xs) p ≡ spots_in segment slot (get_or xs slot z ∷ []) p ++ spots_in segment (slot + 1) (drop (slot + 1) xs) p
-spots_drop segment slot xs p z h =
-    let one : suc slot ≡ slot + 1 = omega arith in
-    ap (λ (ys : List Record). spots_in segment slot ys p) (drop_more xs slot z h)
-    ∙ spot_first (p slot) (record { key = (get_or xs slot z).key; place = Some (segment, slot) }) (spots_in segment (suc slot) (drop (slot + 1) xs) p) (spots_in segment (slot + 1) (drop (slot + 1) xs) p)
-    (ap (λ k. spots_in segment k (drop (slot + 1) xs) p) one)

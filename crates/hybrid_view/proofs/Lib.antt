@@ -8,3 +8,5 @@ pub mod DeltaLemmas
 pub mod BegunLemmas
 mod Examples
 pub mod EmptyLemmas
+pub mod SpotLemmas
+pub mod WalkLemmas

@@ -1,12 +1,12 @@
 -- Pieces that show the rows of a branch, after a commit on it.
-use Rattle.std.proofs.Common.{◌≡◌, ◌⊎◌, inl, inr, ℕ, zero, suc, ◌+◌, ◌<◌, ◌≤◌, ◌==◌, ◌&&◌, nat_lt, nat_le, not, true, false, cond, List, [], ◌∷◌, ◌++◌, length, map, take, drop, Option, refl, arith, ap, sym, ◌∙◌, subst}
+use Rattle.std.proofs.Common.{◌≡◌, ◌⊎◌, inl, inr, ℕ, zero, suc, ◌+◌, ◌<◌, ◌≤◌, ◌==◌, ◌&&◌, nat_lt, nat_le, not, Bool, true, false, cond, List, [], ◌∷◌, ◌++◌, length, map, take, drop, Option, refl, arith, ap, sym, ◌∙◌, subst}
 use Rattle.std.specs.FinMap as finite
-use Rattle.std.proofs.lemmas.Bool.{cases_lt, cases_Bool, lt-ltb, le-ltb, eqb-true}
+use Rattle.std.proofs.lemmas.Bool.{cases_lt, cases_Bool, lt-ltb, le-ltb, eqb-true, eq-eqb}
 use Rattle.std.proofs.lemmas.List.{length-map, length-append, get_or-map, get_or_append_left, get_or_push, get_or_past, take_all, append-nil}
 use Rattle.db_value.specs.declared.record.Record.{Record}
 use Rattle.db_value.specs.declared.entry.Change.{Change}
 use Rattle.plain_bits.specs.Truth.{bit_of}
-use Rattle.record_page.specs.Page.{record_at}
+use Rattle.record_page.specs.Page.{Rows, record_at}
 use Rattle.key_index.specs.Places.{with_changes}
 use Rattle.db_store.specs.Adopt.{keys_differ}
 use Rattle.db_store.specs.Layout.{Segment, Row, bit, records_at, live_in, contents_of}
@@ -214,3 +214,28 @@ next_push places head more ps qs i q e each one j h = by (cases_lt j i)
     by (inr g) =
         let same : i ≡ j = omega (arith, h, g) in
         subst (λ k. Next places head more (piece_at ps k) (piece_at (qs ++ q ∷ []) k)) same (subst (Next places head more (piece_at ps i)) (sym (get_or_push qs q no_piece i e)) one)
+
+-- the head, with records behind its own
+pub next_head : (places : List (Option (ℕ × ℕ))) (more : List Record) (p q : Piece) (from : ℕ) (cut : List Bool)
+    → q.segment ≡ p.segment
+    → q.rows ≡ record p.rows { records = p.rows.records ++ more }
+    → from ≡ length p.rows.records
+    → ((slot : ℕ) → bit_of cut slot ≡ (bit_of p.bits slot && not (struck places p.segment slot)))
+    → ((slot : ℕ) → bit_of q.bits slot ≡ cond (nat_lt slot from) (bit_of cut slot) (nat_lt slot (length q.rows.records)))
+    → length q.bits ≡ length q.rows.records
+    → length p.bits ≤ length p.rows.records
+    → Next places p.segment more p q
+next_head places more p q from cut segment rows is cut_bits bits long covers = record {
+  segment = segment;
+  fields = ap (λ (r : Rows). r.fields) rows;
+  records = records ∙ ap (λ b. p.rows.records ++ cond b more []) (sym (eq-eqb p.segment p.segment refl));
+  bits = λ slot.
+      bits slot
+      ∙ ap (λ b. cond (nat_lt slot from) b (nat_lt slot (length q.rows.records))) (cut_bits slot)
+      ∙ ap (λ n. cond (nat_lt slot n) (bit_of p.bits slot && not (struck places p.segment slot)) (nat_lt slot (length q.rows.records))) is;
+  covered = omega (arith, long);
+  longer = let n = length-append p.rows.records more in let e = ap (λ (xs : List Record). length xs) records in omega (arith, long, covers, n, e);
+}
+  where
+    records : q.rows.records ≡ p.rows.records ++ more
+    records = ap (λ (r : Rows). r.records) rows

@@ -1,38 +1,43 @@
 //! What a version has of a relation.
-ghost use Rattle.std.specs.Prelude.{◌≡◌, ℕ, List, ◌<◌, ◌+◌, ◌^◌, ◌==◌, ◌++◌, ◌∷◌, [], cond, OnOk, length, position, IfOk, IfSome, IfNone, Some, None, true};
+ghost use Rattle.std.specs.Prelude.{◌≡◌, ℕ, List, ◌<◌, ◌≤◌, ◌+◌, ◌^◌, ◌==◌, ◌++◌, ◌∷◌, [], cond, OnOk, length, position, IfOk, IfSome, IfNone, Some, None, true};
 ghost use Rattle.segment.specs.Pages.{AreWide};
 ghost use Rattle.hybrid_view.specs.Struck.{touched_place, touched_places};
 ghost use Rattle.hybrid_view.specs.RowPlaces.{AllNext};
 ghost use Rattle.std.specs.FinMap as finite;
 ghost use Rattle.db_store.specs.Parts.{part_at, slot_at};
-ghost use Rattle.hybrid_view.specs.Live.{EachOf, Piece, empty_lived, has_live, begun_pieces, contents_in, parts_in, piece_at, IsLived};
+ghost use Rattle.hybrid_view.specs.Live.{EachOf, Piece, empty_lived, has_live, begun_pieces, contents_in, parts_in, piece_at, IsLived, live_pieces, place_of};
+ghost use Rattle.hybrid_view.specs.Spots.{lived_of};
+ghost use Rattle.db_store.specs.LaidOut.{times};
 ghost use Rattle.key_index.specs.Places.{with_changes};
 
 use crate::part::LivePart;
+use crate::spots::index_anew;
 use db_store::Spot;
 use db_value::{Change, Records};
 use key_index::{KeyIndex, SpotChanges};
 use std::alloc::{AllocError, Global};
 use std::marker::Model;
 
-/// The parts of a relation by ascending segment, and the index from its keys to segments and slots.
+/// The parts of a relation by ascending segment, and the index from its keys to segments and slots. Without
+/// an index a key is looked for in each part.
 #[derive(Drop)]
 pub struct LiveRelation {
     parts: Vec<LivePart>,
-    index: KeyIndex,
+    index: Option<KeyIndex>,
     count: u32,
 }
 
 impl Model for LiveRelation {
     ghost use Rattle.hybrid_view.specs.Live.{Lived, lived_code, IsLived};
+    ghost use Rattle.hybrid_view.specs.Spots.{places_by};
 
     ghost Value = { Lived };
 
     ghost coded = { lived_code };
 
-    ghost view = { λ l. record { pieces = l.parts.items; places = l.index; count = l.count } };
+    ghost view = { λ l. record { pieces = l.parts.items; places = places_by l.index l.parts.items; count = l.count } };
 
-    ghost invariant = { λ l. IsLived (record { pieces = l.parts.items; places = l.index; count = l.count }) };
+    ghost invariant = { λ l. IsLived (record { pieces = l.parts.items; places = places_by l.index l.parts.items; count = l.count }) };
 }
 
 // The place of the part with a segment.
@@ -40,6 +45,20 @@ fn place_in(parts: &[LivePart], segment: u32) -> Option<usize>
     ensures { result ≡ position (λ p. p.segment == segment) parts.now }
 {
     parts.iter().position(|part| part.segment() == segment)
+}
+
+// The segment and the slot of the live record with a key.
+#[tactic(auto, using(crate::proofs::WalkLemmas::ahead_begun, crate::proofs::WalkLemmas::ahead_more, crate::proofs::WalkLemmas::ahead_found, crate::proofs::WalkLemmas::ahead_none))]
+fn found_in(parts: &[LivePart], key: u64) -> Option<(u32, u32)>
+    requires { times key (live_pieces parts.now) ≤ 1 }
+    ensures { result ≡ place_of parts.now key }
+{
+    for part in parts {
+        if let Some(slot) = part.find(key) {
+            return Some((part.segment(), slot));
+        }
+    }
+    None
 }
 
 impl LiveRelation {
@@ -72,6 +91,16 @@ impl LiveRelation {
         &self.parts[index as usize]
     }
 
+    // The segment and the slot of the live record with a key.
+    fn live_place(&self, key: u64) -> Option<(u32, u32)>
+        ensures { result ≡ place_of self.now.pieces key }
+    {
+        match &self.index {
+            Some(index) => index.find(key),
+            None => found_in(&self.parts, key),
+        }
+    }
+
     /// Where the record with a key is.
     pub fn find(&self, key: u64) -> Option<Spot>
         ensures none { IfNone result (finite.get (contents_in self.now) key ≡ None) }
@@ -83,7 +112,7 @@ impl LiveRelation {
         ensures fields { IfSome result (λ s. finite.get (contents_in self.now) key
             ≡ Some (slot_at (parts_in self.now) s.part s.slot).0.fields) }
     {
-        match self.index.find(key) {
+        match self.live_place(key) {
             None => None,
             Some((segment, slot)) => match place_in(&self.parts, segment) {
                 None => None,
@@ -102,8 +131,41 @@ impl LiveRelation {
     {
         LiveRelation {
             parts,
-            index,
+            index: Some(index),
             count,
+        }
+    }
+
+    /// These parts, without an index, and so many keys.
+    pub fn of_parts(parts: Vec<LivePart>, count: u32) -> LiveRelation
+        requires lived { IsLived (lived_of parts.items) }
+        requires count { count ≡ (lived_of parts.items).count }
+        ensures { result ≡ lived_of parts.items }
+    {
+        LiveRelation {
+            parts,
+            index: None,
+            count,
+        }
+    }
+
+    // Its index, or one that is made anew.
+    fn index_of(&self, alloc: Global) -> Result<KeyIndex, AllocError>
+        ensures { IfOk result (λ index. index ≡ self.now.places) }
+    {
+        match &self.index {
+            Some(index) => index.duplicate(),
+            None => index_anew(alloc, &self.parts),
+        }
+    }
+
+    // The same after changes.
+    fn index_with(&self, alloc: Global, spots: &SpotChanges) -> Result<KeyIndex, AllocError>
+        ensures { IfOk result (λ index. index ≡ with_changes self.now.places spots.now) }
+    {
+        match &self.index {
+            Some(index) => index.with_changes(spots),
+            None => index_anew(alloc, &self.parts)?.with_changes(spots),
         }
     }
 
@@ -125,7 +187,7 @@ impl LiveRelation {
         ensures { result ≡ touched_place self.now.pieces relation change.now }
     {
         if change.relation == relation {
-            self.index.find(change.key)
+            self.live_place(change.key)
         } else {
             None
         }
@@ -194,7 +256,7 @@ impl LiveRelation {
     {
         let places = self.places_of(alloc, changes, relation)?;
         let parts = self.parts_after(alloc, &places, head, rows)?;
-        let index = self.index.with_changes(spots)?;
+        let index = self.index_with(alloc, spots)?;
         Ok(LiveRelation::of(parts, index, count))
     }
 
@@ -210,7 +272,7 @@ impl LiveRelation {
             push_live(&mut parts, part)?;
         }
         parts.push(head)?;
-        let index = self.index.duplicate()?;
+        let index = self.index_of(alloc)?;
         Ok(LiveRelation::of(parts, index, self.count))
     }
 
@@ -221,7 +283,7 @@ impl LiveRelation {
     {
         let mut parts = copies(alloc, &self.parts)?;
         parts.push(head)?;
-        let index = self.index.duplicate()?;
+        let index = self.index_of(alloc)?;
         Ok(LiveRelation::of(parts, index, self.count))
     }
 }

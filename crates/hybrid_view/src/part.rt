@@ -1,10 +1,10 @@
 //! A segment with the bits that a version has of it.
-ghost use Rattle.std.specs.Prelude.{◌≡◌, ◌+◌, ◌*◌, ◌^◌, ◌<◌, ◌≤◌, ◌==◌, false, List, length, IfOk};
+ghost use Rattle.std.specs.Prelude.{◌≡◌, ◌+◌, ◌*◌, ◌^◌, ◌<◌, ◌≤◌, ◌==◌, false, true, List, length, None, IfNone, IfOk, IfSome};
 ghost use Rattle.db_value.specs.declared.record.Record.{Record};
 ghost use Rattle.plain_bits.specs.Truth.{bit_of};
 ghost use Rattle.record_page.specs.Page.{record_at};
 ghost use Rattle.segment.specs.Pages.{AreWide};
-ghost use Rattle.hybrid_view.specs.Live.{part_of, has_live};
+ghost use Rattle.hybrid_view.specs.Live.{part_of, has_live, slot_in};
 
 use crate::commit::{cleared, put_bits, strikes};
 use db_value::{Record, Records, Steps};
@@ -90,6 +90,26 @@ impl LivePart {
         ensures { result ≡ bit_of self.now.bits slot }
     {
         slot < self.bits.len() && self.bits.get(slot)
+    }
+
+    /// The slot of a live record with a key, or `None` if there is no such record. It passes over the
+    /// records with the key that are later and not live.
+    #[tactic(auto, using(crate::proofs::WalkLemmas::left_begun, crate::proofs::WalkLemmas::left_some, crate::proofs::WalkLemmas::left_more, crate::proofs::WalkLemmas::left_less, crate::proofs::WalkLemmas::left_none))]
+    pub fn find(&self, key: u64) -> Option<u32>
+        ensures none { IfNone result
+            (slot_in 0 self.now.rows.records (bit_of self.now.bits) key ≡ None) }
+        ensures slot { IfSome result (λ slot. slot < length self.now.rows.records) }
+        ensures live { IfSome result (λ slot. bit_of self.now.bits slot ≡ true) }
+        ensures key { IfSome result (λ slot. (record_at self.now.rows.records slot).key ≡ key) }
+    {
+        let mut at = self.records.last(key);
+        while let Some(slot) = at {
+            if self.live(slot) {
+                return Some(slot);
+            }
+            at = self.records.before(slot);
+        }
+        None
     }
 
     /// Is something of it live?

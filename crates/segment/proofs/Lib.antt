@@ -1,2 +1,3 @@
 pub mod PageLemmas
 pub mod BlockLemmas
+pub mod KeyLemmas

@@ -1,9 +1,11 @@
 //! One segment.
 ghost use Rattle.std.specs.Prelude.{◌≡◌, ◌+◌, ◌*◌, ◌^◌, ◌<◌, ◌≤◌, ◌++◌, [], length, IfOk};
 ghost use Rattle.record_page.specs.Page.{capacity, record_at};
+ghost use Rattle.segment.specs.Keys.{AreSlots, last_slot, slot_before};
 ghost use Rattle.segment.specs.Pages.{AreWide, page_count, page_of};
 
 use crate::block::{BLOCK_PAGES, Blocks, front_of, page_in, put_page};
+use crate::keys::KeySlots;
 use crate::tail::Tail;
 use db_value::{Record, Records, Steps};
 use record_page::{Page, capacity_of};
@@ -21,12 +23,14 @@ pub struct Segment {
     len: u32,
     blocks: Arc<Blocks>,
     tail: Vec<Arc<Page>>,
+    slots: KeySlots,
 }
 
 impl Model for Segment {
     ghost use Rattle.std.specs.Prelude.{◌≡◌, ◌<◌, ◌≤◌, ◌++◌, length, map};
     ghost use Rattle.std.specs.Arc.{arc_value};
     ghost use Rattle.record_page.specs.Page.{Rows, rows_code, capacity};
+    ghost use Rattle.segment.specs.Keys.{AreSlots};
     ghost use Rattle.segment.specs.Pages.{IsLaid, pages_of, records_of};
 
     ghost Value = { Rows };
@@ -35,7 +39,8 @@ impl Model for Segment {
 
     ghost view = { λ s. record { fields = s.fields; records = records_of (pages_of (arc_value s.blocks) ++ map arc_value s.tail.items) } };
 
-    ghost invariant = { λ s. (s.len ≡ length (records_of (pages_of (arc_value s.blocks) ++ map arc_value s.tail.items))) × ((s.most ≡ capacity s.fields) × IsLaid s.fields (arc_value s.blocks) (map arc_value s.tail.items)) };
+    ghost invariant = { λ s. ((s.len ≡ length (records_of (pages_of (arc_value s.blocks) ++ map arc_value s.tail.items))) × AreSlots s.slots.lasts s.slots.befores (records_of (pages_of (arc_value s.blocks) ++ map arc_value s.tail.items)))
+        × ((s.most ≡ capacity s.fields) × IsLaid s.fields (arc_value s.blocks) (map arc_value s.tail.items)) };
 }
 
 impl Segment {
@@ -53,6 +58,7 @@ impl Segment {
             len: 0,
             blocks: Arc::new(alloc, Blocks::new(alloc))?,
             tail: Vec::new(alloc),
+            slots: KeySlots::new(alloc),
         })
     }
 
@@ -63,12 +69,14 @@ impl Segment {
         ensures { IfOk result (λ s.
             s ≡ record self.now { records = self.now.records ++ rows.now }) }
     {
-        let len = self.len() + rows.as_slice().len() as u32;
+        let alloc = *self.tail.allocator();
+        let own = self.len();
+        let slots = self.slots.with_rows(alloc, own, rows.as_slice())?;
         let mut tail = self.opened()?;
         for row in rows.as_slice() {
             tail.push(row)?;
         }
-        Segment::closed(tail, len)
+        Segment::closed(tail, slots, own + rows.as_slice().len() as u32)
     }
 
     // Its pages, as those of a segment that is being made.
@@ -81,14 +89,15 @@ impl Segment {
     }
 
     // The segment of a tail's records.
-    fn closed(mut tail: Tail, len: u32) -> Result<Segment, AllocError>
+    fn closed(mut tail: Tail, slots: KeySlots, len: u32) -> Result<Segment, AllocError>
         requires len { len ≡ length (rows_in tail) }
         requires wide { AreWide tail.fields (rows_in tail) }
+        requires slots { AreSlots slots.lasts slots.befores (rows_in tail) }
         ensures { IfOk result (λ s. s ≡ record { fields = tail.fields; records = rows_in tail }) }
     {
         if tail.last.len() > 0 {
             tail.fold()?;
-            return Segment::with_last(tail, len);
+            return Segment::with_last(tail, slots, len);
         }
         let Tail {
             fields,
@@ -103,13 +112,15 @@ impl Segment {
             len,
             blocks,
             tail: pages,
+            slots,
         })
     }
 
     // The same, where the last page has records.
-    fn with_last(tail: Tail, len: u32) -> Result<Segment, AllocError>
+    fn with_last(tail: Tail, slots: KeySlots, len: u32) -> Result<Segment, AllocError>
         requires len { len ≡ length (rows_in tail) }
         requires wide { AreWide tail.fields (rows_in tail) }
+        requires slots { AreSlots slots.lasts slots.befores (rows_in tail) }
         requires some { 0 < length tail.last.records }
         requires room { length tail.pages.items < 64 }
         ensures { IfOk result (λ s. s ≡ record { fields = tail.fields; records = rows_in tail }) }
@@ -130,6 +141,7 @@ impl Segment {
             len,
             blocks,
             tail: pages,
+            slots,
         })
     }
 
@@ -183,6 +195,27 @@ impl Segment {
         page.read((slot % most) as u16, into, steps);
     }
 
+    /// The last slot with a key, or `None` if no record has it.
+    pub fn last(&self, key: u64) -> Option<u32>
+        ensures { result ≡ last_slot self.now.records key }
+    {
+        match self.slots.lasts.find(key) {
+            None => None,
+            Some((_, slot)) => Some(slot),
+        }
+    }
+
+    /// The last slot before this one whose record has the same key, if there is one.
+    pub fn before(&self, slot: u32) -> Option<u32>
+        requires { slot < length self.now.records }
+        ensures { result ≡ slot_before self.now.records slot }
+    {
+        match self.slots.befores.find(u64::from(slot)) {
+            None => None,
+            Some((_, before)) => Some(before),
+        }
+    }
+
     /// An equal segment, which shares its pages with this one.
     pub fn duplicate(&self) -> Result<Segment, AllocError>
         ensures { IfOk result (λ s. s ≡ self.now) }
@@ -198,6 +231,7 @@ impl Segment {
             len: self.len,
             blocks: Arc::try_clone(&self.blocks)?,
             tail,
+            slots: self.slots.duplicate()?,
         })
     }
 }

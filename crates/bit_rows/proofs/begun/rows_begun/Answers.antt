@@ -1,10 +1,9 @@
-use Rattle.std.proofs.Common.{◌≡◌, ◌<◌, ◌+◌, ◌++◌, ◌∷◌, [], ◌∙◌, ap, sym, arith, length, map, take, ℕ, List}
-use Rattle.std.proofs.lemmas.List.{map-append, take_more, take_all}
-use Rattle.plain_bits.specs.Truth.{bit_of}
+use Rattle.std.proofs.Common.{◌≡◌, ◌<◌, ◌++◌, ◌∷◌, [], ◌∙◌, ap, sym, arith, length, map, take, List}
+use Rattle.std.proofs.lemmas.List.{map-append, take_more}
 use Rattle.hybrid_view.specs.Live.{Piece, no_piece, piece_at}
 use Rattle.hybrid_view.specs.Deltas.{slots_of}
 use Rattle.bit_rows.specs.Short.{shortest}
-use Rattle.bit_rows.specs.Rows.{KeptRow, begun_row}
+use Rattle.bit_rows.specs.Rows.{begun_row}
 use Rattle.bit_rows.proofs.begun.rows_begun.Goals as goal
 
 pub loop-index-preserved : goal.loop-index-preserved

@@ -1,4 +1,4 @@
-use Rattle.std.proofs.Common.{◌≡◌, ◌∙◌, ◌<◌, ◌++◌, ◌∷◌, ℕ, List, [], length, get_or, arith, ap, sym, subst}
+use Rattle.std.proofs.Common.{◌≡◌, ◌∙◌, ◌++◌, ◌∷◌, ℕ, List, [], length, get_or, arith, ap}
 use Rattle.std.proofs.lemmas.List.{get_or_default}
 use Rattle.bit_rows.specs.Rows.{KeptRow, MoreRow, no_more}
 use Rattle.bit_rows.specs.Kept.{more_at}

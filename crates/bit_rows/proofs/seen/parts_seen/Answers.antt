@@ -1,11 +1,9 @@
-use Rattle.std.proofs.Common.{◌≡◌, ◌<◌, ◌++◌, ◌∷◌, [], ◌∙◌, ap, sym, arith, length, map, take, ℕ, List}
-use Rattle.std.proofs.lemmas.List.{map-append, take_more, append-nil}
+use Rattle.std.proofs.Common.{◌<◌, ◌++◌, ◌∷◌, [], ◌∙◌, ap, sym, arith, length, map, take, ℕ, List}
+use Rattle.std.proofs.lemmas.List.{map-append, take_more}
 use Rattle.std.proofs.lemmas.List.Elements.{All-push, All-same}
-use Rattle.std.proofs.lemmas.Grind.{flat_map-append}
-use Rattle.key_index.specs.declared.changes.SpotChange.{SpotChange}
 use Rattle.hybrid_view.specs.Live.{Piece}
 use Rattle.bit_rows.specs.Rows.{KeptRow, no_kept_row, kept_row_at}
-use Rattle.bit_rows.specs.Seen.{spots_of_piece, spots_of_pieces, piece_of_row, IsSmall}
+use Rattle.bit_rows.specs.Seen.{piece_of_row, IsSmall}
 use Rattle.bit_rows.proofs.seen.parts_seen.Goals as goal
 
 pub loop-index-preserved : goal.loop-index-preserved
@@ -19,8 +17,5 @@ loop-index-preserved c =
       parts = c.in_ok-push.ensures.items
           ∙ (λ j. c.loop-index.invariant.parts j ++ c.in_ok-part.ensures.part j ∷ [])
           ∙ sym (ap (map (piece_of_row c.args.kept.now.all c.args.position)) (take_more rows i no_kept_row lt) ∙ map-append (piece_of_row c.args.kept.now.all c.args.position) (take i rows) (kept_row_at rows i ∷ []));
-      spots = c.in_ok-put_spots.ensures
-          ∙ ap (λ (xs : List SpotChange). xs ++ spots_of_piece p) c.loop-index.invariant.spots
-          ∙ sym (ap spots_of_pieces c.in_ok-push.ensures.items ∙ flat_map-append spots_of_piece ps (p ∷ []) ∙ ap (λ (ys : List SpotChange). spots_of_pieces ps ++ ys) (append-nil (spots_of_piece p)));
       small = All-same IsSmall _ _ c.in_ok-push.ensures.items (All-push IsSmall ps p c.loop-index.invariant.small c.in_ok-part.ensures.small);
     }

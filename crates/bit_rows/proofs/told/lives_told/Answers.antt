@@ -1,5 +1,5 @@
 use Rattle.std.proofs.Common.{◌≡◌, ℕ, ◌<◌, ◌++◌, ◌∷◌, [], ◌∙◌, ap, sym, subst, arith, length, take, get_or, List}
-use Rattle.std.proofs.lemmas.List.{take_more, take_all, get_or_default, append-nil}
+use Rattle.std.proofs.lemmas.List.{take_more, get_or_default, append-nil}
 use Rattle.std.proofs.lemmas.Grind.{flat_map-append}
 use Rattle.db_value.specs.declared.report.Live.{Live}
 use Rattle.bit_rows.specs.Kept.{KeptLane, no_kept}

@@ -1,4 +1,4 @@
-use Rattle.std.proofs.Common.{◌≡◌, ℕ, ◌<◌, ◌++◌, ◌∷◌, [], ◌∙◌, ap, sym, arith, length, take, List}
+use Rattle.std.proofs.Common.{◌≡◌, ℕ, ◌<◌, ◌++◌, ◌∙◌, ap, sym, arith, length, take, List}
 use Rattle.std.proofs.lemmas.List.{take_more, append_assoc}
 use Rattle.db_value.specs.declared.report.Live.{Live}
 use Rattle.hybrid_view.specs.Live.{Piece, Lived, no_piece, piece_at, lived_at}

@@ -2,6 +2,7 @@ use Rattle.std.proofs.Common.{arith, ◌≡◌, ◌<◌, ◌≤◌, ◌++◌, �
 use Rattle.std.specs.Arc.{arc_value}
 use Rattle.std.proofs.lemmas.List.{length-map}
 use Rattle.record_page.specs.Page.{Rows, capacity}
+use Rattle.segment.specs.Keys.{AreSlots}
 use Rattle.segment.specs.Pages.{pages_of, records_of, IsLaid}
 use Rattle.segment.proofs.BlockLemmas.{laid_last, rows_after}
 use Rattle.segment.proofs.segment.Segment.with_last.Goals as goal
@@ -15,8 +16,9 @@ invariant_of-result c =
     let room = c.requires.room in
     let m = length-map t.pages.items arc_value in
     let fits : length t.last.records ≤ capacity t.fields = subst (λ (k : ℕ). length t.last.records ≤ capacity k) t.same c.len-count.ensures.paged.room in
-    let laid : IsLaid t.fields blocks (pages ++ t.last ∷ []) = laid_last t.fields blocks pages t.last t.some t.most t.full t.whole (omega (arith, room, m)) t.same c.requires.some fits c.requires.wide in (
-      c.requires.len ∙ ap length (sym (rows_after (pages_of blocks) pages t.last)) ∙ ap (λ (ps : List Rows). length (records_of (pages_of blocks ++ ps))) (sym put),
+    let laid : IsLaid t.fields blocks (pages ++ t.last ∷ []) = laid_last t.fields blocks pages t.last t.some t.most t.full t.whole (omega (arith, room, m)) t.same c.requires.some fits c.requires.wide in
+    let rows = sym (rows_after (pages_of blocks) pages t.last) ∙ ap (λ (ps : List Rows). records_of (pages_of blocks ++ ps)) (sym put) in (
+      (c.requires.len ∙ ap length rows, subst (AreSlots c.args.slots.lasts c.args.slots.befores) rows c.requires.slots),
       (
         c.capacity_of-most.ensures,
         subst (λ (ps : List Rows). IsLaid t.fields blocks ps) (sym put) laid,

@@ -1,4 +1,4 @@
-use Rattle.bit_rows.proofs.seen.put_spots.Given as goal
+use Rattle.hybrid_view.proofs.spots.put_spots.Given as goal
 
 abbrev pub ghosts-put_counted : goal.ghosts-put_counted
 ghosts-put_counted a = record { name = a.blank.name; parts = a.blank.parts }
