@@ -1,3 +1,4 @@
+pub mod Appending
 pub mod Back
 pub mod Both
 pub mod Creating
