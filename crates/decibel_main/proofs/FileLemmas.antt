@@ -10,21 +10,16 @@ use Rattle.generations.specs.declared.dataset.Dataset.{Dataset}
 use Rattle.generations.specs.declared.pair.Pair.{Pair}
 use Rattle.generations.specs.Datasets.{pair_in, generation_in, KeepsIn}
 use Rattle.generations.specs.Files.{reads}
-use Rattle.generations.specs.Fronts.{Keeps}
 use Rattle.generations.specs.Given.{opening_of}
 use Rattle.generations.specs.LogLaws.{kept_gives}
 use Rattle.generations.specs.Pairs.{RoseInOne, BothOnlyRead}
 use Rattle.decibel_main.specs.Images.{OpensNow, faults_in}
 
 module _ {D : Type 0} (g : Ghosts D) where
-  pairs_by : (second : Bool) (n at : ℕ) (clean : Bool) (file beside : D) (s : State) (es : List Entry) (f : Option (List ℕ)) → Keeps second n at clean (g.image file) (g.image beside) s es f
-      → (c d : List ℕ) → g.image (cond second beside file) c → g.image (cond second file beside) d → MayGive n s es f (opening_of (reads c d))
-  pairs_by false n at clean file beside s es f k c d hc hd = kept_gives false n at clean (g.image file) (g.image beside) s es f k (opening_of (reads c d)) (c, d, hc, hd, refl)
-  pairs_by true n at clean file beside s es f k c d hc hd = kept_gives true n at clean (g.image file) (g.image beside) s es f k (opening_of (reads c d)) (d, c, hd, hc, refl)
-
   -- what a dataset keeps tells what its files open to
   pub keeps_pairs : (l : Dataset D g) (s : State) (es : List Entry) (f : Option (List ℕ)) → KeepsIn l s es f → OpensNow g (pair_in l) (MayGive (generation_in l) s es f)
-  keeps_pairs l s es f k = λ c d hc hd. pairs_by l.second l.generation l.file.journal.at l.file.journal.clean l.file.disk l.beside s es f k c d hc hd
+  keeps_pairs l s es f k = λ c d hc hd.
+      kept_gives g.image l.second l.generation l.file.journal.at l.file.journal.clean l.file.disk l.beside s es f k (opening_of (reads c d)) (c, d, hc, hd, refl)
 
   faults_by : (second : Bool) (file beside : D) → g.faults (cond second beside file) + g.faults (cond second file beside) ≡ g.faults file + g.faults beside
   faults_by false file beside = refl

@@ -1,31 +1,30 @@
 -- A run on a log, and on two files.
-use Rattle.std.proofs.Common.{◌≡◌, inl, ◌∙◌, ◌+◌, ◌-◌, ◌^◌, ◌<◌, ◌≤◌, ◌++◌, ◌∷◌, [], List, ℕ, Bool, true, false, cond, nat_lt, refl, sym, ap, subst, arith, Option, Some, None}
+use Rattle.std.proofs.Common.{◌≡◌, inl, ⊎_elim, ◌∙◌, ◌+◌, ◌-◌, ◌^◌, ◌<◌, ◌≤◌, ◌++◌, ◌∷◌, [], List, ℕ, Bool, true, false, cond, nat_lt, refl, sym, ap, subst, arith, Option, Some, None}
 use Rattle.std.specs.Prelude.{Result, Ok, Err, OnOk, IsErrOf}
 use Rattle.std.proofs.lemmas.List.{append-nil}
 use Rattle.db_value.specs.declared.entry.Entry.{Entry}
 use Rattle.db_store.specs.State.{State}
 use Rattle.db_outside.specs.Count.{counted}
 use Rattle.db_outside.specs.declared.disk.Disk.{Ghosts}
-use Rattle.entry_codec.specs.Logs.{Opening, MayGive}
+use Rattle.entry_codec.specs.Logs.{Opening, gives, MayGive}
 use Rattle.db_core.specs.Order.{World, opening}
 use Rattle.db_core.specs.Kept.{Logged, world_of, new_kept}
 use Rattle.generations.specs.declared.dataset.Dataset.{Dataset}
 use Rattle.generations.specs.declared.pair.Pair.{Pair}
-use Rattle.generations.specs.Datasets.{pair_in, generation_in, counted_in, place_in, KeepsIn}
+use Rattle.generations.specs.Datasets.{pair_in, generation_in, counted_in, place_in, KeepsIn, moment_in, OpensSinceIn, QuietIn}
 use Rattle.generations.specs.Files.{opened, counts, reads}
-use Rattle.generations.specs.Given.{Opens, opening_of}
-use Rattle.generations.specs.Fronts.{IsBeside}
-use Rattle.generations.specs.Pairs.{RoseInOne, BothOnlyRead}
-use Rattle.db_outside.specs.Disk.{InAll}
+use Rattle.generations.specs.Given.{opening_of}
+use Rattle.generations.specs.Pairs.{moments_of, AreAllOnDisk, RoseInOne, BothOnlyRead}
+use Rattle.generations.specs.Reopens.{StaysQuiet}
 use Rattle.script_run.specs.declared.run.RunStop.{RunStop}
 use Rattle.script_run.specs.declared.run.RunStop.TheVariants.{Fault, Memory as NoMemory}
 use Rattle.script_run.specs.Output.{failures, world_after}
-use Rattle.script_run.specs.Acknowledged.{acknowledged, begun, GivesAny}
+use Rattle.script_run.specs.Acknowledged.{acknowledged, begun, GivesAny, GivesDuring}
 use Rattle.script_run.specs.Runs.{RunsAll, RunsCut, RunsWhole}
 use Rattle.script_run.proofs.OutputLemmas.{out_end}
 use Rattle.script_run.proofs.StoreLemmas.{stores_none, may_any}
 use Rattle.decibel_main.specs.Ends.{IsEndOf}
-use Rattle.decibel_main.specs.Images.{OpensNow, faults_in}
+use Rattle.decibel_main.specs.Images.{OpensNow, OpensSince, faults_in}
 use Rattle.decibel_main.specs.Scripts.{RunsLog, RunsScript}
 use Rattle.decibel_main.specs.declared.status.Status.{Status}
 use Rattle.decibel_main.specs.declared.status.Status.TheVariants.{Done, Usage, NotDataset, Damaged, ReadFault, WriteFault, DiskFault, TooLong, Memory, AlreadyThere, BadLine}
@@ -126,17 +125,8 @@ module _ {D : Type 0} (g : Ghosts D) where
   abbrev faults_l : Dataset D g → ℕ
   faults_l l = g.faults l.file.disk + g.faults l.beside
 
-  abbrev moment_l : Dataset D g → ℕ × ℕ
-  moment_l l = (g.moment l.file.disk, g.moment l.beside)
-
-  abbrev since_l : Dataset D g → ℕ × ℕ → Opening → Type 0
-  since_l l t o = Opens l.second (g.since l.file.disk t.0) (g.since l.beside t.1) o
-
-  abbrev quiet_l : Dataset D g → ℕ × ℕ → Type 0
-  quiet_l l t = InAll (g.since l.beside t.1) (IsBeside l.second l.generation)
-
   module _ (disks : Pair D) (a b : Dataset D g) (s : State) (es : List Entry) (all : List (List ℕ)) (status : Status) (before written : Option (List ℕ)) (only : BothOnlyRead g disks (pair_in a)) (kept : KeepsIn a s es None)
-      (r : RunsLog faults_l KeepsIn generation_in moment_l since_l quiet_l (opening s) a b all status before written) where
+      (r : RunsLog faults_l KeepsIn generation_in moment_in OpensSinceIn QuietIn (opening s) a b all status before written) where
     few : faults_in g (pair_in b) < 2 ^ 64 - 1 → failures r.ran + faults_in g disks ≤ faults_in g (pair_in b)
     few below =
         omega (arith, faults_are g a, faults_are g b, only.first.later, only.second.later, r.stores.few (omega (arith, below, faults_are g b)))
@@ -148,12 +138,23 @@ module _ {D : Type 0} (g : Ghosts D) where
         (subst (λ (n : ℕ). MayGive n (world_after (opening s) r.ran).state (es ++ acknowledged (opening s) r.ran) k.0 (opening_of (reads c d))) r.stores.generation_stays
         (keeps_pairs g b (world_after (opening s) r.ran).state (es ++ acknowledged (opening s) r.ran) k.0 k.2 c d hc hd))
 
+    -- before the first line was run
+    at_first : (o : Opening) → o ≡ gives (generation_in a) s es → GivesDuring (generation_in a) (opening s) es None r.ran o
+    at_first o is = ([], r.ran, refl, inl (is ∙ ap (λ (l : List Entry). gives (generation_in a) s l) (sym (append-nil es))))
+
+    any_moment : (c d : List ℕ) → reads c d ≡ counts (counted_in a) (generation_in a) (opened s es (place_in a)) → StaysQuiet (moments_of g disks) a c d
+        → OpensSince g (moments_of g disks) (pair_in b) (GivesDuring (generation_in a) (opening s) es None r.ran)
+    any_moment c d is quiet = λ x y hx hy.
+        let o = opening_of (reads x y) in
+        ⊎_elim (λ was. at_first o (quiet.opens o was ∙ ap opening_of is)) (λ during. during)
+        ((r.stores.any_moment es None kept).adds (moments_of g disks) (only.first.any_moment.later, only.second.any_moment.later) quiet.quiet o (x, y, hx, hy, refl))
+
     -- a count that rose in the run
     pub rose : faults_l a < faults_l b → RoseInOne g disks (pair_in b)
     rose less = one_rose g disks (pair_in b) (omega (arith, less, faults_are g a, faults_are g b, only.first.later, only.second.later))
 
-    pub runs_files : (c d : List ℕ) → reads c d ≡ counts (counted_in a) (generation_in a) (opened s es (place_in a)) → RunsScript g disks (pair_in b) all status before written c d
-    runs_files c d is = record {
+    pub runs_files : (c d : List ℕ) → reads c d ≡ counts (counted_in a) (generation_in a) (opened s es (place_in a)) → (AreAllOnDisk g disks → StaysQuiet (moments_of g disks) a c d) → RunsScript g disks (pair_in b) all status before written c d
+    runs_files c d is quiet = record {
       file = counted_in a;
       generation = generation_in a;
       state = s;
@@ -163,7 +164,7 @@ module _ {D : Type 0} (g : Ghosts D) where
       ran = r.ran;
       rest = r.rest;
       lines = r.lines;
-      runs = record { few = few; now = now };
+      runs = record { few = few; now = now; any_moment = λ durable. any_moment c d is (quiet durable) };
       answers = r.answers;
       unfailed = λ done below. r.unfailed done (omega (arith, below, faults_are g b));
     }

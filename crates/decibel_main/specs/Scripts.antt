@@ -1,5 +1,5 @@
 -- What `script` does.
-use Rattle.std.specs.Prelude.{◌≡◌, ◌⊎◌, ◌<◌, ◌≤◌, ◌+◌, ◌-◌, ◌^◌, ℕ, List, [], ◌∷◌, ◌++◌, Option}
+use Rattle.std.specs.Prelude.{◌≡◌, ◌⊎◌, ◌<◌, ◌≤◌, ◌+◌, ◌-◌, ◌^◌, ℕ, List, [], ◌∷◌, ◌++◌, Option, None}
 use Rattle.db_value.specs.declared.entry.Entry.{Entry}
 use Rattle.db_store.specs.State.{State}
 use Rattle.db_outside.specs.declared.disk.Disk.{Ghosts}
@@ -10,19 +10,20 @@ use Rattle.generations.specs.declared.pair.Pair.{Pair}
 use Rattle.generations.specs.Files.{opened, damaged, counts, no_header, reads}
 use Rattle.generations.specs.declared.look.OpenStop.{OpenStop}
 use Rattle.generations.specs.declared.look.OpenStop.TheVariants.{NotDataset as NoDataset, Damaged as DamagedAt, DiskFault as DiskFailed, Memory as NoMemory}
-use Rattle.generations.specs.Pairs.{BothOnlyRead}
+use Rattle.generations.specs.Pairs.{moments_of, AreAllOnDisk, BothOnlyRead}
 use Rattle.script_run.specs.Device.{Appends, AppendsShort}
 use Rattle.script_run.specs.Output.{Marked, lines_of, failures, world_after, answer_of, out}
-use Rattle.script_run.specs.Acknowledged.{acknowledged, begun, GivesAny, StoresAll}
+use Rattle.script_run.specs.Acknowledged.{acknowledged, begun, GivesAny, GivesDuring, StoresAll}
 use Rattle.script_run.specs.Runs.{IsOneMore}
-use Rattle.decibel_main.specs.Images.{OpensNow, faults_in}
+use Rattle.decibel_main.specs.Images.{OpensNow, OpensSince, faults_in}
 use Rattle.decibel_main.specs.declared.status.Status.{Status}
 use Rattle.decibel_main.specs.declared.status.Status.TheVariants.{Done, NotDataset, Damaged, WriteFault, DiskFault, Memory}
 
--- Lines were run on a state, with these marks, of which there are no more than the disks' counts of faults rose by. A crash now leaves the acknowledged entries, then none or all of one batch that was begun since.
+-- Lines were run on a state, with these marks, of which there are no more than the disks' counts of faults rose by. A crash now leaves the acknowledged entries, then none or all of one batch that was begun since. So does a crash at any moment from the start on, by the lines that were run by then and the next one, if each disk had the one image that a read gave.
 pub record RunsOn {D : Type 0} (g : Ghosts D) (old new : Pair D) (generation : ℕ) (s : State) (es : List Entry) (ran : List Marked) : Type 0 where
   pub few : faults_in g new < 2 ^ 64 - 1 → failures ran + faults_in g old ≤ faults_in g new
   pub now : OpensNow g new (GivesAny generation (world_after (opening s) ran).state (es ++ acknowledged (opening s) ran) (begun (opening s) [] ran))
+  pub any_moment : AreAllOnDisk g old → OpensSince g (moments_of g old) new (GivesDuring generation (opening s) es None ran)
 
 -- what was written, by how the run ended
 abbrev pub Answers : Status → World → List Marked → List (List ℕ) → Option (List ℕ) → Option (List ℕ) → Type 0

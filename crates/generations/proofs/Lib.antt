@@ -1,3 +1,4 @@
+pub mod Appending
 pub mod Back
 pub mod Both
 pub mod Creating
@@ -5,6 +6,7 @@ pub mod Entries
 pub mod Looking
 pub mod Opening
 pub mod Picking
+pub mod Quieting
 pub mod Reopening
 pub mod Told
 pub mod Walks

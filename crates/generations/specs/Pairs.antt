@@ -10,6 +10,10 @@ use Rattle.generations.specs.declared.pair.Pair.{Pair}
 abbrev pub disk_of : {D : Type 0} → Bool → Pair D → D
 disk_of second disks = cond second disks.second disks.first
 
+-- the moments of both
+abbrev pub moments_of : {D : Type 0} → Ghosts D → Pair D → ℕ × ℕ
+moments_of g disks = (g.moment disks.first, g.moment disks.second)
+
 -- if both disks tell what a read gives, their bytes have this
 abbrev pub IfTold : {D : Type 0} → Ghosts D → Pair D → (List ℕ → List ℕ → Type 0) → Type 0
 IfTold g disks P = (c : List ℕ) (d : List ℕ) → g.seen disks.first ≡ Some c → g.seen disks.second ≡ Some d → P c d

@@ -5,8 +5,8 @@ ghost use Rattle.gate_journal.specs.Gate.{IsShut};
 ghost use Rattle.generations.specs.declared.look.OpenStop.TheVariants.{DiskFault};
 ghost use Rattle.generations.specs.Datasets.{pair_in};
 ghost use Rattle.generations.specs.Looks.{IsOpenStop};
-ghost use Rattle.generations.specs.Pairs.{disk_of, IfTold, RoseInOne, BothOnlyRead};
-ghost use Rattle.generations.specs.Reopens.{Reopens};
+ghost use Rattle.generations.specs.Pairs.{disk_of, moments_of, IfTold, AreAllOnDisk, RoseInOne, BothOnlyRead};
+ghost use Rattle.generations.specs.Reopens.{Reopens, StaysQuiet};
 
 use crate::dataset::Dataset;
 use crate::file::File;
@@ -69,6 +69,8 @@ pub fn reopen<D: Disk>(
 ) -> Result<(Dataset<D>, DatasetStore), (OpenStop, Pair<D>)>
     ensures opens { IfOk result (λ r. IfTold D.Disk disks (Reopens r.0 r.1)) }
     ensures reads { IfOk result (λ r. BothOnlyRead D.Disk disks (pair_in r.0)) }
+    ensures quiet { IfOk result (λ r. AreAllOnDisk D.Disk disks →
+        IfTold D.Disk disks (StaysQuiet (moments_of D.Disk disks) r.0)) }
 
     ensures stop { IfErr result (λ e. IfTold D.Disk disks (IsOpenStop e.0)) }
     ensures cause { IfErr result (λ e. e.0 ≡ DiskFault → RoseInOne D.Disk disks e.1) }

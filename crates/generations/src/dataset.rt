@@ -75,25 +75,23 @@ impl<D: Disk> Dataset<D> {
 /// A dataset keeps all that a log may keep. Its count of faults is that of both disks.
 impl<D: Disk + Drop, St: Store> Log<St> for Dataset<D> {
     ghost use Rattle.std.specs.Prelude.{◌≡◌, ◌+◌};
-    ghost use Rattle.db_outside.specs.Disk.{InAll};
     ghost use Rattle.db_outside.specs.Count.{counted};
-    ghost use Rattle.generations.specs.Fronts.{Keeps, IsBeside};
-    ghost use Rattle.generations.specs.Given.{Opens};
+    ghost use Rattle.generations.specs.Datasets.{pair_in, generation_in, KeepsIn, moment_in, OpensNowIn, OpensSinceIn, QuietIn};
     ghost use Rattle.generations.specs.LogLaws.{kept_gives, counts_both};
 
     ghost faults = { λ l. D.faults l.file.disk + D.faults l.beside };
 
-    ghost Keeps = { λ l s es f. Keeps l.second l.generation l.file.journal.at l.file.journal.clean (D.image l.file.disk) (D.image l.beside) s es f };
+    ghost Keeps = { λ l s es f. KeepsIn l s es f };
 
-    ghost generation = { λ l. l.generation };
+    ghost generation = { λ l. generation_in l };
 
-    ghost moment = { λ l. (D.moment l.file.disk, D.moment l.beside) };
+    ghost moment = { λ l. moment_in l };
 
-    ghost opens_now = { λ l o. Opens l.second (D.image l.file.disk) (D.image l.beside) o };
+    ghost opens_now = { λ l o. OpensNowIn l o };
 
-    ghost opens_since = { λ l t o. Opens l.second (D.since l.file.disk t.0) (D.since l.beside t.1) o };
+    ghost opens_since = { λ l t o. OpensSinceIn l t o };
 
-    ghost Quiet = { λ l t. InAll (D.since l.beside t.1) (IsBeside l.second l.generation) };
+    ghost Quiet = { λ l t. QuietIn l t };
 
     fn stores_nothing(&self) -> bool {
         false
@@ -111,9 +109,9 @@ impl<D: Disk + Drop, St: Store> Log<St> for Dataset<D> {
             .saturating_add(self.beside.fault_count())
     }
 
-    ghost kept_opens = { λ l s es f keeps o opens. kept_gives l.second l.generation l.file.journal.at l.file.journal.clean (D.image l.file.disk) (D.image l.beside) s es f keeps o opens };
+    ghost kept_opens = { λ l s es f keeps o opens. kept_gives D.image l.second l.generation l.file.journal.at l.file.journal.clean l.file.disk l.beside s es f keeps o opens };
 
-    ghost counts_now = { λ l t o le opens. counts_both l.second (D.image l.file.disk) (D.image l.beside) (D.since l.file.disk t.0) (D.since l.beside t.1) o (λ c now. D.Disk.counts_now l.file.disk t.0 c le.0 now) (λ c now. D.Disk.counts_now l.beside t.1 c le.1 now) opens };
+    ghost counts_now = { λ l t o le opens. counts_both (D.image (pair_in l).first) (D.image (pair_in l).second) (D.since (pair_in l).first t.0) (D.since (pair_in l).second t.1) o (λ c now. D.Disk.counts_now (pair_in l).first t.0 c le.0 now) (λ c now. D.Disk.counts_now (pair_in l).second t.1 c le.1 now) opens };
 
-    ghost only_now = { λ l o opens. counts_both l.second (D.since l.file.disk (D.moment l.file.disk)) (D.since l.beside (D.moment l.beside)) (D.image l.file.disk) (D.image l.beside) o (λ c now. D.Disk.only_now l.file.disk c now) (λ c now. D.Disk.only_now l.beside c now) opens };
+    ghost only_now = { λ l o opens. counts_both (D.since (pair_in l).first (moment_in l).0) (D.since (pair_in l).second (moment_in l).1) (D.image (pair_in l).first) (D.image (pair_in l).second) o (λ c now. D.Disk.only_now (pair_in l).first c now) (λ c now. D.Disk.only_now (pair_in l).second c now) opens };
 }

@@ -20,4 +20,4 @@ pub returns-in-Ok-clause-runs : goal.returns-in-Ok-clause-runs
 returns-in-Ok-clause-runs g c = λ a b ha hb.
     let r = c.in-Ok.ensures.opens a b ha hb in
     inl (subst (λ (p : Pair g.row.D.Denot). RunsScript g.D.Disk c.args.disks p (lines_run (lines c.args.input.now)) c.run_on-status.result.0 (g.K.Sink.written c.args.sink.now) (g.K.Sink.written c.run_on-status.new.sink) a b) (sym c.into_disks.ensures)
-    (runs_files g.D.Disk c.args.disks c.in-Ok.dataset c.run_on-status.result.1 (state_in c.in-Ok.store) r.0 (lines_run (lines c.args.input.now)) c.run_on-status.result.0 _ _ c.in-Ok.ensures.reads r.3 c.run_on-status.ensures.runs a b r.2))
+    (runs_files g.D.Disk c.args.disks c.in-Ok.dataset c.run_on-status.result.1 (state_in c.in-Ok.store) r.0 (lines_run (lines c.args.input.now)) c.run_on-status.result.0 _ _ c.in-Ok.ensures.reads r.3 c.run_on-status.ensures.runs a b r.2 (λ durable. c.in-Ok.ensures.quiet durable a b ha hb)))

@@ -1,7 +1,7 @@
-use Rattle.std.proofs.Common.{◌≡◌, ℕ, Bool, cond, true, sym, ◌∙◌, ap}
+use Rattle.std.proofs.Common.{◌≡◌, Bool, cond, true, sym, ◌∙◌, ap}
 use Rattle.gate_journal.specs.declared.place.Journal.{Journal}
-use Rattle.generations.specs.Files.{counts, opened, number_of}
 use Rattle.generations.specs.Stored.{state_in}
+use Rattle.generations.proofs.Quieting.{stays_quiet, only_reads, read_as}
 use Rattle.generations.proofs.Reopening.{keeps_it, one_image, all_two}
 use Rattle.generations.proofs.again.reopen.Goals as goal
 
@@ -11,10 +11,7 @@ returns-in-Ok-clause-opens g c s d told_s told_d =
     let r = c.assembled-dataset.result in
     let made = c.assembled-dataset.ensures in
     let t = c.in-Ok.ensures.told s d told_s told_d in
-    let read =
-    t.2 ∙ ap (λ (q : Bool). counts (number_of q) l.generation (opened (state_in l.store) t.0 l.journal.at)) (sym made.second)
-    ∙ ap (λ (n : ℕ). counts (number_of r.second) n (opened (state_in l.store) t.0 l.journal.at)) (sym made.generation)
-    ∙ ap (λ (j : Journal). counts (number_of r.second) r.generation (opened (state_in l.store) t.0 j.at)) (sym made.journal) in
+    let read = read_as g.D.Disk l r t.0 s d t.2 made.second made.generation made.journal in
     let first = c.look.new.disks.first in
     let second = c.look.new.disks.second in
     let all_first = one_image (g.D.Disk.seen c.args.disks.first) (g.D.Disk.seen first) (g.D.Disk.image first) s told_s c.look.ensures.reads.first.seen_stays c.in-Ok.ensures.durable.0 in
@@ -29,3 +26,13 @@ returns-in-Ok-clause-opens g c s d told_s told_d =
           (all_two g.D.Disk.image r.second first second r.file.disk s d disk all_first all_second)
           (all_two g.D.Disk.image r.second second first r.beside d s beside all_second all_first),
     )
+
+pub returns-in-Ok-clause-quiet : goal.returns-in-Ok-clause-quiet
+returns-in-Ok-clause-quiet g c all s d told_s told_d =
+    let l = c.in-Ok.looked in
+    let r = c.assembled-dataset.result in
+    let made = c.assembled-dataset.ensures in
+    let t = c.in-Ok.ensures.told s d told_s told_d in
+    stays_quiet g.D.Disk c.args.disks r (state_in l.store) t.0 s d told_s told_d all
+    (only_reads g.D.Disk c.args.disks c.look.new.disks r l.second made.disk made.beside made.second c.look.ensures.reads)
+    (read_as g.D.Disk l r t.0 s d t.2 made.second made.generation made.journal)

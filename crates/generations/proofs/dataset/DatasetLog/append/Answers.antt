@@ -1,44 +1,52 @@
-use Rattle.std.proofs.Common.{◌≡◌, inl, inr, ⊎_elim, None, Some}
-use Rattle.generations.specs.FrontLaws.{one_of, more_front, pending_fits}
+use Rattle.std.proofs.Common.{◌≡◌, None, Some, refl}
+use Rattle.entry_codec.specs.Logs.{GivesOneOf}
+use Rattle.generations.specs.Ends.{EndsInOneOf}
+use Rattle.generations.specs.FrontLaws.{more_front, pending_fits}
 use Rattle.generations.specs.KeptLaws.{on_err}
-use Rattle.generations.specs.LogLaws.{gives_one}
+use Rattle.generations.proofs.Appending.{no_earlier, any_pair, adds_pair, one_batch}
 use Rattle.generations.proofs.dataset.DatasetLog.append.Goals as goal
 
 pub returns-in_err-append-clause-any_moment : goal.returns-in_err-append-clause-any_moment
-returns-in_err-append-clause-any_moment g c s es f follows keeps = record {
-  any_moment = λ o opens.
-      gives_one c.args.self.now.second c.args.self.now.generation s es opens.0 opens.1 o opens.4 f c.args.batch.now
-      (one_of c.args.self.now.second c.args.self.now.generation s es keeps.front keeps.is_front f c.args.batch.now opens.0 opens.1 keeps.fits follows
-      ((c.append.ensures.any_moment keeps.front f keeps.kept).each opens.0 opens.2) (keeps.other opens.1 (g.met.D.Disk.only_now c.args.self.now.beside opens.1 opens.3)));
-  quiet = record {
-    stays = λ t quiet. quiet;
-    adds = λ t le quiet o opens.
-        ⊎_elim (λ was. inl (opens.0, opens.1, was, opens.3, opens.4))
-        (λ ends.
-        inr
-        (gives_one c.args.self.now.second c.args.self.now.generation s es opens.0 opens.1 o opens.4 f c.args.batch.now
-        (one_of c.args.self.now.second c.args.self.now.generation s es keeps.front keeps.is_front f c.args.batch.now opens.0 opens.1 keeps.fits follows ends (quiet opens.1 opens.3))))
-        ((c.append.ensures.any_moment keeps.front f keeps.kept).before t.0 opens.0 le.0 opens.2);
-  };
-}
+returns-in_err-append-clause-any_moment g c s es f follows keeps =
+    let l = c.args.self.now in
+    let new = c.append.new.self.disk in
+    let leaves = c.append.ensures.any_moment keeps.front f keeps.kept in
+    let ends = EndsInOneOf keeps.front f c.args.batch.now in
+    let gives = GivesOneOf l.generation s es f c.args.batch.now in
+    let so = one_batch l.second l.generation s es keeps.front keeps.is_front f c.args.batch.now keeps.fits follows in
+    record {
+      any_moment = any_pair g.D.Disk l.file.disk new l.beside l.generation ends gives leaves l.second so (g.met.D.Disk.only_now l.beside) keeps.other;
+      quiet = record {
+        stays = λ t quiet. quiet;
+        adds = adds_pair g.D.Disk l.file.disk new l.beside l.generation ends gives leaves l.second so;
+      };
+    }
 
 pub returns-clause-any_moment : goal.returns-clause-any_moment
-returns-clause-any_moment g c s es f follows keeps = record {
-  any_moment = λ o opens.
-      gives_one c.args.self.now.second c.args.self.now.generation s es opens.0 opens.1 o opens.4 f c.args.batch.now
-      (one_of c.args.self.now.second c.args.self.now.generation s es keeps.front keeps.is_front f c.args.batch.now opens.0 opens.1 keeps.fits follows
-      ((c.append.ensures.any_moment keeps.front f keeps.kept).each opens.0 opens.2) (keeps.other opens.1 (g.met.D.Disk.only_now c.args.self.now.beside opens.1 opens.3)));
-  quiet = record {
-    stays = λ t quiet. quiet;
-    adds = λ t le quiet o opens.
-        ⊎_elim (λ was. inl (opens.0, opens.1, was, opens.3, opens.4))
-        (λ ends.
-        inr
-        (gives_one c.args.self.now.second c.args.self.now.generation s es opens.0 opens.1 o opens.4 f c.args.batch.now
-        (one_of c.args.self.now.second c.args.self.now.generation s es keeps.front keeps.is_front f c.args.batch.now opens.0 opens.1 keeps.fits follows ends (quiet opens.1 opens.3))))
-        ((c.append.ensures.any_moment keeps.front f keeps.kept).before t.0 opens.0 le.0 opens.2);
-  };
-}
+returns-clause-any_moment g c s es f follows keeps =
+    let l = c.args.self.now in
+    let new = c.append.new.self.disk in
+    let leaves = c.append.ensures.any_moment keeps.front f keeps.kept in
+    let ends = EndsInOneOf keeps.front f c.args.batch.now in
+    let gives = GivesOneOf l.generation s es f c.args.batch.now in
+    let so = one_batch l.second l.generation s es keeps.front keeps.is_front f c.args.batch.now keeps.fits follows in
+    record {
+      any_moment = any_pair g.D.Disk l.file.disk new l.beside l.generation ends gives leaves l.second so (g.met.D.Disk.only_now l.beside) keeps.other;
+      quiet = record {
+        stays = λ t quiet. quiet;
+        adds = adds_pair g.D.Disk l.file.disk new l.beside l.generation ends gives leaves l.second so;
+      };
+    }
+
+pub returns-in_err-append-clause-goes_on : goal.returns-in_err-append-clause-goes_on
+returns-in_err-append-clause-goes_on g c =
+    let l = c.args.self.now in
+    record { generation_stays = refl; time = no_earlier g.D.Disk l.file.disk c.append.new.self.disk l.beside l.second c.append.ensures.time }
+
+pub returns-clause-goes_on : goal.returns-clause-goes_on
+returns-clause-goes_on g c =
+    let l = c.args.self.now in
+    record { generation_stays = refl; time = no_earlier g.D.Disk l.file.disk c.append.new.self.disk l.beside l.second c.append.ensures.time }
 
 pub returns-clause-done : goal.returns-clause-done
 returns-clause-done g c s es f follows keeps = record {
