@@ -70,7 +70,8 @@ impl<St: Store, J: Log<St>> Board<St, J> {
     /// A board on which nothing was run. Want of memory gives store and log back.
     pub fn new(alloc: Global, store: St, log: J) -> Result<Board<St, J>, (AllocError, St, J)>
         ensures given_back { IfErr result (λ e. (St.state e.1 ≡ St.state store) × (e.2 ≡ log)) }
-        ensures kept { IfOk result (λ b. b.kept ≡ new_kept (St.state store) (counted (J.faults log))) }
+        ensures kept { IfOk result
+            (λ b. b.kept ≡ new_kept (St.state store) (counted (J.faults log))) }
         ensures log { IfOk result (λ b. b.log ≡ log) }
     {
         match parts_of(alloc, &store) {
@@ -309,7 +310,8 @@ impl<St: Store, J: Log<St>> Board<St, J> {
     pub fn grant(&mut self, desk: &mut Desk<St>, stmt: &Stmt) -> Result<Grant, AllocError>
         requires agree { Agrees self.old.kept desk.old }
         ensures answer { IfOk result (λ r.
-            r ≡ grant_of (dataset_of self.old.kept.now) (holder_for self.old.kept desk.old stmt.now)) }
+            r ≡ grant_of (dataset_of self.old.kept.now)
+            (holder_for self.old.kept desk.old stmt.now)) }
         ensures log { self.new.log ≡ self.old.log }
         ensures rows { OnOk result (self.new.kept ≡ record self.old.kept {
           rows = rows_by

@@ -44,7 +44,8 @@ fn answer<St: Store, J: Log<St>>(
     core: &mut Core<St, J>,
     line: &[u8],
 ) -> Result<ReplyBytes, AllocError>
-    ensures bytes { IfOk result (λ v. AnswersLine J.faults J.Keeps J.generation J.moment J.opens_since
+    ensures bytes { IfOk result
+        (λ v. AnswersLine J.faults J.Keeps J.generation J.moment J.opens_since
         J.Quiet core.old core.new line.now v) }
     ensures err { OnErr result (RanAtMost J.faults J.Keeps J.generation J.moment J.opens_since
         J.Quiet core.old core.new line.now) }
@@ -69,7 +70,8 @@ fn run_line<St: Store, J: Log<St>, K: Sink>(
         J.opens_since J.Quiet core.old core.new line.now (K.written sink.old) (K.written sink.new) }
 
     // After want of memory the line was run, or it was not, and nothing of it was written.
-    ensures memory { IsErrOf result RunStop.Memory → (sink.new ≡ sink.old) × RanAtMost J.faults J.Keeps
+    ensures memory { IsErrOf result RunStop.Memory → (sink.new ≡ sink.old)
+        × RanAtMost J.faults J.Keeps
         J.generation J.moment J.opens_since J.Quiet core.old core.new line.now }
     ensures faults { CountsIf (IsErrOf result RunStop.Fault) K.faults sink.old sink.new }
     ensures stands { Stands core.new.kept }
@@ -89,7 +91,8 @@ pub fn run_script<St: Store, J: Log<St>, K: Sink>(
     sink: &mut K,
 ) -> Result<(), RunStop>
     ensures all { OnOk result (RunsAll J.faults J.Keeps J.generation J.moment J.opens_since J.Quiet
-        core.old core.new (lines_run (lines script.now)) (K.written sink.old) (K.written sink.new)) }
+        core.old core.new (lines_run (lines script.now)) (K.written sink.old)
+        (K.written sink.new)) }
 
     // A fault of the sink breaks off in the answer to a line, after which no line is run.
     ensures cut { IsErrOf result RunStop.Fault → RunsCut J.faults J.Keeps J.generation J.moment

@@ -236,10 +236,13 @@ fn grant_two<St: Store>(
     requires needs { HasNeeds (St.state store.now) branch
         (names_needs (dataset_of (St.state store.now)) (first.now ∷ second.now ∷ [])) tx.old }
     ensures keeps { OnOk result (KeepsWith (St.state store.now) branch
-        (names_needs (dataset_of (St.state store.now)) (first.now ∷ second.now ∷ [])) tx.old tx.new) }
-    ensures granted { IfOk result (λ o. o ≡ None → list_all (has_version tx.new) (first.now ∷ second.now ∷ []) ≡ true) }
+        (names_needs (dataset_of (St.state store.now)) (first.now ∷ second.now ∷ [])) tx.old
+        tx.new) }
+    ensures granted { IfOk result
+        (λ o. o ≡ None → list_all (has_version tx.new) (first.now ∷ second.now ∷ []) ≡ true) }
     ensures lacks { IfOk result (λ o. IfSome o (λ why.
-        lacking_of (dataset_of (St.state store.now)) branch (first.now ∷ second.now ∷ []) ≡ Some why)) }
+        lacking_of (dataset_of (St.state store.now)) branch (first.now ∷ second.now ∷ [])
+        ≡ Some why)) }
     ensures more { IsMore tx.old tx.new }
     ensures shown { AreAllOf (St.state store.now) tx.new }
 {
@@ -335,7 +338,8 @@ pub fn grant<St: Store>(
     ensures keeps { OnOk result (KeepsWith (St.state store.now) branch
         (needs_in (St.state store.now) branch tx.old stmt.now) tx.old tx.new) }
     ensures covered { IfOk result (λ o. o ≡ None → covers tx.new stmt.now ≡ true) }
-    ensures lacks { IfOk result (λ o. IfSome o (IsRefusedFor (St.state store.now) branch tx.old stmt.now)) }
+    ensures lacks { IfOk result
+        (λ o. IfSome o (IsRefusedFor (St.state store.now) branch tx.old stmt.now)) }
     ensures more { IsMore tx.old tx.new }
     ensures shown { AreAllOf (St.state store.now) tx.new }
 {

@@ -61,7 +61,8 @@ fn merge<St: Store>(
         r ≡ (acted_over (St.state store.now) branch tx.old (Stmt.Merge name.now prefer)).reply) }
     ensures tx { OnOk result (GoesOn (St.state store.now) branch
         (needs_in (St.state store.now) branch tx.old (Stmt.Merge name.now prefer))
-        (acted_over (St.state store.now) branch tx.old (Stmt.Merge name.now prefer)) tx.old tx.new) }
+        (acted_over (St.state store.now) branch tx.old (Stmt.Merge name.now prefer)) tx.old
+        tx.new) }
     ensures short { IfOk result (λ r. IsLong r → ⊥) }
     ensures shown { AreAllOf (St.state store.now) tx.new }
     ensures err { OnErr result (IsMore tx.old tx.new) }
