@@ -1,11 +1,11 @@
 -- What changes put, and the deltas of rows.
-use Rattle.std.proofs.Common.{◌≡◌, ◌⊎◌, inl, inr, ℕ, zero, suc, ◌+◌, ◌<◌, ◌≤◌, ◌==◌, Bool, true, false, List, [], ◌∷◌, ◌++◌, length, drop, get_or, Option, Some, None, refl, arith, ap, ◌∙◌, subst}
-use Rattle.std.proofs.lemmas.List.{get_or_append_left, get_or_push}
-use Rattle.std.proofs.lemmas.Bool.{cases_lt}
+use Rattle.std.proofs.Common.{◌≡◌, ◌⊎◌, inl, inr, ℕ, zero, suc, ◌+◌, ◌<◌, ◌≤◌, ◌==◌, ◌&&◌, nat_lt, not, cond, Bool, true, false, List, [], ◌∷◌, ◌++◌, length, drop, get_or, Option, Some, None, refl, arith, ap, sym, ◌∙◌, subst}
+use Rattle.std.proofs.lemmas.List.{get_or_append_left, get_or_push, get_or_past}
+use Rattle.std.proofs.lemmas.Bool.{cases_lt, lt-ltb, le-ltb}
 use Rattle.hybrid_view.specs.Live.{Piece, piece_at}
 use Rattle.plain_bits.specs.Truth.{differ as differ_bits}
 use Rattle.db_store.specs.Layout.{differ}
-use Rattle.hybrid_view.proofs.DeltaLemmas.{slots_by}
+use Rattle.hybrid_view.proofs.DeltaLemmas.{slots_by, slots_stop}
 use Rattle.db_value.specs.Value.{Value}
 use Rattle.db_value.specs.declared.record.Record.{Record}
 use Rattle.db_value.specs.declared.entry.Change.{Change}
@@ -13,11 +13,12 @@ use Rattle.plain_bits.specs.Truth.{bit_of}
 use Rattle.db_store.specs.Layout.{slots_where}
 use Rattle.db_store.specs.LayoutGrowth.{put_before, puts}
 use Rattle.hybrid_view.specs.Deltas.{slots_of}
+use Rattle.hybrid_view.specs.Struck.{struck}
 use Rattle.hybrid_view.specs.RowPlaces.{spot_before, spots}
 use Rattle.commit_history.specs.Runs.{Next, next_of}
 use Rattle.bit_rows.specs.Short.{shortest}
 use Rattle.bit_rows.specs.Rows.{KeptRow, no_next, next_at, kept_row_at}
-use Rattle.bit_rows.specs.Differences.{difference_of}
+use Rattle.bit_rows.specs.Differences.{difference_of, IsNext}
 
 put_first : (b : Bool) (key : ℕ) (f : Option (List Value)) (rest : List Record) → put_before b key f rest ≡ put_before b key f [] ++ rest
 put_first true key (Some f) rest = refl
@@ -65,3 +66,23 @@ differences_more rows ps qs ns x i n f e j h = by (cases_lt j i)
     by (inr g) =
         let same : i ≡ j = omega (arith, h, g) in
         subst (λ k. next_at (ns ++ x ∷ []) k ≡ next_of (kept_row_at rows k).deltas (shortest (difference_of (piece_at ps k) (piece_at qs k)))) same (get_or_push ns x no_next i n ∙ e)
+
+-- ---- a part that stays as it was
+
+still_bit : (p q : List Bool) (n slot : ℕ) (struck_here : Bool) → length p ≤ n → struck_here ≡ false → bit_of q slot ≡ cond (nat_lt slot n) (bit_of p slot && not struck_here) (nat_lt slot n) → differ (bit_of p slot) (bit_of q slot) ≡ false
+still_bit p q n slot s h free e = ap (differ (bit_of p slot)) (e ∙ ap (λ b. cond (nat_lt slot n) (bit_of p slot && not b) (nat_lt slot n)) free) ∙ elim (cases_lt slot n) [
+  | inl lt ↦ ap (λ b. differ (bit_of p slot) (cond b (bit_of p slot && true) b)) (lt-ltb slot n lt) ∙ same (bit_of p slot)
+  | inr le ↦ ap (λ b. differ (bit_of p slot) (cond b (bit_of p slot && true) b)) (le-ltb slot n le) ∙ ap (λ b. differ b false) (get_or_past p slot false (omega (arith, h, le)))
+]
+  where
+    same : (b : Bool) → differ b (b && true) ≡ false
+    same true = refl
+    same false = refl
+
+pub still : (places : List (Option (ℕ × ℕ))) (p q : Piece) → IsNext places p q → length p.bits ≤ length p.rows.records → length p.rows.records ≡ length q.rows.records → ((slot : ℕ) → struck places p.segment slot ≡ false) → difference_of p q ≡ []
+still places p q next covered same free =
+    let z : length q.bits ≡ 0 + length q.bits = omega arith in
+    ap (slots_where (λ slot. differ (bit_of p.bits slot) (bit_of q.bits slot))) z
+    ∙ slots_stop (λ slot. differ (bit_of p.bits slot) (bit_of q.bits slot)) 0 (length q.bits)
+    (λ slot h. still_bit p.bits q.bits (length p.rows.records) slot (struck places p.segment slot) covered (free slot)
+    (next.1.1.bits slot ∙ ap (λ n. cond (nat_lt slot (length p.rows.records)) (bit_of p.bits slot && not (struck places p.segment slot)) (nat_lt slot n)) (sym same)))

@@ -1,9 +1,9 @@
 -- The slots of a bitmap, one after another, and the shortest bitmap of them.
-use Rattle.std.proofs.Common.{◌≡◌, ◌⊎◌, inl, inr, ℕ, zero, suc, ◌+◌, ◌-◌, ◌<◌, ◌≤◌, ◌==◌, ◌&&◌, Bool, true, false, cond, List, [], ◌∷◌, ◌++◌, length, map, refl, arith, ap, sym, ◌∙◌, zero-add}
+use Rattle.std.proofs.Common.{◌≡◌, ◌⊎◌, inl, inr, ℕ, zero, suc, ◌+◌, ◌-◌, ◌<◌, ◌≤◌, ◌==◌, ◌&&◌, Bool, true, false, cond, List, [], ◌∷◌, ◌++◌, length, map, take, refl, arith, ap, sym, ◌∙◌, zero-add, ext_get_or}
 use Rattle.std.proofs.lemmas.Bool.{cases_lt, cases_Bool, eq-eqb, ne_eqb}
-use Rattle.std.proofs.lemmas.List.{append-nil, map-append}
+use Rattle.std.proofs.lemmas.List.{append-nil, map-append, length-take-le, get_or-take}
 use Rattle.std.proofs.lemmas.List.FromFn.{get_or-map-range_with_len, length-map-range_with_len}
-use Rattle.plain_bits.specs.Truth.{bit_of, differ}
+use Rattle.plain_bits.specs.Truth.{bit_of, differ, IsClearFrom}
 use Rattle.commit_history.specs.Sparse.{is_flipped, flipped}
 use Rattle.commit_history.proofs.Places.{flipped-push}
 use Rattle.db_store.specs.Layout.{slots_where}
@@ -115,3 +115,18 @@ shorts_push ds p n e =
     ap (map shortest) (map-append slots_of ds (d ∷ []))
     ∙ map-append shortest (map slots_of ds) (slots_of d ∷ [])
     ∙ (λ i. e i ++ shortest (short_slots p n i) ∷ [])
+
+-- it is the front of a bitmap that ends with the last true place
+pub short_front : (bits : List Bool) (end : ℕ) → end ≤ length bits → IsClearFrom bits end → (0 < end → bit_of bits (end - 1) ≡ true) → take end bits ≡ shortest (slots_of bits)
+short_front bits zero h clear last = sym (ap shortest (slots_rest bits 0 h clear))
+short_front bits (suc n) h clear last =
+    let one : suc n ≡ n + 1 = omega arith in
+    let back : n ≡ suc n - 1 = omega arith in
+    let whole : slots_of bits ≡ slots_where (bit_of bits) (suc n) = slots_rest bits (suc n) h clear in
+    let more : slots_of bits ≡ slots_where (bit_of bits) n ++ n ∷ [] = whole ∙ ap (slots_where (bit_of bits)) one ∙ slots_more (bit_of bits) n ∙ ap (λ b. slots_where (bit_of bits) n ++ cond b (n ∷ []) []) (ap (bit_of bits) back ∙ last (omega arith)) in
+    let end : end_of (slots_of bits) ≡ suc n = ap end_of more ∙ end_push (slots_where (bit_of bits) n) n in
+    let long = length-map-range_with_len (is_flipped (slots_where (bit_of bits) (suc n))) 0 (suc n) in
+    let front = length-take-le (suc n) bits h in
+    sym (ap (λ m. flipped m (slots_of bits)) end ∙ ap (flipped (suc n)) whole ∙ ext_get_or false (flipped (suc n) (slots_where (bit_of bits) (suc n))) (take (suc n) bits) (long ∙ sym front) (λ k lt.
+    let l : k < suc n = omega (arith, lt, long) in
+    bit_flipped (suc n) (slots_where (bit_of bits) (suc n)) k l ∙ flipped_in (bit_of bits) (suc n) k l ∙ sym (get_or-take (suc n) bits k false l)))

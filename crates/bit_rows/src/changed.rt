@@ -1,15 +1,18 @@
 //! What a commit changes of one relation of a branch.
-ghost use Rattle.std.specs.Prelude.{◌≡◌, ℕ, ◌+◌, ◌-◌, ◌<◌, ◌≤◌, ◌^◌, ◌++◌, ◌∷◌, [], length, IfOk, OnOk};
+ghost use Rattle.std.specs.Prelude.{◌≡◌, ℕ, ◌+◌, ◌-◌, ◌<◌, ◌≤◌, ◌^◌, ◌++◌, ◌∷◌, [], true, length, IfOk, OnOk};
 ghost use Rattle.db_store.specs.LayoutGrowth.{puts};
-ghost use Rattle.hybrid_view.specs.Live.{piece_at};
+ghost use Rattle.commit_history.specs.Runs.{next_of};
 ghost use Rattle.hybrid_view.specs.RowPlaces.{spots};
 ghost use Rattle.bit_rows.specs.Rows.{kept_row_at};
-ghost use Rattle.bit_rows.specs.Differences.{AreDifferences};
+ghost use Rattle.bit_rows.specs.Short.{shortest};
+ghost use Rattle.bit_rows.specs.Differences.{difference_of, IsNext, AreNext, AreDifferences};
 
-use crate::rows::{BitRows, NextDeltas};
+use crate::rows::{BitRow, BitRows, NextDeltas};
+use commit_history::NextDelta;
 use db_value::{Change, ListOf, Record, Records};
-use hybrid_view::{LiveRelation, difference};
+use hybrid_view::{LivePart, LiveRelation, difference, strikes};
 use key_index::{SpotChange, SpotChanges};
+use plain_bits::Bits;
 use std::alloc::{AllocError, Global};
 
 // The record that a change puts into a relation, if it does.
@@ -94,23 +97,58 @@ pub fn spots_of(
     Ok(SpotChanges::of(all))
 }
 
-/// What is ready for the rows of a relation, by what it had before a commit and what it has after it.
+// Is a part after a commit as it was before, by its slots and the places that the commit touched?
+fn is_still(old: &LivePart, new: &LivePart, places: &[Option<(u32, u32)>]) -> bool
+    requires next { IsNext places.now old.now new.now }
+    requires covered { length old.now.bits ≤ length old.now.rows.records }
+    ensures { result ≡ true → difference_of old.now new.now ≡ [] }
+{
+    if old.slots() != new.slots() {
+        return false;
+    }
+    !strikes(old.segment(), places)
+}
+
+// What is ready for a row, by its part before a commit that touched some places, and after it. A part that
+// stays as it was isn't read.
+fn next_delta(
+    alloc: Global,
+    row: &BitRow,
+    old: &LivePart,
+    new: &LivePart,
+    places: &[Option<(u32, u32)>],
+) -> Result<NextDelta, AllocError>
+    requires next { IsNext places.now old.now new.now }
+    requires covered { length old.now.bits ≤ length old.now.rows.records }
+    requires few { length row.now.deltas < 2 ^ 32 - 1 }
+    ensures { IfOk result (λ next. next ≡ next_of row.now.deltas (shortest (difference_of old.now new.now))) }
+{
+    if is_still(old, new, places) {
+        return row.ready(alloc, &Bits::new(alloc));
+    }
+    let bits = difference(old.bits(), new.bits())?;
+    row.ready(alloc, &bits)
+}
+
+/// What is ready for the rows of a relation, by what it had before a commit that touched some places, and what
+/// it has after it.
 pub fn next_deltas(
     alloc: Global,
     rows: &BitRows,
     old: &LiveRelation,
     new: &LiveRelation,
+    places: &[Option<(u32, u32)>],
 ) -> Result<NextDeltas, AllocError>
     requires count { length old.now.pieces ≡ length rows.now }
-    requires after { length new.now.pieces ≡ length rows.now }
-    requires longer { (i : ℕ) → i < length rows.now → length (piece_at old.now.pieces i).bits ≤ length (piece_at new.now.pieces i).bits }
+    requires next { AreNext places.now old.now.pieces new.now.pieces }
     requires few { (i : ℕ) → i < length rows.now → length (kept_row_at rows.now i).deltas < 2 ^ 32 - 1 }
     ensures { IfOk result (λ nexts. AreDifferences rows.now nexts old.now.pieces new.now.pieces) }
 {
+    old.told();
     let mut nexts = Vec::new(alloc);
     for index in 0..old.parts() {
-        let bits = difference(old.part(index).bits(), new.part(index).bits())?;
-        let next = rows.row(index as usize).ready(alloc, &bits)?;
+        let row = rows.row(index as usize);
+        let next = next_delta(alloc, row, old.part(index), new.part(index), places)?;
         nexts.push(next)?;
     }
     Ok(NextDeltas::of(nexts))

@@ -1,6 +1,7 @@
 //! The rows of a branch: for each of its segments the history of its bits.
-ghost use Rattle.std.specs.Prelude.{◌≡◌, ℕ, ◌+◌, ◌-◌, ◌<◌, ◌≤◌, ◌^◌, ◌++◌, ◌∷◌, [], length, IfOk, OnOk};
+ghost use Rattle.std.specs.Prelude.{◌≡◌, ℕ, ◌+◌, ◌-◌, ◌<◌, ◌≤◌, ◌^◌, ◌++◌, ◌∷◌, [], true, length, IfOk, OnOk};
 ghost use Rattle.std.specs.List.{All};
+ghost use Rattle.plain_bits.specs.Truth.{bit_of, IsClearFrom};
 ghost use Rattle.commit_history.specs.Runs.{next_of};
 ghost use Rattle.hybrid_view.specs.Deltas.{slots_of};
 ghost use Rattle.bit_rows.specs.Short.{end_of, shortest};
@@ -41,6 +42,30 @@ pub fn short_delta(alloc: Global, bits: &Bits) -> Result<Delta, AllocError>
     Delta::of_places(alloc, end, &places)
 }
 
+// Where the true places of a bitmap end.
+fn end_in(bits: &Bits) -> u32
+    ensures within { result ≤ length bits.now }
+    ensures clear { IsClearFrom bits.now result }
+    ensures last { 0 < result → bit_of bits.now (result - 1) ≡ true }
+{
+    let mut end = bits.len();
+    while end > 0 {
+        if bits.get(end - 1) {
+            return end;
+        }
+        end -= 1;
+    }
+    0
+}
+
+// The same delta, made word by word: where many places are true.
+fn whole_delta(alloc: Global, bits: &Bits) -> Result<Delta, AllocError>
+    ensures { IfOk result (λ delta. delta ≡ shortest (slots_of bits.now)) }
+{
+    let end = end_in(bits);
+    Delta::of_front(alloc, bits, end)
+}
+
 /// What a branch has of a segment: the position at which the row begins, and what each position from
 /// there on changes in its bits.
 #[derive(Drop)]
@@ -66,7 +91,7 @@ impl BitRow {
         ensures { IfOk result (λ row. row ≡ record { segment = segment; from = from; deltas = shortest (slots_of bits.now) ∷ [] }) }
     {
         let mut deltas = History::new(alloc);
-        let next = deltas.ready_delta(short_delta(alloc, bits)?)?;
+        let next = deltas.ready_delta(whole_delta(alloc, bits)?)?;
         deltas.push(next);
         Ok(BitRow {
             segment,

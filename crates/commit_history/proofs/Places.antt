@@ -1,17 +1,15 @@
 -- The words of a delta, place by place.
-use Rattle.std.proofs.Common.{◌≡◌, ℕ, zero, suc, ◌+◌, ◌-◌, ◌*◌, ◌/◌, ◌%◌, ◌^◌, ◌<◌, ◌≤◌, ◌==◌, ◌&&◌, eqb, Bool, true, false, List, [], ◌∷◌, ◌++◌, length, map, take, get_or, set, bit_xor, refl, sym, ap, ap₂, ◌∙◌, subst, ⊎_elim, ◌⊎◌, inl, inr, arith, ext_get_or, get_or-set_same, get_or-set_other, length-set}
-use Rattle.std.specs.Int.{bit_at}
-use Rattle.std.specs.List.{All, range_with_len}
+use Rattle.std.proofs.Common.{◌≡◌, ℕ, zero, suc, ◌+◌, ◌*◌, ◌/◌, ◌%◌, ◌^◌, ◌<◌, ◌≤◌, ◌==◌, ◌&&◌, eqb, Bool, true, false, List, [], ◌∷◌, ◌++◌, length, take, get_or, set, bit_xor, refl, sym, ap, ap₂, ◌∙◌, subst, ⊎_elim, arith, ext_get_or, get_or-set_same, get_or-set_other, length-set}
+use Rattle.std.specs.List.{All}
 use Rattle.std.proofs.lemmas.Bool.{cases_lt, cases_eq, eq-eqb, ne_eqb, eqb-false}
-use Rattle.std.proofs.lemmas.List.{get_or_past, take_more}
-use Rattle.std.proofs.lemmas.List.Elements.{All-push}
+use Rattle.std.proofs.lemmas.List.{get_or_past, take_more, length-take-le, get_or-take}
 use Rattle.std.proofs.lemmas.List.FromFn.{length-map-range_with_len, get_or-map-range_with_len}
 use Rattle.std.proofs.lemmas.Nat.Bits.{bit_at-pow_same, bit_at-pow_other}
-use Rattle.plain_bits.specs.Truth.{bit_of, differ}
+use Rattle.plain_bits.specs.Truth.{bit_of, differ, IsClearFrom}
 use Rattle.plain_bits.specs.Word.{is_set, word_bit, FitsAt}
 use Rattle.plain_bits.specs.Gate.{xor_acts}
 use Rattle.commit_history.specs.declared.delta.DeltaWord.{DeltaWord}
-use Rattle.commit_history.specs.Sparse.{is_flipped, flipped, bit_in, values_of, IsWithin}
+use Rattle.commit_history.specs.Sparse.{is_flipped, bit_in, values_of, IsWithin}
 use Rattle.commit_history.proofs.Exclusive.{differ_comm, differ_assoc, differ_false, differ_front}
 
 pub length-values_of : (len : ℕ) (words : List DeltaWord) → length (values_of len words) ≡ len
@@ -51,12 +49,13 @@ bit-values_of len words place all =
     (λ (past : len ≤ place). let n = length-values_of len words in get_or_past (values_of len words) place false (omega (arith, n, past)) ∙ sym (all_past len words place all past))
     (cases_lt place len)
 
--- words with the bits of a list stand for it
-pub stands_for : (words : List DeltaWord) (bits : List Bool) → ((place : ℕ) → bit_in words place ≡ bit_of bits place) → values_of (length bits) words ≡ bits
-stands_for words bits same =
-    let n = length-values_of (length bits) words in
-    ext_get_or false (values_of (length bits) words) bits n (λ k lt.
-    get_or-map-range_with_len (bit_in words) 0 (length bits) k k false (omega (arith, n, lt)) (omega arith) ∙ same k)
+-- words with the bits of a list that are true in a front alone stand for that front
+pub stands_front : (words : List DeltaWord) (bits : List Bool) (len : ℕ) → len ≤ length bits → ((place : ℕ) → bit_in words place ≡ bit_of bits place) → values_of len words ≡ take len bits
+stands_front words bits len h same =
+    let n = length-values_of len words in
+    let m = length-take-le len bits h in
+    ext_get_or false (values_of len words) (take len bits) (n ∙ sym m) (λ k lt.
+    get_or-map-range_with_len (bit_in words) 0 len k k false (omega (arith, n, lt)) (omega arith) ∙ same k ∙ sym (get_or-take len bits k false (omega (arith, n, lt))))
 
 -- one word has changed
 bit_in-set : (words : List DeltaWord) (i at new bit : ℕ) (w : DeltaWord) (place : ℕ) → i < length words → get_or words i w ≡ w → w.at ≡ at
@@ -181,9 +180,9 @@ above_next words new at word above next place high =
     let away : place / 64 ≡ at → ⊥ = λ (e : place / 64 ≡ at). absurd (omega (arith, e, high)) in
     next place ∙ ap₂ differ (elsewhere at (place / 64) (is_set word (place % 64)) away) (above place (omega (arith, high)))
 
--- a word of a bitmap is within it
-pub word_fits : (bits : List Bool) (at word : ℕ) → ((place : ℕ) → place < 64 → is_set word place ≡ bit_of bits (64 * at + place)) → FitsAt at word (length bits)
-word_fits bits at word has r low h =
-    ⊎_elim (λ (lt : 64 * at + r < length bits). lt)
-    (λ (past : length bits ≤ 64 * at + r). absurd (not_true (sym (get_or_past bits (64 * at + r) false past) ∙ sym (has r low) ∙ h)))
-    (cases_lt (64 * at + r) (length bits))
+-- a word of a bitmap is within a length from which on no place is true
+pub word_fits : (bits : List Bool) (at word len : ℕ) → ((place : ℕ) → place < 64 → is_set word place ≡ bit_of bits (64 * at + place)) → IsClearFrom bits len → FitsAt at word len
+word_fits bits at word len has clear r low h =
+    ⊎_elim (λ (lt : 64 * at + r < len). lt)
+    (λ (past : len ≤ 64 * at + r). absurd (not_true (sym (clear (64 * at + r) past) ∙ sym (has r low) ∙ h)))
+    (cases_lt (64 * at + r) len)

@@ -1,8 +1,8 @@
 //! What one commit changes in a bitmap.
-ghost use Rattle.std.specs.Prelude.{◌≡◌, ℕ, ◌*◌, ◌<◌, ◌/◌, ◌≤◌, ◌==◌, length, set, OnOk, OnErr, IfOk, IfSome};
+ghost use Rattle.std.specs.Prelude.{◌≡◌, ℕ, ◌*◌, ◌<◌, ◌/◌, ◌≤◌, ◌==◌, length, set, take, OnOk, OnErr, IfOk, IfSome};
 ghost use Rattle.std.specs.List.{All};
 ghost use Rattle.std.proofs.Common.{get_or};
-ghost use Rattle.plain_bits.specs.Truth.{bit_of, differ};
+ghost use Rattle.plain_bits.specs.Truth.{bit_of, differ, IsClearFrom};
 ghost use Rattle.plain_bits.specs.Word.{word_bit, FitsAt};
 ghost use Rattle.commit_history.specs.Combined.{xor_of};
 ghost use Rattle.commit_history.specs.Sparse.{flipped, is_flipped, bit_in, IsWithin};
@@ -58,14 +58,15 @@ fn push_word(words: &mut Vec<DeltaWord>, at: u32, word: u64) -> Result<(), Alloc
     Ok(())
 }
 
-// The words of a bitmap that are not zero.
-fn words_in(alloc: Global, bits: &Bits) -> Result<Vec<DeltaWord>, AllocError>
+// The words of a bitmap that are not zero, where no place is true from `len` on.
+fn words_in(alloc: Global, bits: &Bits, len: u32) -> Result<Vec<DeltaWord>, AllocError>
+    requires { IsClearFrom bits.now len }
     ensures bits { IfOk result (λ words. (place : ℕ)
         → bit_in words.items place ≡ bit_of bits.now place) }
-    ensures within { IfOk result (λ words. All (IsWithin (length bits.now)) words.items) }
+    ensures within { IfOk result (λ words. All (IsWithin len) words.items) }
 {
     let mut words = Vec::new(alloc);
-    for at in 0..bits.len().div_ceil(WORD_BITS) {
+    for at in 0..len.div_ceil(WORD_BITS) {
         push_word(&mut words, at, bits.word(at))?;
     }
     words.shrink_to_fit();
@@ -139,8 +140,16 @@ impl Delta {
     pub fn of_bits(alloc: Global, bits: &Bits) -> Result<Delta, AllocError>
         ensures { IfOk result (λ delta. delta ≡ bits.now) }
     {
-        let len = bits.len();
-        let words = words_in(alloc, bits)?;
+        Delta::of_front(alloc, bits, bits.len())
+    }
+
+    /// The same, cut to the first `len` places: no later one is true.
+    pub fn of_front(alloc: Global, bits: &Bits, len: u32) -> Result<Delta, AllocError>
+        requires within { len ≤ length bits.now }
+        requires clear { IsClearFrom bits.now len }
+        ensures { IfOk result (λ delta. delta ≡ take len bits.now) }
+    {
+        let words = words_in(alloc, bits, len)?;
         Ok(Delta { len, words })
     }
 

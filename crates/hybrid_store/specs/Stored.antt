@@ -1,5 +1,5 @@
 -- What holds of what a store keeps.
-use Rattle.std.specs.Prelude.{◌≡◌, ℕ, ◌+◌, ◌*◌, ◌-◌, ◌<◌, ◌≤◌, ◌==◌, ◌^◌, List, length, map}
+use Rattle.std.specs.Prelude.{◌≡◌, ℕ, ◌+◌, ◌*◌, ◌-◌, ◌<◌, ◌≤◌, ◌==◌, ◌^◌, List, Option, length, map}
 use Rattle.std.proofs.Common.{get_or}
 use Rattle.db_value.specs.Relations.{columns_at}
 use Rattle.db_value.specs.declared.schema.Relation.{Relation}
@@ -74,9 +74,13 @@ HasRoom more k = length k.seconds + more ≤ k.room
 abbrev pub Widens : KeptLane → KeptLane → Type 0
 Widens old new = (new ≡ record old { room = new.room }) × (old.room ≤ new.room)
 
+-- where the keys stand that changes touch in a relation of a branch
+abbrev pub touched_in : KeptLane → List Change → ℕ → List (Option (ℕ × ℕ))
+touched_in k cs r = touched_places (lived_at k.head r).pieces cs r
+
 -- what a branch has of a relation after changes, by what it had
 abbrev pub IsNextAt : KeptLane → List Change → ℕ → Lived → Type 0
-IsNextAt k cs r l = AllNext (touched_places (lived_at k.head r).pieces cs r) (head_of_lane k r) (puts cs r) (lived_at k.head r).pieces l.pieces
+IsNextAt k cs r l = AllNext (touched_in k cs r) (head_of_lane k r) (puts cs r) (lived_at k.head r).pieces l.pieces
 
 -- the same in the first relations
 abbrev pub AllNextIn : KeptLane → List Change → ℕ → List Lived → Type 0

@@ -19,7 +19,7 @@ ghost use Rattle.hybrid_store.specs.Lanes.{segment_of};
 ghost use Rattle.bit_rows.specs.Segments.{list_at};
 ghost use Rattle.hybrid_store.specs.Ready.{AreLast};
 ghost use Rattle.bit_rows.specs.Differences.{AreDifferences};
-ghost use Rattle.hybrid_store.specs.Stored.{head_of_lane, AllDifferences, AllNextIn, AreSmall, IsNextAt};
+ghost use Rattle.hybrid_store.specs.Stored.{head_of_lane, touched_in, AllDifferences, AllNextIn, AreSmall, IsNextAt};
 
 use crate::store::HybridStore;
 use bit_rows::{KeptSegments, NextDeltas, next_deltas, rows_put, spots_of};
@@ -87,15 +87,32 @@ impl HybridStore {
         count_after(self.lane(branch).head(), relation, changes) as u32
     }
 
-    // What a relation of a branch has after the changes of a commit that fits.
+    // Where the keys stand that changes of a commit that fits touch in a relation.
+    fn touched(
+        &self,
+        branch: u32,
+        relation: u8,
+        changes: &[Change],
+    ) -> Result<Vec<Option<(u32, u32)>>, AllocError>
+        requires relation { relation < length self.now.schema }
+        requires fits { (second : Option VersionPlace) × (fits (dataset_in self.now) (Commit branch second changes.now) ≡ true) }
+        ensures { IfOk result (λ v. v.items ≡ touched_in (get_or self.now.lanes.items branch no_kept) changes.now relation) }
+    {
+        self.lived(branch, relation)
+            .places_of(self.alloc, changes, relation)
+    }
+
+    // What a relation of a branch has after the changes of a commit that fits, which touch these places.
     fn relation_after(
         &self,
         branch: u32,
         relation: u8,
         changes: &[Change],
+        places: &[Option<(u32, u32)>],
     ) -> Result<LiveRelation, AllocError>
         requires relation { relation < length self.now.schema }
         requires fits { (second : Option VersionPlace) × (fits (dataset_in self.now) (Commit branch second changes.now) ≡ true) }
+        requires places { places.now ≡ touched_in (get_or self.now.lanes.items branch no_kept) changes.now relation }
         ensures next { IfOk result (λ l. IsNextAt (get_or self.now.lanes.items branch no_kept) changes.now relation l) }
         ensures small { IfOk result AreSmall }
     {
@@ -107,7 +124,7 @@ impl HybridStore {
         let rows = rows_put(self.alloc, changes, relation)?;
         let spots = spots_of(self.alloc, head, from, changes, relation)?;
         let count = self.count_with(branch, relation, changes);
-        let new = old.after(self.alloc, relation, changes, head, &rows, &spots, count)?;
+        let new = old.after(self.alloc, places, head, &rows, &spots, count)?;
         Ok(new)
     }
 
@@ -117,9 +134,11 @@ impl HybridStore {
         branch: u32,
         relation: u8,
         changes: &[Change],
+        places: &[Option<(u32, u32)>],
     ) -> Result<Arc<LiveRelation>, AllocError>
         requires relation { relation < length self.now.schema }
         requires fits { (second : Option VersionPlace) × (fits (dataset_in self.now) (Commit branch second changes.now) ≡ true) }
+        requires places { places.now ≡ touched_in (get_or self.now.lanes.items branch no_kept) changes.now relation }
         ensures next { IfOk result (λ l. IsNextAt (get_or self.now.lanes.items branch no_kept) changes.now relation (arc_value l)) }
         ensures small { IfOk result (λ l. AreSmall (arc_value l)) }
         ensures lived { IfOk result (λ l. IsLived (arc_value l)) }
@@ -129,7 +148,7 @@ impl HybridStore {
             let live = self.lane(branch).head().share_relation(relation)?;
             return Ok(live);
         }
-        let live = self.relation_after(branch, relation, changes)?;
+        let live = self.relation_after(branch, relation, changes, places)?;
         live.told();
         let live = Arc::new(self.alloc, live)?;
         Ok(live)
@@ -141,15 +160,18 @@ impl HybridStore {
         branch: u32,
         relation: u8,
         changes: &[Change],
+        places: &[Option<(u32, u32)>],
         live: &LiveRelation,
     ) -> Result<NextDeltas, AllocError>
         requires relation { relation < length self.now.schema }
         requires fits { (second : Option VersionPlace) × (fits (dataset_in self.now) (Commit branch second changes.now) ≡ true) }
+        requires places { places.now ≡ touched_in (get_or self.now.lanes.items branch no_kept) changes.now relation }
         requires next { IsNextAt (get_or self.now.lanes.items branch no_kept) changes.now relation live.now }
         ensures { IfOk result (λ nexts. AreDifferences (kept_rows (get_or self.now.lanes.items branch no_kept) relation) nexts (lived_at (get_or self.now.lanes.items branch no_kept).head relation).pieces live.now.pieces) }
     {
         let rows = self.lane(branch).rows(relation);
-        let nexts = next_deltas(self.alloc, rows, self.lived(branch, relation), live)?;
+        let old = self.lived(branch, relation);
+        let nexts = next_deltas(self.alloc, rows, old, live, places)?;
         Ok(nexts)
     }
 
@@ -170,8 +192,9 @@ impl HybridStore {
     {
         let mut relations = Vec::new(self.alloc);
         for relation in 0..self.width() {
-            let live = self.relation_with(branch, relation, changes)?;
-            let nexts = self.deltas_for(branch, relation, changes, &live)?;
+            let places = self.touched(branch, relation, changes)?;
+            let live = self.relation_with(branch, relation, changes, &places)?;
+            let nexts = self.deltas_for(branch, relation, changes, &places, &live)?;
             deltas.push(nexts)?;
             relations.push(live)?;
         }

@@ -21,7 +21,7 @@ mod part;
 mod spots;
 mod view;
 
-pub use commit::{cleared, difference, put_bits};
+pub use commit::{cleared, difference, put_bits, strikes};
 pub use live::LiveRelation;
 pub use part::LivePart;
 pub use view::{HybridView, LiveTable};

@@ -231,13 +231,12 @@ impl LiveRelation {
         Ok(parts)
     }
 
-    /// What there is of the relation after a commit: the records that the changes put are behind
+    /// What there is of the relation after a commit that touches these places: the new records are behind
     /// those of the head, the changes of the index are told by the caller, and so is the count.
     pub fn after(
         &self,
         alloc: Global,
-        relation: u8,
-        changes: &[Change],
+        places: &[Option<(u32, u32)>],
         head: u32,
         rows: &Records,
         spots: &SpotChanges,
@@ -246,16 +245,13 @@ impl LiveRelation {
         requires fields { EachOf head self.now.pieces (λ p. AreWide p.rows.fields rows.now) }
         requires few { EachOf head self.now.pieces (λ p.
             length p.rows.records + length rows.now < 2 ^ 32) }
-        requires lived { (qs : List Piece) →
-            AllNext (touched_places self.now.pieces changes.now relation) head rows.now self.now.pieces qs →
+        requires lived { (qs : List Piece) → AllNext places.now head rows.now self.now.pieces qs →
             IsLived (record { pieces = qs; places = with_changes self.now.places spots.now; count = count }) }
-        ensures parts { IfOk result (λ l.
-            AllNext (touched_places self.now.pieces changes.now relation) head rows.now self.now.pieces l.pieces) }
+        ensures parts { IfOk result (λ l. AllNext places.now head rows.now self.now.pieces l.pieces) }
         ensures places { IfOk result (λ l. l.places ≡ with_changes self.now.places spots.now) }
         ensures count { IfOk result (λ l. l.count ≡ count) }
     {
-        let places = self.places_of(alloc, changes, relation)?;
-        let parts = self.parts_after(alloc, &places, head, rows)?;
+        let parts = self.parts_after(alloc, places, head, rows)?;
         let index = self.index_with(alloc, spots)?;
         Ok(LiveRelation::of(parts, index, count))
     }

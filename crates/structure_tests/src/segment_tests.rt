@@ -151,3 +151,62 @@ fn leaves_the_segment_before_as_it_was(rt: HostRuntime) -> Result<(), Fail> {
     }
     Ok(())
 }
+
+// A record of one field for each key.
+fn rows_with(alloc: Global, keys: &[u64]) -> Result<Records, AllocError>
+    ensures wide { IfOk result (λ rows. AreWide 1 rows) }
+    ensures count { IfOk result (λ rows. length rows ≡ length keys.now) }
+{
+    let mut rows = Vec::with_capacity(alloc, keys.len())?;
+    for key in keys {
+        rows.push(row_of(*key, 1))?;
+    }
+    Ok(Records::of(rows))
+}
+
+// Seven records with these keys, of which four come first.
+fn seven(alloc: Global) -> Result<Segment, AllocError> {
+    let segment = Segment::new(alloc, 1)?;
+    let segment = segment.extended(&rows_with(alloc, &[5, 7, 5, 5])?)?;
+    let segment = segment.extended(&rows_with(alloc, &[9, 7, 5])?)?;
+    Ok(segment)
+}
+
+#[test]
+#[rattlefmt::skip]
+fn tells_the_last_slot_of_each_key(rt: HostRuntime) -> Result<(), Fail> {
+    let segment = seven(rt.alloc())?;
+    let cases = [
+        // key  last slot
+        (5,     Some(6)),
+        (7,     Some(5)),
+        (9,     Some(4)),
+        (1,     None),
+    ];
+    for (key, last) in cases {
+        assert_eq!(rt; segment.last(key), last, "key {key}");
+    }
+    Ok(())
+}
+
+#[test]
+#[rattlefmt::skip]
+fn tells_the_slot_before_another(rt: HostRuntime) -> Result<(), Fail> {
+    let segment = seven(rt.alloc())?;
+    let cases = [
+        // slot  the one before with its key
+        (0,      None),
+        (1,      None),
+        (2,      Some(0)),
+        (3,      Some(2)),
+        (4,      None),
+        (5,      Some(1)),
+        (6,      Some(3)),
+    ];
+    for (slot, before) in cases {
+        if slot < segment.len() {
+            assert_eq!(rt; segment.before(slot), before, "slot {slot}");
+        }
+    }
+    Ok(())
+}

@@ -1,4 +1,4 @@
-use Rattle.std.proofs.Common.{◌≡◌, ℕ, ◌*◌, ◌<◌, ◌≤◌, false, length}
+use Rattle.std.proofs.Common.{◌≡◌, ℕ, ◌*◌, ◌<◌, ◌≤◌, false}
 use Rattle.std.specs.List.{All}
 use Rattle.plain_bits.specs.Truth.{bit_of}
 use Rattle.commit_history.specs.Sparse.{bit_in, IsWithin}
@@ -9,5 +9,5 @@ abbrev pub invariant-loop-at : goal.invariant-loop-at
 invariant-loop-at l = record {
   below : (place : ℕ) → place < 64 * l.at → bit_in l.words.items place ≡ bit_of l.bits place;
   above : (place : ℕ) → 64 * l.at ≤ place → bit_in l.words.items place ≡ false;
-  within : All (IsWithin (length l.bits)) l.words.items;
+  within : All (IsWithin l.len) l.words.items;
 }

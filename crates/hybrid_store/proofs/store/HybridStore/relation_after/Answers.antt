@@ -1,4 +1,4 @@
-use Rattle.std.proofs.Common.{◌≡◌, ◌<◌, ◌+◌, ◌^◌, ◌∙◌, sym, subst, arith, length, get_or, ℕ, List, map}
+use Rattle.std.proofs.Common.{◌≡◌, ◌<◌, ◌+◌, ◌^◌, ◌∙◌, sym, subst, arith, length, get_or, ℕ, List, Option, map}
 use Rattle.std.specs.FinMap.{len}
 use Rattle.segment.specs.Pages.{AreWide}
 use Rattle.db_value.specs.declared.record.Record.{Record}
@@ -7,13 +7,12 @@ use Rattle.key_index.specs.Places.{with_changes}
 use Rattle.db_store.specs.Counts.{after}
 use Rattle.db_store.specs.Layout.{records_at}
 use Rattle.db_store.specs.LayoutGrowth.{puts}
-use Rattle.hybrid_view.specs.Struck.{touched_places}
 use Rattle.hybrid_view.specs.RowPlaces.{AllNext, spots}
-use Rattle.hybrid_view.specs.Live.{Lived, piece_at, lived_at, contents_in, IsLived}
+use Rattle.hybrid_view.specs.Live.{Lived, Piece, piece_at, lived_at, contents_in, IsLived}
 use Rattle.bit_rows.specs.Kept.{KeptLane, no_kept}
 use Rattle.hybrid_store.specs.Lanes.{segment_of}
 use Rattle.bit_rows.specs.Segments.{list_at}
-use Rattle.hybrid_store.specs.Stored.{head_of_lane}
+use Rattle.hybrid_store.specs.Stored.{head_of_lane, touched_in}
 use Rattle.hybrid_store.proofs.CommitLemmas.{put_fields, put_room, lived_after, small_after, branch_there}
 use Rattle.hybrid_store.proofs.store.HybridStore.relation_after.Goals as goal
 
@@ -40,6 +39,8 @@ pub after-requires-clause-lived : goal.after-requires-clause-lived
 after-requires-clause-lived c =
     let s = c.args.self.now in
     let b = branch_there s.schema s.lanes.items s.order.items s.segments.items c.args.branch c.requires.fits.0 c.args.changes.now c.requires.fits.1 in
+    let k : KeptLane = get_or s.lanes.items c.args.branch no_kept in
+    let places : List (Option (ℕ × ℕ)) = touched_in k c.args.changes.now c.args.relation in
     let hd = c.head_of-head.ensures.segment in
     let sp : c.in_ok-spots.spots ≡ spots (head_of_lane (get_or s.lanes.items c.args.branch no_kept) c.args.relation) (length (records_at (map segment_of (list_at s.segments.items c.args.relation)) (head_of_lane (get_or s.lanes.items c.args.branch no_kept) c.args.relation))) c.args.changes.now c.args.relation =
     c.in_ok-spots.ensures ∙ (λ i. spots (hd i) (c.head_of-head.ensures.records i) c.args.changes.now c.args.relation) in
@@ -50,17 +51,21 @@ after-requires-clause-lived c =
     (subst (λ (xs : List SpotChange). IsLived (record { pieces = qs; places = with_changes c.lived-old.result.now.places xs; count = keys })) (sym sp)
     (subst (λ (l : Lived). IsLived (record { pieces = qs; places = with_changes l.places changed; count = keys })) (sym c.lived-old.ensures)
     (lived_after s.schema s.lanes.items s.order.items s.segments.items c.args.branch c.args.relation c.requires.fits.0 c.args.changes.now b c.requires.relation s.stored s.laid c.requires.fits.1 qs
-    (subst (λ (l : Lived). AllNext (touched_places l.pieces c.args.changes.now c.args.relation) (head_of_lane (get_or s.lanes.items c.args.branch no_kept) c.args.relation) (puts c.args.changes.now c.args.relation) l.pieces qs) c.lived-old.ensures
-    (subst (λ h. AllNext (touched_places c.lived-old.result.now.pieces c.args.changes.now c.args.relation) h (puts c.args.changes.now c.args.relation) c.lived-old.result.now.pieces qs) hd
-    (subst (λ (rows : List Record). AllNext (touched_places c.lived-old.result.now.pieces c.args.changes.now c.args.relation) c.head_of-head.result.0 rows c.lived-old.result.now.pieces qs) c.in_ok-rows.ensures next))))))
+    (subst (λ (l : Lived). AllNext places (head_of_lane k c.args.relation) (puts c.args.changes.now c.args.relation) l.pieces qs) c.lived-old.ensures
+    (subst (λ h. AllNext places h (puts c.args.changes.now c.args.relation) c.lived-old.result.now.pieces qs) hd
+    (subst (λ (rows : List Record). AllNext places c.head_of-head.result.0 rows c.lived-old.result.now.pieces qs) c.in_ok-rows.ensures
+    (subst (λ (os : List (Option (ℕ × ℕ))). AllNext os c.head_of-head.result.0 c.in_ok-rows.rows c.lived-old.result.now.pieces qs) c.requires.places next)))))))
 
 pub returns-clause-next : goal.returns-clause-next
 returns-clause-next c =
     let s = c.args.self.now in
     let k : KeptLane = get_or s.lanes.items c.args.branch no_kept in
-    subst (λ (l : Lived). AllNext (touched_places l.pieces c.args.changes.now c.args.relation) (head_of_lane k c.args.relation) (puts c.args.changes.now c.args.relation) l.pieces c.in_ok-new.new.pieces) c.lived-old.ensures
-    (subst (λ h. AllNext (touched_places c.lived-old.result.now.pieces c.args.changes.now c.args.relation) h (puts c.args.changes.now c.args.relation) c.lived-old.result.now.pieces c.in_ok-new.new.pieces) c.head_of-head.ensures.segment
-    (subst (λ (rows : List Record). AllNext (touched_places c.lived-old.result.now.pieces c.args.changes.now c.args.relation) c.head_of-head.result.0 rows c.lived-old.result.now.pieces c.in_ok-new.new.pieces) c.in_ok-rows.ensures c.in_ok-new.ensures.parts))
+    let places : List (Option (ℕ × ℕ)) = touched_in k c.args.changes.now c.args.relation in
+    let qs : List Piece = c.in_ok-new.new.pieces in
+    subst (λ (l : Lived). AllNext places (head_of_lane k c.args.relation) (puts c.args.changes.now c.args.relation) l.pieces qs) c.lived-old.ensures
+    (subst (λ h. AllNext places h (puts c.args.changes.now c.args.relation) c.lived-old.result.now.pieces qs) c.head_of-head.ensures.segment
+    (subst (λ (rows : List Record). AllNext places c.head_of-head.result.0 rows c.lived-old.result.now.pieces qs) c.in_ok-rows.ensures
+    (subst (λ (os : List (Option (ℕ × ℕ))). AllNext os c.head_of-head.result.0 c.in_ok-rows.rows c.lived-old.result.now.pieces qs) c.requires.places c.in_ok-new.ensures.parts)))
 
 pub returns-clause-small : goal.returns-clause-small
 returns-clause-small c =
