@@ -54,7 +54,8 @@ fn put_spot(
     relation: u8,
 ) -> Result<u32, AllocError>
     requires { next < 2 ^ 32 - 1 }
-    ensures spots { OnOk result (all.new.items ≡ all.old.items ++ spots head next (change.now ∷ []) relation) }
+    ensures spots { OnOk result
+        (all.new.items ≡ all.old.items ++ spots head next (change.now ∷ []) relation) }
     ensures next { IfOk result (λ n. n ≡ next + length (puts (change.now ∷ []) relation)) }
     ensures more { IfOk result (λ n. n ≤ next + 1) }
 {
@@ -121,7 +122,8 @@ fn next_delta(
     requires next { IsNext places.now old.now new.now }
     requires covered { length old.now.bits ≤ length old.now.rows.records }
     requires few { length row.now.deltas < 2 ^ 32 - 1 }
-    ensures { IfOk result (λ next. next ≡ next_of row.now.deltas (shortest (difference_of old.now new.now))) }
+    ensures { IfOk result (λ next. next
+        ≡ next_of row.now.deltas (shortest (difference_of old.now new.now))) }
 {
     if is_still(old, new, places) {
         return row.ready(alloc, &Bits::new(alloc));
@@ -141,7 +143,8 @@ pub fn next_deltas(
 ) -> Result<NextDeltas, AllocError>
     requires count { length old.now.pieces ≡ length rows.now }
     requires next { AreNext places.now old.now.pieces new.now.pieces }
-    requires few { (i : ℕ) → i < length rows.now → length (kept_row_at rows.now i).deltas < 2 ^ 32 - 1 }
+    requires few { (i : ℕ) → i < length rows.now
+        → length (kept_row_at rows.now i).deltas < 2 ^ 32 - 1 }
     ensures { IfOk result (λ nexts. AreDifferences rows.now nexts old.now.pieces new.now.pieces) }
 {
     old.told();

@@ -129,7 +129,10 @@ impl KeptSegments {
     /// Gives a segment these records.
     pub fn put(&mut self, segment: u32, records: Arc<Segment>)
         requires { segment < length self.old.all }
-        ensures { self.new ≡ record self.old { all = set self.old.all segment (record (kept_at self.old.all segment) { rows = arc_value records }) } }
+        ensures { self.new ≡ record self.old {
+          all = set self.old.all segment
+              (record (kept_at self.old.all segment) { rows = arc_value records });
+        } }
     {
         self.items[segment as usize].records = records;
     }

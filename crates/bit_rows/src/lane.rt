@@ -40,13 +40,19 @@ impl Model for HybridLane {
 // Adds to each row of the relations the delta that is ready for it.
 fn push_all(rows: &mut Vec<BitRows>, mut deltas: Vec<NextDeltas>)
     requires count { length deltas.items ≡ length rows.old.items }
-    requires counts { (r : ℕ) → r < length rows.old.items → length (nexts_at deltas.items r) ≡ length (get_or rows.old.items r []) }
+    requires counts { (r : ℕ) → r < length rows.old.items
+        → length (nexts_at deltas.items r) ≡ length (get_or rows.old.items r []) }
     requires ready { (r i : ℕ) → r < length rows.old.items → i < length (get_or rows.old.items r [])
-        → next_at (nexts_at deltas.items r) i ≡ next_of (kept_row_at (get_or rows.old.items r []) i).deltas (next_at (nexts_at deltas.items r) i).delta.item }
+        → next_at (nexts_at deltas.items r) i
+        ≡ next_of (kept_row_at (get_or rows.old.items r []) i).deltas
+        (next_at (nexts_at deltas.items r) i).delta.item }
     ensures count { length rows.new.items ≡ length rows.old.items }
-    ensures counts { (r : ℕ) → r < length rows.old.items → length (get_or rows.new.items r []) ≡ length (get_or rows.old.items r []) }
+    ensures counts { (r : ℕ) → r < length rows.old.items
+        → length (get_or rows.new.items r []) ≡ length (get_or rows.old.items r []) }
     ensures each { (r i : ℕ) → r < length rows.old.items → i < length (get_or rows.old.items r [])
-        → kept_row_at (get_or rows.new.items r []) i ≡ pushed_row (kept_row_at (get_or rows.old.items r []) i) (next_at (nexts_at deltas.items r) i) }
+        → kept_row_at (get_or rows.new.items r []) i
+        ≡ pushed_row (kept_row_at (get_or rows.old.items r []) i)
+        (next_at (nexts_at deltas.items r) i) }
 {
     while let Some(nexts) = deltas.pop() {
         let relation = deltas.len();
@@ -57,9 +63,12 @@ fn push_all(rows: &mut Vec<BitRows>, mut deltas: Vec<NextDeltas>)
 // Adds to the rows of each relation one more.
 fn add_rows(rows: &mut Vec<BitRows>, mut more: Vec<MoreRows>)
     requires count { length more.items ≡ length rows.old.items }
-    requires room { (r : ℕ) → r < length rows.old.items → length (get_or rows.old.items r []) < (more_at more.items r).room }
+    requires room { (r : ℕ) → r < length rows.old.items
+        → length (get_or rows.old.items r []) < (more_at more.items r).room }
     ensures count { length rows.new.items ≡ length rows.old.items }
-    ensures each { (r : ℕ) → r < length rows.old.items → get_or rows.new.items r [] ≡ get_or rows.old.items r [] ++ (more_at more.items r).row ∷ [] }
+    ensures each { (r : ℕ) → r < length rows.old.items
+        → get_or rows.new.items r []
+        ≡ get_or rows.old.items r [] ++ (more_at more.items r).row ∷ [] }
 {
     while let Some(next) = more.pop() {
         let relation = more.len();
@@ -77,7 +86,16 @@ impl HybridLane {
         rows: Vec<BitRows>,
         head: HybridView,
     ) -> Result<HybridLane, AllocError>
-        ensures lane { IfOk result (λ l. l ≡ record { name = name; origin = origin; base = base; seconds = None ∷ []; rows = rows.items; head = arc_value head.table; room = l.room }) }
+        ensures lane { IfOk result
+            (λ l. l ≡ record {
+              name = name;
+              origin = origin;
+              base = base;
+              seconds = None ∷ [];
+              rows = rows.items;
+              head = arc_value head.table;
+              room = l.room;
+            }) }
         ensures room { IfOk result (λ l. 1 ≤ l.room) }
     {
         let mut seconds = Vec::new(alloc);
@@ -156,14 +174,24 @@ impl HybridLane {
     pub fn push(&mut self, second: Option<VersionPlace>, deltas: Vec<NextDeltas>, head: HybridView)
         requires room { length self.old.seconds < self.old.room }
         requires count { length deltas.items ≡ length self.old.rows }
-        requires counts { (r : ℕ) → r < length self.old.rows → length (nexts_at deltas.items r) ≡ length (kept_rows self.old r) }
+        requires counts { (r : ℕ) → r < length self.old.rows
+            → length (nexts_at deltas.items r) ≡ length (kept_rows self.old r) }
         requires ready { (r i : ℕ) → r < length self.old.rows → i < length (kept_rows self.old r)
-            → next_at (nexts_at deltas.items r) i ≡ next_of (kept_row_at (kept_rows self.old r) i).deltas (next_at (nexts_at deltas.items r) i).delta.item }
-        ensures lane { self.new ≡ record self.old { seconds = self.old.seconds ++ second ∷ []; rows = self.new.rows; head = arc_value head.table } }
+            → next_at (nexts_at deltas.items r) i
+            ≡ next_of (kept_row_at (kept_rows self.old r) i).deltas
+            (next_at (nexts_at deltas.items r) i).delta.item }
+        ensures lane { self.new ≡ record self.old {
+          seconds = self.old.seconds ++ second ∷ [];
+          rows = self.new.rows;
+          head = arc_value head.table;
+        } }
         ensures count { length self.new.rows ≡ length self.old.rows }
-        ensures counts { (r : ℕ) → r < length self.old.rows → length (kept_rows self.new r) ≡ length (kept_rows self.old r) }
+        ensures counts { (r : ℕ) → r < length self.old.rows
+            → length (kept_rows self.new r) ≡ length (kept_rows self.old r) }
         ensures each { (r i : ℕ) → r < length self.old.rows → i < length (kept_rows self.old r)
-            → kept_row_at (kept_rows self.new r) i ≡ pushed_row (kept_row_at (kept_rows self.old r) i) (next_at (nexts_at deltas.items r) i) }
+            → kept_row_at (kept_rows self.new r) i
+            ≡ pushed_row (kept_row_at (kept_rows self.old r) i)
+            (next_at (nexts_at deltas.items r) i) }
     {
         push_all(&mut self.rows, deltas);
         self.seconds.push_reserved(second);
@@ -174,10 +202,13 @@ impl HybridLane {
     /// memory.
     pub fn turn(&mut self, more: Vec<MoreRows>, head: HybridView)
         requires count { length more.items ≡ length self.old.rows }
-        requires room { (r : ℕ) → r < length self.old.rows → length (kept_rows self.old r) < (more_at more.items r).room }
-        ensures lane { self.new ≡ record self.old { rows = self.new.rows; head = arc_value head.table } }
+        requires room { (r : ℕ) → r < length self.old.rows
+            → length (kept_rows self.old r) < (more_at more.items r).room }
+        ensures lane { self.new ≡ record self.old
+            { rows = self.new.rows; head = arc_value head.table } }
         ensures count { length self.new.rows ≡ length self.old.rows }
-        ensures each { (r : ℕ) → r < length self.old.rows → kept_rows self.new r ≡ kept_rows self.old r ++ (more_at more.items r).row ∷ [] }
+        ensures each { (r : ℕ) → r < length self.old.rows
+            → kept_rows self.new r ≡ kept_rows self.old r ++ (more_at more.items r).row ∷ [] }
     {
         add_rows(&mut self.rows, more);
         self.head = head;

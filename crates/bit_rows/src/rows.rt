@@ -88,7 +88,12 @@ impl Model for BitRow {
 impl BitRow {
     /// The row of a segment from a position on, at which these bits are true.
     pub fn begin(alloc: Global, segment: u32, from: u32, bits: &Bits) -> Result<BitRow, AllocError>
-        ensures { IfOk result (λ row. row ≡ record { segment = segment; from = from; deltas = shortest (slots_of bits.now) ∷ [] }) }
+        ensures { IfOk result (λ row. row
+            ≡ record {
+              segment = segment;
+              from = from;
+              deltas = shortest (slots_of bits.now) ∷ [];
+            }) }
     {
         let mut deltas = History::new(alloc);
         let next = deltas.ready_delta(whole_delta(alloc, bits)?)?;
@@ -124,7 +129,8 @@ impl BitRow {
     /// Takes all the memory that a push of the true places of a bitmap needs.
     pub fn ready(&self, alloc: Global, bits: &Bits) -> Result<NextDelta, AllocError>
         requires { length self.now.deltas < 2 ^ 32 - 1 }
-        ensures { IfOk result (λ next. next ≡ next_of self.now.deltas (shortest (slots_of bits.now))) }
+        ensures { IfOk result (λ next. next
+            ≡ next_of self.now.deltas (shortest (slots_of bits.now))) }
     {
         let delta = short_delta(alloc, bits)?;
         self.deltas.ready_delta(delta)
@@ -180,9 +186,13 @@ impl NextDeltas {
 // Adds to each row the delta that is ready for it.
 fn push_each(rows: &mut Vec<BitRow>, mut nexts: Vec<NextDelta>)
     requires count { length nexts.items ≡ length rows.old.items }
-    requires ready { (i : ℕ) → i < length rows.old.items → next_at nexts.items i ≡ next_of (kept_row_at rows.old.items i).deltas (next_at nexts.items i).delta.item }
+    requires ready { (i : ℕ) → i < length rows.old.items
+        → next_at nexts.items i ≡ next_of (kept_row_at rows.old.items i).deltas
+        (next_at nexts.items i).delta.item }
     ensures count { length rows.new.items ≡ length rows.old.items }
-    ensures each { (i : ℕ) → i < length rows.old.items → kept_row_at rows.new.items i ≡ pushed_row (kept_row_at rows.old.items i) (next_at nexts.items i) }
+    ensures each { (i : ℕ) → i < length rows.old.items
+        → kept_row_at rows.new.items i
+        ≡ pushed_row (kept_row_at rows.old.items i) (next_at nexts.items i) }
 {
     // From the last one on, so that each can be moved out of the list.
     while let Some(next) = nexts.pop() {
@@ -243,9 +253,12 @@ impl BitRows {
     /// Adds to each row the delta that is ready for it. It takes no memory.
     pub fn push(&mut self, nexts: NextDeltas)
         requires count { length nexts ≡ length self.old }
-        requires ready { (i : ℕ) → i < length self.old → next_at nexts i ≡ next_of (kept_row_at self.old i).deltas (next_at nexts i).delta.item }
+        requires ready { (i : ℕ) → i < length self.old
+            → next_at nexts i ≡ next_of (kept_row_at self.old i).deltas
+            (next_at nexts i).delta.item }
         ensures count { length self.new ≡ length self.old }
-        ensures each { (i : ℕ) → i < length self.old → kept_row_at self.new i ≡ pushed_row (kept_row_at self.old i) (next_at nexts i) }
+        ensures each { (i : ℕ) → i < length self.old
+            → kept_row_at self.new i ≡ pushed_row (kept_row_at self.old i) (next_at nexts i) }
     {
         push_each(&mut self.items, nexts.items);
     }

@@ -23,7 +23,8 @@ fn part_seen(
     requires few { position < 2 ^ 32 - 1 }
     requires index { index < length rows.now }
     requires there { IsThere kept.now.all position (kept_row_at rows.now index) }
-    ensures part { IfOk result (λ p. p ≡ piece_of_row kept.now.all position (kept_row_at rows.now index)) }
+    ensures part { IfOk result
+        (λ p. p ≡ piece_of_row kept.now.all position (kept_row_at rows.now index)) }
     ensures small { IfOk result IsSmall }
 {
     let row = rows.row(index);
@@ -42,7 +43,8 @@ fn parts_seen(
     position: u32,
 ) -> Result<Vec<LivePart>, AllocError>
     requires few { position < 2 ^ 32 - 1 }
-    requires there { (i : ℕ) → i < length rows.now → IsThere kept.now.all position (kept_row_at rows.now i) }
+    requires there { (i : ℕ) → i < length rows.now
+        → IsThere kept.now.all position (kept_row_at rows.now i) }
     ensures parts { IfOk result (λ v. v.items ≡ pieces_seen kept.now.all position rows.now) }
     ensures small { IfOk result (λ v. All IsSmall v.items) }
 {
@@ -77,7 +79,8 @@ pub fn relation_seen(
     position: u32,
 ) -> Result<LiveRelation, AllocError>
     requires few { position < 2 ^ 32 - 1 }
-    requires there { (i : ℕ) → i < length rows.now → IsThere kept.now.all position (kept_row_at rows.now i) }
+    requires there { (i : ℕ) → i < length rows.now
+        → IsThere kept.now.all position (kept_row_at rows.now i) }
     requires lived { IsLived (lived_seen kept.now.all position rows.now) }
     requires keys { (lived_seen kept.now.all position rows.now).count < 2 ^ 32 }
     ensures seen { IfOk result (λ l. l ≡ lived_seen kept.now.all position rows.now) }

@@ -19,7 +19,8 @@ fn put_part(
     segment: u32,
     part: &LivePart,
 ) -> Result<(), AllocError>
-    ensures { OnOk result (lives.new.items ≡ lives.old.items ++ live_of_piece name segment part.now) }
+    ensures { OnOk result (lives.new.items
+        ≡ lives.old.items ++ live_of_piece name segment part.now) }
 {
     if part.segment() != segment {
         return Ok(());
@@ -39,7 +40,8 @@ fn put_lane(
     segment: u32,
 ) -> Result<(), AllocError>
     requires { relation < length lane.now.head }
-    ensures { OnOk result (lives.new.items ≡ lives.old.items ++ lives_by relation segment lane.now) }
+    ensures { OnOk result (lives.new.items
+        ≡ lives.old.items ++ lives_by relation segment lane.now) }
 {
     let live = lane.head().relation(relation);
     for index in 0..live.parts() {
@@ -55,7 +57,8 @@ fn lives_told(
     relation: u8,
     segment: u32,
 ) -> Result<Lives, AllocError>
-    requires { (b : ℕ) → b < length lanes.now → relation < length (get_or lanes.now b no_kept).head }
+    requires { (b : ℕ) → b < length lanes.now
+        → relation < length (get_or lanes.now b no_kept).head }
     ensures { IfOk result (λ lives. lives ≡ lives_among relation segment lanes.now) }
 {
     let mut lives = Vec::new(alloc);
@@ -112,7 +115,8 @@ fn put_lines(
     kept: &KeptSegments,
 ) -> Result<(), AllocError>
     requires { CanTell lanes.now relation kept.now.all }
-    ensures { OnOk result (lines.new.items ≡ lines.old.items ++ lines_told name lanes.now relation kept.now.all) }
+    ensures { OnOk result (lines.new.items
+        ≡ lines.old.items ++ lines_told name lanes.now relation kept.now.all) }
 {
     for index in 0..kept.count() {
         let line = told(alloc, name, lanes, relation, kept, index)?;

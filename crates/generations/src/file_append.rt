@@ -38,7 +38,8 @@ impl<D: Disk> File<D> {
         ensures done { OnOk result ((a : List ℕ) (f : Option (List ℕ)) → IsKeptIn self.old a f →
             IsKeptIn self.new (with_record a batch.now) None) }
         ensures failed { OnErr result ((a : List ℕ) (f : Option (List ℕ)) → IsKeptIn self.old a f →
-            (g : Option (List ℕ)) × ((g ≡ None) ⊎ (g ≡ f) ⊎ (g ≡ Some batch.now)) × IsKeptIn self.new a g) }
+            (g : Option (List ℕ)) × ((g ≡ None) ⊎ (g ≡ f) ⊎ (g ≡ Some batch.now))
+            × IsKeptIn self.new a g) }
         ensures time { D.moment self.old.disk ≤ D.moment self.new.disk }
         ensures later { D.faults self.old.disk ≤ D.faults self.new.disk }
         ensures cause { OnErr result (Rose (D.faults self.old.disk) (D.faults self.new.disk)) }

@@ -81,8 +81,10 @@ fn open_one<D: Disk>(
     header: &Header,
 ) -> Result<Opened, ReadStop>
     requires long { HEADER ≤ header.now.len }
-    requires says { (s : List ℕ) → D.seen (disk_of second disks.old) ≡ Some s → IsHeaderOf (Some header.now) s }
-    ensures told { IfOk result (λ o. (s : List ℕ) → D.seen (disk_of second disks.old) ≡ Some s → IsOpened o s) }
+    requires says { (s : List ℕ) → D.seen (disk_of second disks.old) ≡ Some s
+        → IsHeaderOf (Some header.now) s }
+    ensures told { IfOk result
+        (λ o. (s : List ℕ) → D.seen (disk_of second disks.old) ≡ Some s → IsOpened o s) }
     ensures clean { IfOk result (λ o. IsCleanOpened o) }
     ensures reads { BothOnlyRead D.Disk disks.old disks.new }
     ensures cause { IsErrOf result ReadStop.DiskFault → RoseInOne D.Disk disks.old disks.new }
@@ -97,7 +99,8 @@ fn open_one<D: Disk>(
 pub fn look<D: Disk>(alloc: Global, disks: &mut Pair<D>) -> Result<Looked, OpenStop>
     ensures told { IfOk result (λ l. IfTold D.Disk disks.old (IsLooked l)) }
     ensures clean { IfOk result (λ l. l.journal.clean ≡ true) }
-    ensures shut { IfOk result (λ l. InAll (D.image (disk_of l.second disks.new)) (IsShut l.journal.at)) }
+    ensures shut { IfOk result
+        (λ l. InAll (D.image (disk_of l.second disks.new)) (IsShut l.journal.at)) }
     ensures durable { OnOk result (AreAllOnDisk D.Disk disks.new) }
 
     ensures stop { IfErr result (λ e. IfTold D.Disk disks.old (IsOpenStop e)) }

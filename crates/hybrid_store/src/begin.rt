@@ -32,7 +32,8 @@ fn begun_relation(
     own: &Arc<Segment>,
 ) -> Result<Arc<LiveRelation>, AllocError>
     requires { IsLived (lived_begun live.now (head_piece segment (arc_value own.now))) }
-    ensures { IfOk result (λ l. arc_value l ≡ lived_begun live.now (head_piece segment (arc_value own.now))) }
+    ensures { IfOk result (λ l. arc_value l
+        ≡ lived_begun live.now (head_piece segment (arc_value own.now))) }
 {
     let live = live.begun(alloc, empty_part(alloc, segment, own)?)?;
     let live = Arc::new(alloc, live)?;
@@ -47,7 +48,8 @@ fn turned_relation(
     own: &Arc<Segment>,
 ) -> Result<Arc<LiveRelation>, AllocError>
     requires { IsLived (lived_turned live.now (head_piece segment (arc_value own.now))) }
-    ensures { IfOk result (λ l. arc_value l ≡ lived_turned live.now (head_piece segment (arc_value own.now))) }
+    ensures { IfOk result (λ l. arc_value l
+        ≡ lived_turned live.now (head_piece segment (arc_value own.now))) }
 {
     let live = live.with_head(alloc, empty_part(alloc, segment, own)?)?;
     let live = Arc::new(alloc, live)?;
@@ -86,8 +88,11 @@ impl HybridStore {
         requires more { more ≤ 1 }
         requires view { length view.now ≡ length self.now.schema }
         requires heads { length heads.now ≡ length self.now.schema }
-        requires lived { (r : ℕ) → r < length self.now.schema → IsLived (begun_in self.now.segments.items more (map arc_value heads.now) view.now r) }
-        ensures { IfOk result (λ t. AreBegun self.now.segments.items more (map arc_value heads.now) view.now (length self.now.schema) rows.new.items t) }
+        requires lived { (r : ℕ) → r < length self.now.schema
+            → IsLived (begun_in self.now.segments.items more (map arc_value heads.now) view.now r) }
+        ensures { IfOk result (λ t.
+            AreBegun self.now.segments.items more (map arc_value heads.now) view.now
+            (length self.now.schema) rows.new.items t) }
     {
         let mut relations = Vec::new(self.alloc);
         for relation in 0..self.width() {
@@ -111,8 +116,13 @@ impl HybridStore {
         requires none { more.old.items ≡ [] }
         requires branch { branch < length self.now.lanes.items }
         requires heads { length heads.now ≡ length self.now.schema }
-        requires lived { (r : ℕ) → r < length self.now.schema → IsLived (turned_in self.now.segments.items (map arc_value heads.now) (get_or self.now.lanes.items branch no_kept).head r) }
-        ensures { IfOk result (λ t. AreTurned self.now.segments.items (get_or self.now.lanes.items branch no_kept) (length (get_or self.now.lanes.items branch no_kept).seconds - 1) (map arc_value heads.now) (length self.now.schema) more.new.items t) }
+        requires lived { (r : ℕ) → r < length self.now.schema
+            → IsLived (turned_in self.now.segments.items (map arc_value heads.now)
+            (get_or self.now.lanes.items branch no_kept).head r) }
+        ensures { IfOk result (λ t.
+            AreTurned self.now.segments.items (get_or self.now.lanes.items branch no_kept)
+            (length (get_or self.now.lanes.items branch no_kept).seconds - 1)
+            (map arc_value heads.now) (length self.now.schema) more.new.items t) }
     {
         let mut relations = Vec::new(self.alloc);
         for relation in 0..self.width() {

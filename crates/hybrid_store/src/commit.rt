@@ -60,9 +60,14 @@ impl HybridStore {
     fn head_of(&self, branch: u32, relation: u8) -> (u32, u32)
         requires branch { branch < length self.now.lanes.items }
         requires relation { relation < length self.now.schema }
-        requires fits { (second : Option VersionPlace) × ((changes : List Change) × (fits (dataset_in self.now) (Commit branch second changes) ≡ true)) }
-        ensures segment { result.0 ≡ head_of_lane (get_or self.now.lanes.items branch no_kept) relation }
-        ensures records { result.1 ≡ length (records_at (map segment_of (list_at self.now.segments.items relation)) (head_of_lane (get_or self.now.lanes.items branch no_kept) relation)) }
+        requires fits { (second : Option VersionPlace)
+            × ((changes : List Change)
+            × (fits (dataset_in self.now) (Commit branch second changes) ≡ true)) }
+        ensures segment { result.0
+            ≡ head_of_lane (get_or self.now.lanes.items branch no_kept) relation }
+        ensures records { result.1
+            ≡ length (records_at (map segment_of (list_at self.now.segments.items relation))
+            (head_of_lane (get_or self.now.lanes.items branch no_kept) relation)) }
     {
         let head = self.lane(branch).rows(relation).head();
         let kept = &self.list(relation).as_slice()[head as usize];
@@ -81,8 +86,11 @@ impl HybridStore {
     // How many keys a relation has after changes of a commit that fits.
     fn count_with(&self, branch: u32, relation: u8, changes: &[Change]) -> u32
         requires relation { relation < length self.now.schema }
-        requires fits { (second : Option VersionPlace) × (fits (dataset_in self.now) (Commit branch second changes.now) ≡ true) }
-        ensures { result ≡ len (after relation (contents_in (lived_at (get_or self.now.lanes.items branch no_kept).head relation)) changes.now) }
+        requires fits { (second : Option VersionPlace)
+            × (fits (dataset_in self.now) (Commit branch second changes.now) ≡ true) }
+        ensures { result ≡ len (after relation
+            (contents_in (lived_at (get_or self.now.lanes.items branch no_kept).head relation))
+            changes.now) }
     {
         count_after(self.lane(branch).head(), relation, changes) as u32
     }
@@ -95,8 +103,10 @@ impl HybridStore {
         changes: &[Change],
     ) -> Result<Vec<Option<(u32, u32)>>, AllocError>
         requires relation { relation < length self.now.schema }
-        requires fits { (second : Option VersionPlace) × (fits (dataset_in self.now) (Commit branch second changes.now) ≡ true) }
-        ensures { IfOk result (λ v. v.items ≡ touched_in (get_or self.now.lanes.items branch no_kept) changes.now relation) }
+        requires fits { (second : Option VersionPlace)
+            × (fits (dataset_in self.now) (Commit branch second changes.now) ≡ true) }
+        ensures { IfOk result (λ v. v.items
+            ≡ touched_in (get_or self.now.lanes.items branch no_kept) changes.now relation) }
     {
         self.lived(branch, relation)
             .places_of(self.alloc, changes, relation)
@@ -111,9 +121,12 @@ impl HybridStore {
         places: &[Option<(u32, u32)>],
     ) -> Result<LiveRelation, AllocError>
         requires relation { relation < length self.now.schema }
-        requires fits { (second : Option VersionPlace) × (fits (dataset_in self.now) (Commit branch second changes.now) ≡ true) }
-        requires places { places.now ≡ touched_in (get_or self.now.lanes.items branch no_kept) changes.now relation }
-        ensures next { IfOk result (λ l. IsNextAt (get_or self.now.lanes.items branch no_kept) changes.now relation l) }
+        requires fits { (second : Option VersionPlace)
+            × (fits (dataset_in self.now) (Commit branch second changes.now) ≡ true) }
+        requires places { places.now
+            ≡ touched_in (get_or self.now.lanes.items branch no_kept) changes.now relation }
+        ensures next { IfOk result
+            (λ l. IsNextAt (get_or self.now.lanes.items branch no_kept) changes.now relation l) }
         ensures small { IfOk result AreSmall }
     {
         let (head, from) = self.head_of(branch, relation);
@@ -137,9 +150,13 @@ impl HybridStore {
         places: &[Option<(u32, u32)>],
     ) -> Result<Arc<LiveRelation>, AllocError>
         requires relation { relation < length self.now.schema }
-        requires fits { (second : Option VersionPlace) × (fits (dataset_in self.now) (Commit branch second changes.now) ≡ true) }
-        requires places { places.now ≡ touched_in (get_or self.now.lanes.items branch no_kept) changes.now relation }
-        ensures next { IfOk result (λ l. IsNextAt (get_or self.now.lanes.items branch no_kept) changes.now relation (arc_value l)) }
+        requires fits { (second : Option VersionPlace)
+            × (fits (dataset_in self.now) (Commit branch second changes.now) ≡ true) }
+        requires places { places.now
+            ≡ touched_in (get_or self.now.lanes.items branch no_kept) changes.now relation }
+        ensures next { IfOk result
+            (λ l. IsNextAt (get_or self.now.lanes.items branch no_kept) changes.now relation
+            (arc_value l)) }
         ensures small { IfOk result (λ l. AreSmall (arc_value l)) }
         ensures lived { IfOk result (λ l. IsLived (arc_value l)) }
     {
@@ -164,10 +181,16 @@ impl HybridStore {
         live: &LiveRelation,
     ) -> Result<NextDeltas, AllocError>
         requires relation { relation < length self.now.schema }
-        requires fits { (second : Option VersionPlace) × (fits (dataset_in self.now) (Commit branch second changes.now) ≡ true) }
-        requires places { places.now ≡ touched_in (get_or self.now.lanes.items branch no_kept) changes.now relation }
-        requires next { IsNextAt (get_or self.now.lanes.items branch no_kept) changes.now relation live.now }
-        ensures { IfOk result (λ nexts. AreDifferences (kept_rows (get_or self.now.lanes.items branch no_kept) relation) nexts (lived_at (get_or self.now.lanes.items branch no_kept).head relation).pieces live.now.pieces) }
+        requires fits { (second : Option VersionPlace)
+            × (fits (dataset_in self.now) (Commit branch second changes.now) ≡ true) }
+        requires places { places.now
+            ≡ touched_in (get_or self.now.lanes.items branch no_kept) changes.now relation }
+        requires next { IsNextAt (get_or self.now.lanes.items branch no_kept) changes.now relation
+            live.now }
+        ensures { IfOk result (λ nexts.
+            AreDifferences (kept_rows (get_or self.now.lanes.items branch no_kept) relation) nexts
+            (lived_at (get_or self.now.lanes.items branch no_kept).head relation).pieces
+            live.now.pieces) }
     {
         let rows = self.lane(branch).rows(relation);
         let old = self.lived(branch, relation);
@@ -182,13 +205,19 @@ impl HybridStore {
         changes: &[Change],
         deltas: &mut Vec<NextDeltas>,
     ) -> Result<LiveTable, AllocError>
-        requires fits { (second : Option VersionPlace) × (fits (dataset_in self.now) (Commit branch second changes.now) ≡ true) }
+        requires fits { (second : Option VersionPlace)
+            × (fits (dataset_in self.now) (Commit branch second changes.now) ≡ true) }
         requires none { deltas.old.items ≡ [] }
         ensures wide { IfOk result (λ t. length t ≡ length self.now.schema) }
         ensures count { OnOk result (length deltas.new.items ≡ length self.now.schema) }
-        ensures next { IfOk result (λ t. AllNextIn (get_or self.now.lanes.items branch no_kept) changes.now (length self.now.schema) t) }
-        ensures deltas { IfOk result (λ t. AllDifferences (get_or self.now.lanes.items branch no_kept) deltas.new.items (length self.now.schema) t) }
-        ensures small { IfOk result (λ t. (r : ℕ) → r < length self.now.schema → AreSmall (lived_at t r)) }
+        ensures next { IfOk result
+            (λ t. AllNextIn (get_or self.now.lanes.items branch no_kept) changes.now
+            (length self.now.schema) t) }
+        ensures deltas { IfOk result
+            (λ t. AllDifferences (get_or self.now.lanes.items branch no_kept) deltas.new.items
+            (length self.now.schema) t) }
+        ensures small { IfOk result
+            (λ t. (r : ℕ) → r < length self.now.schema → AreSmall (lived_at t r)) }
     {
         let mut relations = Vec::new(self.alloc);
         for relation in 0..self.width() {
@@ -209,7 +238,8 @@ impl HybridStore {
         changes: &[Change],
     ) -> Result<HybridPrepared, AllocError>
         requires { fits (dataset_in self.now) (Commit branch second changes.now) ≡ true }
-        ensures { IfOk result (λ p. Prepares p (state_of self.now) (Commit branch second changes.now)) }
+        ensures { IfOk result (λ p.
+            Prepares p (state_of self.now) (Commit branch second changes.now)) }
     {
         let mut deltas = Vec::new(self.alloc);
         let table = self.table_after(branch, changes, &mut deltas)?;
@@ -230,7 +260,8 @@ impl HybridStore {
 // A link to the records of the last part of a relation.
 fn last_records(live: &LiveRelation) -> Result<Arc<Segment>, AllocError>
     requires { 0 < length live.now.pieces }
-    ensures { IfOk result (λ s. arc_value s ≡ (piece_at live.now.pieces (length live.now.pieces - 1)).rows) }
+    ensures { IfOk result (λ s. arc_value s
+        ≡ (piece_at live.now.pieces (length live.now.pieces - 1)).rows) }
 {
     live.part(live.parts() - 1).share_records()
 }
@@ -244,7 +275,8 @@ fn head_records(
     requires width { width ≡ length table.now }
     requires some { (r : ℕ) → r < length table.now → 0 < length (lived_at table.now r).pieces }
     ensures count { IfOk result (λ v. length (map arc_value v.items) ≡ length table.now) }
-    ensures records { IfOk result (λ v. AreLast table.now (length table.now) (map arc_value v.items)) }
+    ensures records { IfOk result
+        (λ v. AreLast table.now (length table.now) (map arc_value v.items)) }
 {
     let mut all = Vec::new(alloc);
     for relation in 0..width {

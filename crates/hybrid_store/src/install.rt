@@ -38,10 +38,13 @@ pub(crate) fn put_records(
     requires count { length records.items ≡ length segments.old.items }
     requires rows { length lane.now.rows ≡ length segments.old.items }
     requires some { (r : ℕ) → r < length segments.old.items → 0 < length (kept_rows lane.now r) }
-    requires there { (r : ℕ) → r < length segments.old.items → head_of_lane lane.now r < length (list_at segments.old.items r) }
+    requires there { (r : ℕ) → r < length segments.old.items
+        → head_of_lane lane.now r < length (list_at segments.old.items r) }
     ensures count { length segments.new.items ≡ length segments.old.items }
     ensures each { (r : ℕ) → r < length segments.old.items
-        → get_or segments.new.items r no_list ≡ with_records (get_or segments.old.items r no_list) (head_of_lane lane.now r) (get_or (map arc_value records.items) r no_own) }
+        → get_or segments.new.items r no_list
+        ≡ with_records (get_or segments.old.items r no_list) (head_of_lane lane.now r)
+        (get_or (map arc_value records.items) r no_own) }
 {
     while let Some(own) = records.pop() {
         let relation = records.len();

@@ -55,10 +55,13 @@ fn turn_lists(
     requires few { length segments.old.items ≤ 8 }
     requires count { length heads.items ≡ length segments.old.items }
     requires rows { length lane.now.rows ≡ length segments.old.items }
-    requires can { (r : ℕ) → r < length segments.old.items → CanTurn lane.now (get_or segments.old.items r no_list) r }
+    requires can { (r : ℕ) → r < length segments.old.items
+        → CanTurn lane.now (get_or segments.old.items r no_list) r }
     ensures count { length segments.new.items ≡ length segments.old.items }
     ensures each { (r : ℕ) → r < length segments.old.items
-        → get_or segments.new.items r no_list ≡ turned_list (get_or segments.old.items r no_list) (head_of_lane lane.now r) branch (get_or (map arc_value heads.items) r no_own) }
+        → get_or segments.new.items r no_list
+        ≡ turned_list (get_or segments.old.items r no_list) (head_of_lane lane.now r) branch
+        (get_or (map arc_value heads.items) r no_own) }
 {
     while let Some(own) = heads.pop() {
         let relation = heads.len();
@@ -70,10 +73,13 @@ fn turn_lists(
 // Adds the heads of a new branch.
 pub(crate) fn add_heads(segments: &mut Vec<KeptSegments>, branch: u32, mut heads: Vec<Arc<Segment>>)
     requires count { length heads.items ≡ length segments.old.items }
-    requires room { (r : ℕ) → r < length segments.old.items → length (list_at segments.old.items r) < (get_or segments.old.items r no_list).room }
+    requires room { (r : ℕ) → r < length segments.old.items
+        → length (list_at segments.old.items r) < (get_or segments.old.items r no_list).room }
     ensures count { length segments.new.items ≡ length segments.old.items }
     ensures each { (r : ℕ) → r < length segments.old.items
-        → get_or segments.new.items r no_list ≡ with_head (get_or segments.old.items r no_list) branch (get_or (map arc_value heads.items) r no_own) }
+        → get_or segments.new.items r no_list
+        ≡ with_head (get_or segments.old.items r no_list) branch
+        (get_or (map arc_value heads.items) r no_own) }
 {
     while let Some(own) = heads.pop() {
         let relation = heads.len();
@@ -89,8 +95,10 @@ pub(crate) fn turn_if(
     turned: Option<Turned>,
 )
     requires there { branch < length lanes.old.items }
-    requires can { IfSome turned (λ t. CanTake (get_or lanes.old.items branch no_kept) segments.old.items t) }
-    ensures turned { TurnsIf branch turned lanes.old.items segments.old.items lanes.new.items segments.new.items }
+    requires can { IfSome turned
+        (λ t. CanTake (get_or lanes.old.items branch no_kept) segments.old.items t) }
+    ensures turned { TurnsIf branch turned lanes.old.items segments.old.items lanes.new.items
+        segments.new.items }
     ensures capacity { vec_capacity lanes.old ≤ vec_capacity lanes.new }
 {
     match turned {

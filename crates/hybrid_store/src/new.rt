@@ -37,7 +37,10 @@ fn new_segment(alloc: Global, relation: &Relation) -> Result<Segment, AllocError
 pub fn new_heads(alloc: Global, relations: &[Relation]) -> Result<Vec<Arc<Segment>>, AllocError>
     requires { is_counted relations.now ≡ true }
     ensures count { IfOk result (λ v. length v.items ≡ length relations.now) }
-    ensures each { IfOk result (λ v. (r : ℕ) → r < length relations.now → own_at (map arc_value v.items) r ≡ record { fields = length (columns_at relations.now r); records = [] }) }
+    ensures each { IfOk result
+        (λ v. (r : ℕ) → r < length relations.now
+        → own_at (map arc_value v.items) r
+        ≡ record { fields = length (columns_at relations.now r); records = [] }) }
 {
     let mut heads = Vec::new(alloc);
     for relation in relations {
@@ -49,7 +52,8 @@ pub fn new_heads(alloc: Global, relations: &[Relation]) -> Result<Vec<Arc<Segmen
 
 // The segments of a relation whose one head is master's.
 fn new_list(alloc: Global, head: &Arc<Segment>) -> Result<KeptSegments, AllocError>
-    ensures all { IfOk result (λ k. k.all ≡ record { head = Some 0; rows = arc_value head.now } ∷ []) }
+    ensures all { IfOk result
+        (λ k. k.all ≡ record { head = Some 0; rows = arc_value head.now } ∷ []) }
     ensures room { IfOk result (λ k. most_segments ≤ k.room) }
 {
     let mut list = KeptSegments::with_room(alloc)?;
@@ -60,8 +64,12 @@ fn new_list(alloc: Global, head: &Arc<Segment>) -> Result<KeptSegments, AllocErr
 /// The segments of each relation, whose one head is master's.
 pub fn new_segments(alloc: Global, heads: &[Arc<Segment>]) -> Result<Vec<KeptSegments>, AllocError>
     ensures count { IfOk result (λ v. length v.items ≡ length heads.now) }
-    ensures all { IfOk result (λ v. (r : ℕ) → r < length heads.now → (get_or v.items r no_list).all ≡ record { head = Some 0; rows = own_at (map arc_value heads.now) r } ∷ []) }
-    ensures room { IfOk result (λ v. (r : ℕ) → r < length heads.now → most_segments ≤ (get_or v.items r no_list).room) }
+    ensures all { IfOk result
+        (λ v. (r : ℕ) → r < length heads.now
+        → (get_or v.items r no_list).all
+        ≡ record { head = Some 0; rows = own_at (map arc_value heads.now) r } ∷ []) }
+    ensures room { IfOk result
+        (λ v. (r : ℕ) → r < length heads.now → most_segments ≤ (get_or v.items r no_list).room) }
 {
     let mut lists = Vec::new(alloc);
     for head in heads {
@@ -84,7 +92,9 @@ fn new_live(alloc: Global, head: &Arc<Segment>) -> Result<LiveRelation, AllocErr
 fn new_table(alloc: Global, heads: &[Arc<Segment>]) -> Result<LiveTable, AllocError>
     requires { (r : ℕ) → r < length heads.now → (own_at (map arc_value heads.now) r).records ≡ [] }
     ensures count { IfOk result (λ t. length t ≡ length heads.now) }
-    ensures each { IfOk result (λ t. (r : ℕ) → r < length heads.now → lived_at t r ≡ first_lived (own_at (map arc_value heads.now) r)) }
+    ensures each { IfOk result
+        (λ t. (r : ℕ) → r < length heads.now
+        → lived_at t r ≡ first_lived (own_at (map arc_value heads.now) r)) }
 {
     let mut relations = Vec::new(alloc);
     for head in heads {
@@ -120,12 +130,24 @@ fn new_rows(alloc: Global, width: usize) -> Result<Vec<BitRows>, AllocError>
 /// The lane of master, with these heads.
 pub fn new_lane(alloc: Global, name: Name, heads: &[Arc<Segment>]) -> Result<HybridLane, AllocError>
     requires { (r : ℕ) → r < length heads.now → (own_at (map arc_value heads.now) r).records ≡ [] }
-    ensures lane { IfOk result (λ l. l ≡ record { name = name; origin = root; base = root; seconds = None ∷ []; rows = l.rows; head = l.head; room = l.room }) }
+    ensures lane { IfOk result
+        (λ l. l ≡ record {
+          name = name;
+          origin = root;
+          base = root;
+          seconds = None ∷ [];
+          rows = l.rows;
+          head = l.head;
+          room = l.room;
+        }) }
     ensures room { IfOk result (λ l. 1 ≤ l.room) }
     ensures count { IfOk result (λ l. length l.rows ≡ length heads.now) }
     ensures wide { IfOk result (λ l. length l.head ≡ length heads.now) }
-    ensures rows { IfOk result (λ l. (r : ℕ) → r < length heads.now → get_or l.rows r [] ≡ first_row ∷ []) }
-    ensures lived { IfOk result (λ l. (r : ℕ) → r < length heads.now → lived_at l.head r ≡ first_lived (own_at (map arc_value heads.now) r)) }
+    ensures rows { IfOk result
+        (λ l. (r : ℕ) → r < length heads.now → get_or l.rows r [] ≡ first_row ∷ []) }
+    ensures lived { IfOk result
+        (λ l. (r : ℕ) → r < length heads.now
+        → lived_at l.head r ≡ first_lived (own_at (map arc_value heads.now) r)) }
 {
     let table = new_table(alloc, heads)?;
     let head = HybridView::of(Arc::new(alloc, table)?);

@@ -35,9 +35,12 @@ impl HybridStore {
     ) -> Result<HybridLane, AllocError>
         requires fits { fits (dataset_in self.now) (NewBranch name origin) ≡ true }
         requires last { at_head ≡ is_last (layout_of self.now) origin }
-        requires seen { IsSeen self.now.schema self.now.segments.items (get_or self.now.lanes.items origin.branch no_kept) origin.position (arc_value view.now.table) }
+        requires seen { IsSeen self.now.schema self.now.segments.items
+            (get_or self.now.lanes.items origin.branch no_kept) origin.position
+            (arc_value view.now.table) }
         requires heads { AreEmpty self.now.schema (map arc_value heads.now) }
-        ensures { IfOk result (λ k. IsBegunOf (layout_of self.now) name origin k (map arc_value heads.now)) }
+        ensures { IfOk result (λ k.
+            IsBegunOf (layout_of self.now) name origin k (map arc_value heads.now)) }
     {
         let mut rows = Vec::new(self.alloc);
         let table = self.table_begun(view.table(), more_of(at_head), heads, &mut rows)?;
@@ -71,7 +74,8 @@ impl HybridStore {
     ) -> Result<Option<Turned>, AllocError>
         requires fits { fits (dataset_in self.now) (NewBranch name origin) ≡ true }
         requires last { at_head ≡ is_last (layout_of self.now) origin }
-        ensures { IfOk result (λ t. IsTurnedIf (is_last (layout_of self.now) origin) (layout_of self.now) origin t) }
+        ensures { IfOk result (λ t.
+            IsTurnedIf (is_last (layout_of self.now) origin) (layout_of self.now) origin t) }
     {
         if !at_head {
             return Ok(None);
@@ -90,7 +94,9 @@ impl HybridStore {
     ) -> Result<HybridPreparedBranch, AllocError>
         requires fits { fits (dataset_in self.now) (NewBranch name origin) ≡ true }
         requires last { at_head ≡ is_last (layout_of self.now) origin }
-        requires seen { IsSeen self.now.schema self.now.segments.items (get_or self.now.lanes.items origin.branch no_kept) origin.position (arc_value view.now.table) }
+        requires seen { IsSeen self.now.schema self.now.segments.items
+            (get_or self.now.lanes.items origin.branch no_kept) origin.position
+            (arc_value view.now.table) }
         ensures { IfOk result (λ p. PreparesBranch p (state_of self.now) (NewBranch name origin)) }
     {
         let heads = new_heads(self.alloc, self.schema.relations())?;

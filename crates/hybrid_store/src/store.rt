@@ -115,7 +115,8 @@ impl HybridStore {
         ensures lane { result.now ≡ get_or self.now.lanes.items branch no_kept }
         ensures name { result.now.name ≡ (branch_at (dataset_in self.now) branch).name }
         ensures base { result.now.base ≡ (branch_at (dataset_in self.now) branch).base }
-        ensures count { length result.now.seconds ≡ length (branch_at (dataset_in self.now) branch).versions }
+        ensures count { length result.now.seconds
+            ≡ length (branch_at (dataset_in self.now) branch).versions }
         ensures rooted { 0 < length result.now.seconds }
         ensures few { length result.now.seconds ≤ most_versions }
     {
@@ -149,7 +150,8 @@ impl HybridStore {
 
     // Is the branch there, with room for a version?
     fn has_room(&self, branch: u32) -> bool
-        ensures { result ≡ (nat_lt branch (length (dataset_in self.now).branches) && nat_lt (length (branch_at (dataset_in self.now) branch).versions) most_versions) }
+        ensures { result ≡ (nat_lt branch (length (dataset_in self.now).branches) && nat_lt
+            (length (branch_at (dataset_in self.now) branch).versions) most_versions) }
     {
         (branch as usize) < self.lanes.len() && self.lane(branch).count() < MOST_VERSIONS
     }
@@ -187,7 +189,8 @@ impl HybridStore {
 
     pub(crate) fn number_if(&self, at: Option<VersionPlace>) -> Option<u32>
         requires { IfSome at (λ p. IsMade (dataset_in self.now) p) }
-        ensures number { list_if result ≡ numbers_if (dataset_in self.now).order (proper_if (dataset_in self.now) at) }
+        ensures number { list_if result
+            ≡ numbers_if (dataset_in self.now).order (proper_if (dataset_in self.now) at) }
         ensures there { IfSome result (λ n. n < length self.now.graph.versions) }
     {
         match at {
@@ -199,9 +202,11 @@ impl HybridStore {
     // The view of a branch's last version.
     fn head(&self, branch: u32) -> &HybridView
         requires { branch < length self.now.lanes.items }
-        ensures table { table_of (arc_value result.now.table) ≡ head_of (dataset_in self.now) branch }
+        ensures table { table_of (arc_value result.now.table)
+            ≡ head_of (dataset_in self.now) branch }
         ensures wide { length (table_of (arc_value result.now.table)) ≡ length self.now.schema }
-        ensures parts { AreOf (state_of self.now) (λ r. parts_in (lived_at (arc_value result.now.table) r)) }
+        ensures parts { AreOf (state_of self.now)
+            (λ r. parts_in (lived_at (arc_value result.now.table) r)) }
     {
         self.lane(branch).view()
     }

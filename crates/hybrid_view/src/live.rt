@@ -246,8 +246,13 @@ impl LiveRelation {
         requires few { EachOf head self.now.pieces (λ p.
             length p.rows.records + length rows.now < 2 ^ 32) }
         requires lived { (qs : List Piece) → AllNext places.now head rows.now self.now.pieces qs →
-            IsLived (record { pieces = qs; places = with_changes self.now.places spots.now; count = count }) }
-        ensures parts { IfOk result (λ l. AllNext places.now head rows.now self.now.pieces l.pieces) }
+            IsLived (record {
+              pieces = qs;
+              places = with_changes self.now.places spots.now;
+              count = count;
+            }) }
+        ensures parts { IfOk result
+            (λ l. AllNext places.now head rows.now self.now.pieces l.pieces) }
         ensures places { IfOk result (λ l. l.places ≡ with_changes self.now.places spots.now) }
         ensures count { IfOk result (λ l. l.count ≡ count) }
     {

@@ -21,7 +21,8 @@ fn put_spot<L: Ledger>(
 ) -> Result<(), AllocError>
     requires { slot < length part.now.rows.records }
     ensures { OnOk result (spots.new.items
-        ≡ spots.old.items ++ spots_in part.now.segment slot (record_at part.now.rows.records slot ∷ []) (bit_of part.now.bits)) }
+        ≡ spots.old.items ++ spots_in part.now.segment slot
+        (record_at part.now.rows.records slot ∷ []) (bit_of part.now.bits)) }
 {
     if !part.live(slot) {
         return Ok(());
