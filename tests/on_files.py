@@ -64,10 +64,35 @@ def new_ones(base):
 
 def bad_schemas(base):
     for name, given, line in (("empty", b"", 1), ("no end", b"relation items a\n", 2), ("a column twice", b"relation items a a\nend\n", 1),
-                              ("a line after the end", SCHEMA + b"# a comment\n\n1 scan items\n", 5)):
+                              ("a comment and no end", b"relation items a\n# no end\n", 3),
+                              ("a line after the end", SCHEMA + b"# a comment\n\n1 scan items\n", 5),
+                              ("a line after the end and a comment", b"relation items a\nend\n\n# a comment\n1 begin\n", 5)):
         yield "create by a schema: " + name, base.run("create", given), (11, b"", b"decibel: bad line %d\n" % line)
         yield "no file by a schema: " + name, (base.read(0), base.read(1)), (b"", b"")
     yield "create with comments after the end", base.run("create", SCHEMA + b"# a comment\n\n"), (0, b"created\n", b"")
+
+
+def last_comments(base):
+    yield "create with a comment that no line end follows", base.run("create", b"relation items a\nend\n\n# a comment"), (0, b"created\n", b"")
+
+
+def stored(base):
+    """What a script stored is there for the next one, and `check` reads no input."""
+    yield "one insert stored", base.made(b"1 insert items 1 1 1\n"), (0, answered((b"1 insert items 1 1 1", b"ok master@1")), b"")
+    yield "check with an input", base.run("check", b"not read"), (0, b"ok generation 1 branches 1 versions 2 entries 1\n", b"")
+    yield "a branch of the root", base.run("script", b"# more\n1 branch dev of master@0\n1 on dev\n1 insert items 2 2 2\n1 scan items in heads\n"), (0, answered(
+        (b"1 branch dev of master@0", b"ok dev@0"), (b"1 on dev", b"ok"), (b"1 insert items 2 2 2", b"ok dev@1"),
+        (b"1 scan items in heads", b"row 1 1 1 in master\nrow 2 2 2 in dev\nrows 2")), b"")
+    yield "check of two branches", base.run("check"), (0, b"ok generation 1 branches 2 versions 3 entries 3\n", b"")
+
+
+def empty_ones(base):
+    """Two files that are there and empty."""
+    base.write(0, b"")
+    base.write(1, b"")
+    for verb in ("check", "script"):
+        yield verb + " of empty files", base.run(verb, b"1 begin\n"), (3, b"not a dataset\n" if verb == "check" else b"", b"decibel: not a dataset\n")
+    yield "create on empty files", base.run("create", SCHEMA), (0, b"created\n", b"")
 
 
 def one_insert(base):
@@ -216,7 +241,7 @@ def examples(base, folder):
 
 def checks(program, top):
     """Names with what was found and what should be."""
-    for part in (new_ones, bad_schemas, one_insert, again, not_there, full_disk, no_permission, killed, examples):
+    for part in (new_ones, bad_schemas, last_comments, stored, empty_ones, one_insert, again, not_there, full_disk, no_permission, killed, examples):
         with tempfile.TemporaryDirectory() as folder:
             base = Base(program, folder)
             yield from part(base, os.path.join(top, "examples")) if part is examples else part(base)

@@ -10,7 +10,7 @@ use Rattle.generations.specs.declared.new.CreateStop.{CreateStop}
 use Rattle.generations.specs.declared.new.CreateStop.TheVariants.{AlreadyThere as IsThere, DiskFault as DiskFailed, Memory as NoMemory}
 use Rattle.generations.specs.Created.{AreEmpty, IsOneThere}
 use Rattle.generations.specs.NewState.{new_state}
-use Rattle.generations.specs.Pairs.{BothOnlyRead}
+use Rattle.generations.specs.Pairs.{IfTold, BothOnlyRead}
 use Rattle.script_run.specs.Device.{Appends, AppendsShort}
 use Rattle.decibel_main.specs.Images.{OpensNow}
 use Rattle.decibel_main.specs.declared.status.Status.{Status}
@@ -61,6 +61,11 @@ FindsFiles Done c d = AreEmpty c d
 FindsFiles WriteFault c d = AreEmpty c d
 FindsFiles AlreadyThere c d = IsOneThere c d
 FindsFiles _ c d = Unit {0}
+
+-- what becomes of two files, and which were there
+pub record MakesFiles {D : Type 0} (g : Ghosts D) (input : List ℕ) (old : Pair D) (status : Status) (new : Pair D) : Type 0 where
+  pub files : CreatesFiles g input old status new
+  pub there : IfTold g old (FindsFiles status)
 
 -- what was written, by how the call ended
 abbrev pub WritesCreated : Status → Option (List ℕ) → Option (List ℕ) → Type 0

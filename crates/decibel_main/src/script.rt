@@ -82,8 +82,8 @@ pub fn script_files<K: Sink, D: Disk + Drop>(
     disks: Pair<D>,
 ) -> Finish<D>
     ensures ends { IsOpenStatus result.status }
-    ensures runs { IfTold D.Disk disks (Scripts D.Disk disks result.disks (lines_run (lines input.now))
-        result.status (K.written sink.old) (K.written sink.new)) }
+    ensures runs { IfTold D.Disk disks (Scripts D.Disk disks result.disks
+        (lines_run (lines input.now)) result.status (K.written sink.old) (K.written sink.new)) }
     ensures untouched { IsUntouched result.status → (sink.new ≡ sink.old)
         × BothOnlyRead D.Disk disks result.disks }
     ensures causes { (result.status ≡ Status.DiskFault → RoseInOne D.Disk disks result.disks)

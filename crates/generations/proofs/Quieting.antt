@@ -44,23 +44,6 @@ module _ {D : Type 0} (g : Ghosts D) where
         opens = opens_one (g.since (pair_in l).first (g.moment disks.first)) (g.since (pair_in l).second (g.moment disks.second)) c d first second;
       }
 
-  -- ---- a dataset that was put together of two disks
-
-  module _ (old new : Pair D) (l : Dataset D g) where
-    first_of : (second : Bool) → l.file.disk ≡ cond second new.second new.first → l.beside ≡ cond second new.first new.second → l.second ≡ second → (pair_in l).first ≡ new.first
-    first_of false disk beside is = λ i. cond (is i) (beside i) (disk i)
-    first_of true disk beside is = λ i. cond (is i) (beside i) (disk i)
-
-    second_of : (second : Bool) → l.file.disk ≡ cond second new.second new.first → l.beside ≡ cond second new.first new.second → l.second ≡ second → (pair_in l).second ≡ new.second
-    second_of false disk beside is = λ i. cond (is i) (disk i) (beside i)
-    second_of true disk beside is = λ i. cond (is i) (disk i) (beside i)
-
-    pub only_reads : (second : Bool) → l.file.disk ≡ cond second new.second new.first → l.beside ≡ cond second new.first new.second → l.second ≡ second → BothOnlyRead g old new → BothOnlyRead g old (pair_in l)
-    only_reads second disk beside is only = record {
-      first = subst (λ (x : D). OnlyReads g.faults g.writes g.seen g.image g.moment g.since old.first x) (sym (first_of second disk beside is)) only.first;
-      second = subst (λ (x : D). OnlyReads g.faults g.writes g.seen g.image g.moment g.since old.second x) (sym (second_of second disk beside is)) only.second;
-    }
-
   pub read_as : (k : Looked) (l : Dataset D g) (es : List Entry) (c d : List ℕ) → reads c d ≡ counts (number_of k.second) k.generation (opened (state_in k.store) es k.journal.at)
       → l.second ≡ k.second → l.generation ≡ k.generation → l.file.journal ≡ k.journal → reads c d ≡ counts (counted_in l) (generation_in l) (opened (state_in k.store) es (place_in l))
   read_as k l es c d is second generation journal =

@@ -80,6 +80,15 @@ some_same x y is = cc is
 pub one_image : (seen_old seen_new : Option (List ℕ)) (image : List ℕ → Type 0) (c : List ℕ) → seen_old ≡ Some c → seen_new ≡ seen_old → IsAllOnDisk seen_new image → InAll image (λ i. i ≡ c)
 one_image seen_old seen_new image c told stays all i now = some_same i c (sym (all i now) ∙ stays ∙ told)
 
+-- of two disks in their order the one that counts and the one beside it
+pub file_of : {D : Type 0} (q : Bool) (file beside : D) → cond q (cond q file beside) (cond q beside file) ≡ file
+file_of true file beside = refl
+file_of false file beside = refl
+
+pub beside_of : {D : Type 0} (q : Bool) (file beside : D) → cond q (cond q beside file) (cond q file beside) ≡ beside
+beside_of true file beside = refl
+beside_of false file beside = refl
+
 pub all_two : {D : Type 0} (image : D → List ℕ → Type 0) (q : Bool) (first second disk : D) (c d : List ℕ) → disk ≡ cond q second first → InAll (image first) (λ i. i ≡ c) → InAll (image second) (λ i. i ≡ d) → InAll (image disk) (λ i. i ≡ of_two q c d)
 all_two image true first second disk c d is all_first all_second i now = all_second i (subst (λ x. image x i) is now)
 all_two image false first second disk c d is all_first all_second i now = all_first i (subst (λ x. image x i) is now)

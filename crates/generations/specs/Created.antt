@@ -3,11 +3,15 @@ use Rattle.std.specs.Prelude.{◌≡◌, ◌⊎◌, ◌+◌, ◌<◌, ℕ, Bool,
 use Rattle.std.specs.Int.{w64, to_le_bytes}
 use Rattle.sha2.specs.Sha256.{sha256}
 use Rattle.db_value.specs.declared.schema.Relation.{Relation}
+use Rattle.db_outside.specs.Device.{Rose}
 use Rattle.db_outside.specs.declared.disk.Disk.{Ghosts}
+use Rattle.gate_journal.specs.Reads.{OnlyReads}
 use Rattle.generations.specs.declared.dataset.Dataset.{Dataset}
 use Rattle.generations.specs.declared.new.CreateStop.{CreateStop}
 use Rattle.generations.specs.declared.new.CreateStop.TheVariants.{AlreadyThere, DiskFault, Memory}
+use Rattle.generations.specs.declared.pair.Pair.{Pair}
 use Rattle.generations.specs.Datasets.{generation_in, entries_read_in, counted_in, place_in}
+use Rattle.generations.specs.Pairs.{RoseInOne}
 use Rattle.new_image.specs.Image.{image_of}
 
 -- behind the gate: the rest of the mark, generation 1, the image's length and digest, and the image
@@ -48,3 +52,9 @@ abbrev pub IsCreateStop : CreateStop → List ℕ → List ℕ → Type 0
 IsCreateStop AlreadyThere c d = IsOneThere c d
 IsCreateStop DiskFault c d = Unit {0}
 IsCreateStop Memory c d = Unit {0}
+
+-- No dataset was made: the first disk was only read, unless a disk failed after a write of it was called; the second one was only read; and a disk failed only if its count rose.
+pub record StopsCreating {D : Type 0} (g : Ghosts D) (stop : CreateStop) (old new : Pair D) : Type 0 where
+  pub first : OnlyReads g.faults g.writes g.seen g.image g.moment g.since old.first new.first ⊎ ((stop ≡ DiskFault) × Rose (g.writes old.first) (g.writes new.first))
+  pub second : OnlyReads g.faults g.writes g.seen g.image g.moment g.since old.second new.second
+  pub cause : stop ≡ DiskFault → RoseInOne g old new

@@ -3,7 +3,9 @@ use Rattle.std.specs.Prelude.{◌≡◌, ℕ, Bool, true, List, length, Option, 
 use Rattle.generations.specs.declared.header.Header.{Header}
 use Rattle.generations.specs.Headers.{Says, IsHeaderOf}
 use Rattle.generations.specs.Pairs.{disk_of}
+use Rattle.db_outside.specs.Disk.{InAll}
 use Rattle.db_outside.specs.declared.disk.Disk.{Ghosts}
+use Rattle.gate_journal.specs.Gate.{IsShut}
 use Rattle.generations.specs.declared.pair.Pair.{Pair}
 use Rattle.db_value.specs.declared.entry.Entry.{Entry}
 use Rattle.generations.specs.Stored.{state_in}
@@ -26,6 +28,11 @@ SaysPicked g disks (Some p) = (s : List ℕ) → g.seen (disk_of p.0 disks) ≡ 
 -- the files open to the store's state, as it is told
 abbrev pub IsLooked : Looked → List ℕ → List ℕ → Type 0
 IsLooked l c d = (es : List Entry) × (length es ≡ l.entries) × (reads c d ≡ counts (number_of l.second) l.generation (opened (state_in l.store) es l.journal.at))
+
+-- the journal of the file that counts is clean, and its gate is shut in every image
+pub record IsClean {D : Type 0} (g : Ghosts D) (disks : Pair D) (l : Looked) : Type 0 where
+  pub clean : l.journal.clean ≡ true
+  pub shut : InAll (g.image (disk_of l.second disks)) (IsShut l.journal.at)
 
 -- why the files don't open
 abbrev pub IsOpenStop : OpenStop → List ℕ → List ℕ → Type 0

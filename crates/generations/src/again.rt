@@ -1,12 +1,11 @@
 //! A dataset, opened again.
-ghost use Rattle.std.specs.Prelude.{◌≡◌, true, cond, IfOk, IfErr};
+ghost use Rattle.std.specs.Prelude.{◌≡◌, true, IfOk, IfErr};
 ghost use Rattle.db_outside.specs.Disk.{InAll};
 ghost use Rattle.gate_journal.specs.Gate.{IsShut};
-ghost use Rattle.generations.specs.declared.look.OpenStop.TheVariants.{DiskFault};
 ghost use Rattle.generations.specs.Datasets.{pair_in};
 ghost use Rattle.generations.specs.Looks.{IsOpenStop};
-ghost use Rattle.generations.specs.Pairs.{disk_of, moments_of, IfTold, AreAllOnDisk, RoseInOne, BothOnlyRead};
-ghost use Rattle.generations.specs.Reopens.{Reopens, StaysQuiet};
+ghost use Rattle.generations.specs.Pairs.{disk_of, moments_of, IfTold, AreAllOnDisk, BothOnlyRead};
+ghost use Rattle.generations.specs.Reopens.{Reopens, StaysQuiet, StopsOpening};
 
 use crate::dataset::Dataset;
 use crate::file::File;
@@ -27,12 +26,10 @@ fn assembled<D: Disk>(
 ) -> Dataset<D>
     requires clean { journal.clean ≡ true }
     requires shut { InAll (D.image (disk_of second disks)) (IsShut journal.at) }
-    ensures disk { result.file.disk ≡ cond second disks.second disks.first }
-    ensures beside { result.beside ≡ cond second disks.first disks.second }
-    ensures journal { result.file.journal ≡ journal }
+    ensures disks { pair_in result ≡ disks }
     ensures second { result.second ≡ second }
-    ensures generation { result.generation ≡ generation }
-    ensures entries_read { result.entries_read ≡ entries_read }
+    ensures journal { result.file.journal ≡ journal }
+    ensures numbers { (result.generation ≡ generation) × (result.entries_read ≡ entries_read) }
 {
     let Pair {
         first,
@@ -69,12 +66,12 @@ pub fn reopen<D: Disk>(
 ) -> Result<(Dataset<D>, DatasetStore), (OpenStop, Pair<D>)>
     ensures opens { IfOk result (λ r. IfTold D.Disk disks (Reopens r.0 r.1)) }
     ensures reads { IfOk result (λ r. BothOnlyRead D.Disk disks (pair_in r.0)) }
+    ensures durable { IfOk result (λ r. AreAllOnDisk D.Disk (pair_in r.0)) }
     ensures quiet { IfOk result (λ r. AreAllOnDisk D.Disk disks →
         IfTold D.Disk disks (StaysQuiet (moments_of D.Disk disks) r.0)) }
 
     ensures stop { IfErr result (λ e. IfTold D.Disk disks (IsOpenStop e.0)) }
-    ensures cause { IfErr result (λ e. e.0 ≡ DiskFault → RoseInOne D.Disk disks e.1) }
-    ensures only_read { IfErr result (λ e. BothOnlyRead D.Disk disks e.1) }
+    ensures left { IfErr result (λ e. StopsOpening D.Disk e.0 disks e.1) }
 {
     let mut disks = disks;
     match look(alloc, &mut disks) {

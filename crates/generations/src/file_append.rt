@@ -1,6 +1,6 @@
 //! How a file takes one record more.
 ghost use Rattle.std.specs.Prelude.{◌≡◌, ◌⊎◌, ◌≤◌, [], List, ℕ, Option, None, Some, true, OnOk, OnErr};
-ghost use Rattle.db_outside.specs.Device.{Rose};
+ghost use Rattle.db_outside.specs.Device.{CountsFaults};
 ghost use Rattle.db_outside.specs.Disk.{LeavesOnly};
 ghost use Rattle.generations.specs.Ends.{with_record, MayEnd, EndsInOneOf};
 ghost use Rattle.generations.specs.KeptFile.{IsKeptIn};
@@ -19,8 +19,7 @@ impl<D: Disk> File<D> {
         ensures failed { OnErr result ((a : List ℕ) (f : Option (List ℕ)) → IsKeptIn self.old a f →
             IsKeptIn self.new a f) }
         ensures time { D.moment self.old.disk ≤ D.moment self.new.disk }
-        ensures later { D.faults self.old.disk ≤ D.faults self.new.disk }
-        ensures cause { OnErr result (Rose (D.faults self.old.disk) (D.faults self.new.disk)) }
+        ensures faults { CountsFaults D.faults self.old.disk self.new.disk result }
     {
         if self.journal.clean {
             return Ok(());
@@ -41,8 +40,7 @@ impl<D: Disk> File<D> {
             (g : Option (List ℕ)) × ((g ≡ None) ⊎ (g ≡ f) ⊎ (g ≡ Some batch.now))
             × IsKeptIn self.new a g) }
         ensures time { D.moment self.old.disk ≤ D.moment self.new.disk }
-        ensures later { D.faults self.old.disk ≤ D.faults self.new.disk }
-        ensures cause { OnErr result (Rose (D.faults self.old.disk) (D.faults self.new.disk)) }
+        ensures faults { CountsFaults D.faults self.old.disk self.new.disk result }
     {
         self.make_clean()?;
         self.journal.append(&mut self.disk, batch)?;

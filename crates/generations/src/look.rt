@@ -1,12 +1,10 @@
 //! Two files, looked at.
-ghost use Rattle.std.specs.Prelude.{◌≡◌, ◌⊎◌, ◌≤◌, List, ℕ, Option, Some, true, length, IfOk, IfErr, OnOk, IfSome, IsErrOf};
-ghost use Rattle.db_outside.specs.Disk.{InAll};
-ghost use Rattle.gate_journal.specs.Gate.{IsShut};
+ghost use Rattle.std.specs.Prelude.{◌≡◌, ◌⊎◌, ◌≤◌, List, ℕ, Option, Some, IfOk, IfErr, OnOk, IfSome, IsErrOf};
 ghost use Rattle.generations.specs.Files.{number_of};
 ghost use Rattle.generations.specs.Headers.{IsHeaderOf};
 ghost use Rattle.generations.specs.Openings.{IsOpened, IsCleanOpened};
 ghost use Rattle.generations.specs.Pairs.{disk_of, IfTold, AreAllOnDisk, RoseInOne, BothOnlyRead};
-ghost use Rattle.generations.specs.Looks.{IsPicked, SaysPicked, IsLooked, IsOpenStop};
+ghost use Rattle.generations.specs.Looks.{IsPicked, SaysPicked, IsLooked, IsClean, IsOpenStop};
 
 use crate::header::{HEADER, Header, header_of};
 use crate::open::{Opened, open_file};
@@ -81,10 +79,10 @@ fn open_one<D: Disk>(
     header: &Header,
 ) -> Result<Opened, ReadStop>
     requires long { HEADER ≤ header.now.len }
-    requires says { (s : List ℕ) → D.seen (disk_of second disks.old) ≡ Some s
-        → IsHeaderOf (Some header.now) s }
-    ensures told { IfOk result
-        (λ o. (s : List ℕ) → D.seen (disk_of second disks.old) ≡ Some s → IsOpened o s) }
+    requires says { (s : List ℕ) → D.seen (disk_of second disks.old) ≡ Some s →
+        IsHeaderOf (Some header.now) s }
+    ensures told { IfOk result (λ o.
+        (s : List ℕ) → D.seen (disk_of second disks.old) ≡ Some s → IsOpened o s) }
     ensures clean { IfOk result (λ o. IsCleanOpened o) }
     ensures reads { BothOnlyRead D.Disk disks.old disks.new }
     ensures cause { IsErrOf result ReadStop.DiskFault → RoseInOne D.Disk disks.old disks.new }
@@ -98,9 +96,7 @@ fn open_one<D: Disk>(
 /// What two files have, by the one of them that counts. It writes nothing.
 pub fn look<D: Disk>(alloc: Global, disks: &mut Pair<D>) -> Result<Looked, OpenStop>
     ensures told { IfOk result (λ l. IfTold D.Disk disks.old (IsLooked l)) }
-    ensures clean { IfOk result (λ l. l.journal.clean ≡ true) }
-    ensures shut { IfOk result
-        (λ l. InAll (D.image (disk_of l.second disks.new)) (IsShut l.journal.at)) }
+    ensures clean { IfOk result (λ l. IsClean D.Disk disks.new l) }
     ensures durable { OnOk result (AreAllOnDisk D.Disk disks.new) }
 
     ensures stop { IfErr result (λ e. IfTold D.Disk disks.old (IsOpenStop e)) }

@@ -1,10 +1,9 @@
 //! A new dataset.
-ghost use Rattle.std.specs.Prelude.{◌≡◌, ◌⊎◌, ◌+◌, ◌≤◌, ◌<◌, ◌^◌, ◌∷◌, ◌++◌, [], List, ℕ, Option, Some, None, true, false, length, IfOk, IfErr, OnOk, OnErr};
+ghost use Rattle.std.specs.Prelude.{◌≡◌, ◌+◌, ◌≤◌, ◌<◌, ◌^◌, ◌∷◌, ◌++◌, [], List, ℕ, Some, None, true, false, length, IfOk, IfErr, OnOk, OnErr};
 ghost use Rattle.db_outside.specs.Device.{Rose};
 ghost use Rattle.db_outside.specs.Disk.{IsAllOnDisk, InAll, Begins};
 ghost use Rattle.gate_journal.specs.Reads.{OnlyReads};
-ghost use Rattle.generations.specs.declared.new.CreateStop.TheVariants.{DiskFault};
-ghost use Rattle.generations.specs.Created.{AreEmpty, IsEmptyBy, AreEmptyBy, IsCreateStop, IsNew, behind_gate};
+ghost use Rattle.generations.specs.Created.{AreEmpty, IsEmptyBy, AreEmptyBy, IsCreateStop, StopsCreating, IsNew, behind_gate};
 ghost use Rattle.generations.specs.Datasets.{KeepsIn};
 ghost use Rattle.generations.specs.Fronts.{Keeps};
 ghost use Rattle.new_image.specs.Schemas.{IsDeclared};
@@ -55,8 +54,8 @@ fn file_bytes(alloc: Global, image: &[u8]) -> Result<Vec<u8>, AllocError>
 
 // The bytes of a new dataset's file, and where its first record goes.
 fn new_file(alloc: Global, schema: &Schema) -> Result<(Vec<u8>, Journal), AllocError>
-    ensures bytes { IfOk result
-        (λ r. r.0.items ≡ 0 ∷ (behind_gate (image_of schema.now) ++ 0 ∷ [])) }
+    ensures bytes { IfOk result (λ r.
+        r.0.items ≡ 0 ∷ (behind_gate (image_of schema.now) ++ 0 ∷ [])) }
     ensures few { IfOk result (λ r. length (image_of schema.now) < 2 ^ 64) }
     ensures at { IfOk result (λ r. r.1.at ≡ 57 + length (image_of schema.now)) }
     ensures clean { IfOk result (λ r. r.1.clean ≡ true) }
@@ -71,8 +70,8 @@ fn new_file(alloc: Global, schema: &Schema) -> Result<(Vec<u8>, Journal), AllocE
 fn is_empty<D: Disk>(disk: &mut D) -> Result<bool, Failed>
     ensures empty { IsAllOnDisk (D.seen disk.old) (D.image disk.old) →
         IfOk result (λ empty. empty ≡ true → InAll (D.image disk.new) (λ c. c ≡ [])) }
-    ensures told { IfOk result
-        (λ empty. (s : List ℕ) → D.seen disk.old ≡ Some s → IsEmptyBy empty s) }
+    ensures told { IfOk result (λ empty.
+        (s : List ℕ) → D.seen disk.old ≡ Some s → IsEmptyBy empty s) }
     ensures reads { OnlyReads D.faults D.writes D.seen D.image D.moment D.since disk.old disk.new }
     ensures cause { OnErr result (Rose (D.faults disk.old) (D.faults disk.new)) }
 {
@@ -82,10 +81,10 @@ fn is_empty<D: Disk>(disk: &mut D) -> Result<bool, Failed>
 
 // Are both files empty, once what was written to them is on the disks?
 fn are_empty<D: Disk>(disks: &mut Pair<D>) -> Result<bool, Failed>
-    ensures first { IfOk result
-        (λ empty. empty ≡ true → InAll (D.image disks.new.first) (λ c. c ≡ [])) }
-    ensures second { IfOk result
-        (λ empty. empty ≡ true → InAll (D.image disks.new.second) (λ c. c ≡ [])) }
+    ensures first { IfOk result (λ empty.
+        empty ≡ true → InAll (D.image disks.new.first) (λ c. c ≡ [])) }
+    ensures second { IfOk result (λ empty.
+        empty ≡ true → InAll (D.image disks.new.second) (λ c. c ≡ [])) }
     ensures told { IfOk result (λ empty. IfTold D.Disk disks.old (AreEmptyBy empty)) }
     ensures reads { BothOnlyRead D.Disk disks.old disks.new }
     ensures cause { OnErr result (RoseInOne D.Disk disks.old disks.new) }
@@ -99,8 +98,8 @@ fn are_empty<D: Disk>(disks: &mut Pair<D>) -> Result<bool, Failed>
 // Writes the bytes behind a closed gate, and then opens it.
 fn publish<D: Disk>(disk: &mut D, bytes: &[u8]) -> Result<(), Failed>
     requires { 0 < length bytes.now }
-    ensures opened { OnOk result
-        ((back : List ℕ) → bytes.now ≡ 0 ∷ back → InAll (D.image disk.new) (Begins (1 ∷ back))) }
+    ensures opened { OnOk result ((back : List ℕ) →
+        bytes.now ≡ 0 ∷ back → InAll (D.image disk.new) (Begins (1 ∷ back))) }
     ensures later { D.faults disk.old ≤ D.faults disk.new }
     ensures cause { OnErr result (Rose (D.faults disk.old) (D.faults disk.new)) }
     ensures wrote { OnErr result (Rose (D.writes disk.old) (D.writes disk.new)) }
@@ -113,19 +112,13 @@ fn publish<D: Disk>(disk: &mut D, bytes: &[u8]) -> Result<(), Failed>
 // Makes a new dataset on two empty files.
 fn made<D: Disk>(alloc: Global, disks: &mut Pair<D>, schema: &Schema) -> Result<Journal, CreateStop>
     requires { IsDeclared schema.now }
-    ensures kept { IfOk result
-        (λ j. Keeps false 1 j.at j.clean (D.image disks.new.first) (D.image disks.new.second)
-        (new_state schema.now) [] None) }
+    ensures kept { IfOk result (λ j. Keeps false 1 j.at j.clean
+        (D.image disks.new.first) (D.image disks.new.second) (new_state schema.now) [] None) }
     ensures place { IfOk result (λ j. j.at ≡ 57 + length (image_of schema.now)) }
     ensures empty { OnOk result (IfTold D.Disk disks.old AreEmpty) }
 
     ensures stop { IfErr result (λ e. IfTold D.Disk disks.old (IsCreateStop e)) }
-    ensures first { IfErr result (λ e.
-        OnlyReads D.faults D.writes D.seen D.image D.moment D.since disks.old.first disks.new.first
-        ⊎ ((e ≡ DiskFault) × Rose (D.writes disks.old.first) (D.writes disks.new.first))) }
-    ensures second { OnlyReads D.faults D.writes D.seen D.image D.moment D.since disks.old.second
-        disks.new.second }
-    ensures cause { IfErr result (λ e. e ≡ DiskFault → RoseInOne D.Disk disks.old disks.new) }
+    ensures left { IfErr result (λ e. StopsCreating D.Disk e disks.old disks.new) }
 {
     match are_empty(disks) {
         Ok(true) => {}
@@ -155,12 +148,7 @@ pub fn create<D: Disk>(
     ensures empty { OnOk result (IfTold D.Disk disks AreEmpty) }
 
     ensures stop { IfErr result (λ e. IfTold D.Disk disks (IsCreateStop e.0)) }
-    ensures first { IfErr result (λ e.
-        OnlyReads D.faults D.writes D.seen D.image D.moment D.since disks.first e.1.first
-        ⊎ ((e.0 ≡ DiskFault) × Rose (D.writes disks.first) (D.writes e.1.first))) }
-    ensures second { IfErr result
-        (λ e. OnlyReads D.faults D.writes D.seen D.image D.moment D.since disks.second e.1.second) }
-    ensures cause { IfErr result (λ e. e.0 ≡ DiskFault → RoseInOne D.Disk disks e.1) }
+    ensures left { IfErr result (λ e. StopsCreating D.Disk e.0 disks e.1) }
 {
     let mut disks = disks;
     match made(alloc, &mut disks, schema) {

@@ -1,6 +1,6 @@
 //! One file, opened.
-ghost use Rattle.std.specs.Prelude.{◌≡◌, ◌+◌, ◌≤◌, ◌<◌, ◌^◌, List, ℕ, Option, Some, None, true, length, IfOk, IsErrOf};
-ghost use Rattle.db_outside.specs.Device.{Rose};
+ghost use Rattle.std.specs.Prelude.{◌≡◌, ◌+◌, ◌≤◌, ◌<◌, List, ℕ, Some, None, IfOk, IsErrOf};
+ghost use Rattle.db_outside.specs.Device.{Faulted};
 ghost use Rattle.gate_journal.specs.Reads.{OnlyReads};
 ghost use Rattle.generations.specs.Headers.{IsHeaderOf};
 ghost use Rattle.generations.specs.Openings.{IsImageBy, IsImageOf, EndsImage, IsReplayed, IsOpened, IsCleanOpened};
@@ -51,8 +51,7 @@ fn image_at<D: Disk>(alloc: Global, disk: &mut D, header: &Header) -> Result<Ima
     ensures told { IfOk result (λ f. (s : List ℕ) → D.seen disk.old ≡ Some s → IsImageOf f s) }
     ensures within { IfOk result (λ f. EndsImage f header.now) }
     ensures reads { OnlyReads D.faults D.writes D.seen D.image D.moment D.since disk.old disk.new }
-    ensures cause { IsErrOf result ReadStop.DiskFault
-        → Rose (D.faults disk.old) (D.faults disk.new) }
+    ensures cause { IsErrOf result ReadStop.DiskFault → Faulted D.faults disk.old disk.new }
 {
     if header.generation == 0 {
         return Ok(ImageFound::Damaged {
@@ -124,8 +123,7 @@ pub fn open_file<D: Disk>(alloc: Global, disk: &mut D, header: &Header) -> Resul
     ensures told { IfOk result (λ o. (s : List ℕ) → D.seen disk.old ≡ Some s → IsOpened o s) }
     ensures clean { IfOk result (λ o. IsCleanOpened o) }
     ensures reads { OnlyReads D.faults D.writes D.seen D.image D.moment D.since disk.old disk.new }
-    ensures cause { IsErrOf result ReadStop.DiskFault
-        → Rose (D.faults disk.old) (D.faults disk.new) }
+    ensures cause { IsErrOf result ReadStop.DiskFault → Faulted D.faults disk.old disk.new }
 {
     match image_at(alloc, disk, header)? {
         ImageFound::Damaged { at, cause } => Ok(Opened::Damaged { at, cause }),

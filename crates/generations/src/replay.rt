@@ -1,7 +1,7 @@
 //! The entries of a journal, taken into a store.
-ghost use Rattle.std.specs.Prelude.{◌≡◌, ◌+◌, ◌≤◌, ◌<◌, ◌^◌, List, ℕ, Option, Some, None, true, false, length, option_map, IfOk, OnOk, OnErr};
+ghost use Rattle.std.specs.Prelude.{◌≡◌, ◌+◌, ◌<◌, Option, Some, None, true, false, option_map, IfOk, OnOk};
 ghost use Rattle.db_store.specs.Fits.{fits, IsCommit, IsBranch};
-ghost use Rattle.db_store.specs.State.{State, dataset_of, grow};
+ghost use Rattle.db_store.specs.State.{dataset_of, grow};
 ghost use Rattle.entry_codec.specs.Grammar.{entries_in};
 ghost use Rattle.generations.specs.Files.{applied};
 ghost use Rattle.generations.specs.Replays.{TakesBody, Replays};
@@ -40,8 +40,8 @@ fn take_fitting<St: Store>(store: &mut St, entry: &Entry) -> Result<(), AllocErr
 // Adds an entry where it fits, and tells whether it did.
 fn take<St: Store>(store: &mut St, entry: &Entry) -> Result<bool, AllocError>
     ensures fits { IfOk result (λ fit. fit ≡ fits (dataset_of (St.state store.old)) entry.now) }
-    ensures taken { IfOk result
-        (λ fit. fit ≡ true → St.state store.new ≡ grow (St.state store.old) entry.now) }
+    ensures taken { IfOk result (λ fit.
+        fit ≡ true → St.state store.new ≡ grow (St.state store.old) entry.now) }
 {
     if !store.fits(entry) {
         return Ok(false);
@@ -71,10 +71,10 @@ fn entries_of(alloc: Global, body: &[u8]) -> Result<Option<Vec<Entry>>, AllocErr
 
 // Adds entries in order, each of which has to fit, and tells whether all did.
 fn take_all<St: Store>(store: &mut St, entries: &[Entry]) -> Result<bool, AllocError>
-    ensures all { IfOk result
-        (λ fit. fit ≡ true → applied (St.state store.old) entries.now ≡ Some (St.state store.new)) }
-    ensures unfit { IfOk result
-        (λ fit. fit ≡ false → applied (St.state store.old) entries.now ≡ None) }
+    ensures all { IfOk result (λ fit.
+        fit ≡ true → applied (St.state store.old) entries.now ≡ Some (St.state store.new)) }
+    ensures unfit { IfOk result (λ fit.
+        fit ≡ false → applied (St.state store.old) entries.now ≡ None) }
 {
     for entry in entries {
         if !take(store, entry)? {

@@ -1,4 +1,4 @@
-//! Schemas of several relations, and copies of them.
+//! Names, fields, schemas and conditions.
 use db_value::*;
 use std::test::Fail;
 
@@ -137,5 +137,43 @@ fn compares_from_the_first_field_on(rt: HostRuntime) -> Result<(), Fail> {
             fields: low
         }
     );
+    Ok(())
+}
+
+#[test]
+fn knows_names_fields_and_columns(rt: HostRuntime) -> Result<(), Fail> {
+    let texts: [(&[u8], bool); 10] = [
+        (b"a", true),
+        (b"a1_z", true),
+        (b"aaaaaaaaaabbbbbbbbbbccccccccccdd", true),
+        (b"aaaaaaaaaabbbbbbbbbbccccccccccddd", false),
+        (b"keys", true),
+        (b"key", false),
+        (b"catalogue", false),
+        (b"_a", false),
+        (b"1a", false),
+        (b"", false),
+    ];
+    for (text, is_name) in texts {
+        assert_eq!(rt; Name::read(text).is_some(), is_name);
+    }
+    assert!(rt; Name::catalogue().as_bytes() == b"catalogue".as_slice());
+    for (count, fits) in [(0, false), (1, true), (15, true), (16, false)] {
+        let values = [7i64; 16];
+        assert_eq!(rt;
+            Fields::of(&values[..count]).is_some(),
+            fits,
+            "{count} fields"
+        );
+    }
+    let text = b"# two columns\nrelation items a b\nend\n1 scan items\n";
+    let (schema, taken) = Schema::read(rt.alloc(), text)?;
+    assert_eq!(rt; taken, 37);
+    let items = Name::read(b"items").ok_or("items")?;
+    let b = Name::read(b"b").ok_or("b")?;
+    assert_eq!(rt; schema.relation(&b), None);
+    let relation = schema.relation(&items).ok_or("no relation")?;
+    assert_eq!(rt; schema.column(relation, &b), Some(1));
+    assert_eq!(rt; schema.column(relation, &items), None);
     Ok(())
 }

@@ -2,21 +2,25 @@ use Rattle.std.proofs.Common.{◌∙◌, refl, sym, subst, Option, Some}
 use Rattle.decibel_main.specs.Top.{Did}
 use Rattle.decibel_main.specs.declared.command.Command.{Command}
 use Rattle.decibel_main.specs.declared.status.Status.{Status}
-use Rattle.decibel_main.specs.declared.status.Status.TheVariants.{Usage}
-use Rattle.decibel_main.proofs.FileLemmas.{both_still}
 use Rattle.decibel_main.proofs.Completing.{completes, not_usage}
 use Rattle.decibel_main.proofs.top.decibel.Goals as goal
 
 pub returns-in-None-clause-done : goal.returns-in-None-clause-done
 returns-in-None-clause-done g c =
-    subst (λ (o : Option Command). Did g.D.Disk o (g.S.Source.left c.args.source.now) (g.S.Source.left c.args.source.now) (g.K.Sink.written c.args.sink.now) (g.K.Sink.written c.args.sink.now) c.args.disks c.args.disks Usage)
-    (sym c.in-None.is ∙ c.command_of.ensures) refl
+    subst (λ (o : Option Command). Did g.D.Disk o (g.S.Source.left c.args.source.now) (g.S.Source.left c.args.source.now) (g.K.Sink.written c.args.sink.now) (g.K.Sink.written c.args.sink.now) c.args.disks c.not_asked.result.disks c.not_asked.result.status)
+    (sym c.in-None.is ∙ c.command_of.ensures) c.not_asked.ensures.usage
 
 pub returns-in-None-clause-usage : goal.returns-in-None-clause-usage
-returns-in-None-clause-usage g c = (λ is. sym c.command_of.ensures ∙ c.in-None.is, λ none. refl)
+returns-in-None-clause-usage g c = (λ is. sym c.command_of.ensures ∙ c.in-None.is, λ none. c.not_asked.ensures.usage)
 
-pub returns-in-None-clause-untouched : goal.returns-in-None-clause-untouched
-returns-in-None-clause-untouched g c = λ t. both_still g.D.Disk c.args.disks (λ disk b h. g.met.D.Disk.only_now disk b h)
+pub returns-in-None-clause-not_called : goal.returns-in-None-clause-not_called
+returns-in-None-clause-not_called g c = record {
+  none = λ none. (refl, refl, c.not_asked.ensures.not_called);
+  check = λ is. absurd (cc (sym c.in-None.is ∙ c.command_of.ensures ∙ is));
+}
+
+pub returns-in-None-clause-spared : goal.returns-in-None-clause-spared
+returns-in-None-clause-spared g c = record { quiet = λ quiet. refl; untouched = λ still. c.not_asked.ensures.untouched }
 
 pub returns-in-None-clause-complete : goal.returns-in-None-clause-complete
 returns-in-None-clause-complete g c = λ k are good no. absurd (cc (sym c.in-None.is ∙ c.command_of.ensures ∙ are))
@@ -34,10 +38,13 @@ returns-in-Some-clause-usage g c = (
 )
 
 pub returns-in-Some-clause-not_called : goal.returns-in-Some-clause-not_called
-returns-in-Some-clause-not_called g c = λ none. absurd (cc (sym c.in-Some.is ∙ c.command_of.ensures ∙ none))
+returns-in-Some-clause-not_called g c = record {
+  none = λ none. absurd (cc (sym c.in-Some.is ∙ c.command_of.ensures ∙ none));
+  check = λ is. c.carried.ensures.unread (cc (sym c.in-Some.is ∙ c.command_of.ensures ∙ is));
+}
 
-pub returns-in-Some-clause-unread : goal.returns-in-Some-clause-unread
-returns-in-Some-clause-unread g c = λ are. c.carried.ensures.unread (cc (sym c.in-Some.is ∙ c.command_of.ensures ∙ are))
+pub returns-in-Some-clause-spared : goal.returns-in-Some-clause-spared
+returns-in-Some-clause-spared g c = record { quiet = c.carried.ensures.quiet; untouched = c.carried.ensures.untouched }
 
 pub returns-in-Some-clause-complete : goal.returns-in-Some-clause-complete
 returns-in-Some-clause-complete g c = λ k are good no.

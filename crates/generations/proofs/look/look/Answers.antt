@@ -2,7 +2,7 @@ use Rattle.std.proofs.Common.{ℕ, sym, ◌∙◌, ap, subst}
 use Rattle.generations.specs.declared.open.Opened.{Opened}
 use Rattle.generations.specs.Files.{counts, damaged}
 use Rattle.generations.specs.Looks.{IsPicked, SaysPicked}
-use Rattle.generations.specs.Openings.{IsOpened}
+use Rattle.generations.specs.Openings.{IsOpened, IsCleanOpened}
 use Rattle.generations.specs.Picks.{of_two}
 use Rattle.generations.specs.Stored.{state_in}
 use Rattle.generations.proofs.Both.{one_read, one_on_disk, one_told}
@@ -40,12 +40,16 @@ returns-in-Ok-Whole-clause-told g c s d told_s told_d =
     let read = subst (λ (o : Opened). IsOpened o (of_two q s d)) c.in-Ok-Whole.field-0-is (c.in-Ok-Whole.ensures.told (of_two q s d) seen) in
     looked_by c.in-Ok-Some.found s d c.in-Ok-Whole.journal c.in-Ok-Whole.store c.in-Ok-Whole.entries picked read
 
-pub returns-in-Ok-Whole-clause-shut : goal.returns-in-Ok-Whole-clause-shut
-returns-in-Ok-Whole-clause-shut g c s now =
+pub returns-in-Ok-Whole-clause-clean : goal.returns-in-Ok-Whole-clause-clean
+returns-in-Ok-Whole-clause-clean g c =
     let q = c.in-Ok-Some.found.0 in
     let picked = one_read g.D.Disk q c.sync_both.new.disks c.picked.new.disks c.picked.ensures.reads in
     let opened = one_read g.D.Disk q c.picked.new.disks c.open_one.new.disks c.open_one.ensures.reads in
-    let synced = one_on_disk g.D.Disk q c.sync_both.new.disks c.in-Ok.ensures.durable s (picked.crash s (opened.crash s now)) in
-    let header = (subst (λ o. SaysPicked g.D.Disk c.sync_both.new.disks o) c.in-Ok-Some.field-0-is c.in-Ok-Some.ensures.says s synced).0 in
-    let read = subst (λ (o : Opened). IsOpened o s) c.in-Ok-Whole.field-0-is (c.in-Ok-Whole.ensures.told s (picked.seen_stays ∙ synced)) in
-    shut_found s (state_in c.in-Ok-Whole.store) read.0 c.in-Ok-Whole.journal.at header read.2
+    record {
+      clean = subst (λ (o : Opened). IsCleanOpened o) c.in-Ok-Whole.field-0-is c.in-Ok-Whole.ensures.clean;
+      shut = λ s now.
+          let synced = one_on_disk g.D.Disk q c.sync_both.new.disks c.in-Ok.ensures.durable s (picked.crash s (opened.crash s now)) in
+          let header = (subst (λ o. SaysPicked g.D.Disk c.sync_both.new.disks o) c.in-Ok-Some.field-0-is c.in-Ok-Some.ensures.says s synced).0 in
+          let read = subst (λ (o : Opened). IsOpened o s) c.in-Ok-Whole.field-0-is (c.in-Ok-Whole.ensures.told s (picked.seen_stays ∙ synced)) in
+          shut_found s (state_in c.in-Ok-Whole.store) read.0 c.in-Ok-Whole.journal.at header read.2;
+    }

@@ -1,7 +1,6 @@
 use Rattle.std.proofs.Common.{◌≡◌, ◌⊎◌, inl, inr, ⊎_elim, ℕ, None, Some, true, false, refl, sym, ◌∙◌, subst, arith}
 use Rattle.db_outside.proofs.Moments.{weakened}
-use Rattle.db_outside.specs.Record.{ready}
-use Rattle.gate_journal.specs.Gate.{IsShut, IsBehind}
+use Rattle.gate_journal.specs.Gate.{IsShut}
 use Rattle.gate_journal.proofs.Gates.{ready_there}
 use Rattle.db_outside.specs.Disk.{InAll}
 use Rattle.generations.specs.Ends.{MayEnd, EndsInOneOf}
