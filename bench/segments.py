@@ -9,7 +9,7 @@ import os, sys, tempfile
 TOP = os.path.dirname(os.path.dirname(os.path.abspath(__file__)))
 PROGRAM = sys.argv[1] if len(sys.argv) > 1 else os.path.join(TOP, "crates", "decibel_main", "out", "decibel_main")
 HEAD = "relation items a b\nend\n"
-RUNS = 3
+RUNS = 7
 
 
 def once(name):
@@ -68,9 +68,9 @@ def commits():
 
 def older():
     base = HEAD + rows(100_000) + updates(10_000, 100_000)
-    tell("`get K in master@n` among 10,000 versions", base, base + "".join("1 get items %d in master@%d\n" % ((i * 31) % 100_000, (i * 997) % 10_000) for i in range(20)), 20)
+    tell("`get K in master@n` among 10,000 versions", base, base + "".join("1 get items %d in master@%d\n" % ((i * 31) % 100_000, (i * 997) % 10_000) for i in range(2000)), 2000)
     base = HEAD + rows(100_000) + "".join("1 update items 5 a=%d\n" % i for i in range(10_000))
-    tell("the same of a key changed 10,000 times", base, base + "".join("1 get items 5 in master@%d\n" % ((i * 997) % 10_000) for i in range(20)), 20)
+    tell("the same of a key changed 10,000 times", base, base + "".join("1 get items 5 in master@%d\n" % ((i * 997) % 10_000) for i in range(2000)), 2000)
 
 
 def scans():
@@ -85,7 +85,8 @@ def merges():
     base = HEAD + rows(60_000) + "1 branch mine of master\n"
     base += "1 begin 1000\n" + "".join("1 update items %d a=1\n" % (i * 100) for i in range(500)) + "1 commit\n1 on mine\n"
     base += "1 begin 1000\n" + "".join("1 update items %d b=2\n" % (i * 100 + 50) for i in range(500)) + "1 commit\n"
-    tell("a merge of two heads with 500 changes each over 60,000 rows", base, base + "1 merge master\n", 1)
+    base += "".join("1 branch m%d of mine\n" % i for i in range(10))
+    tell("a merge of two heads with 500 changes each over 60,000 rows", base, base + "".join("1 on m%d\n1 merge master\n" % i for i in range(10)), 10)
 
 
 def inserts():
