@@ -33,14 +33,14 @@ pub masked_ids : (parts : List Part) (r : ℕ) (ts : List Touch) (count : ℕ) �
 masked_ids parts r ts count h l i k e = l i k (ap (λ (p : Part). p.id) (part_below parts r ts i (omega (arith, h, k))) ∙ e)
 
 -- a part of a working table is one of below, with the same id and the same records, or its own
-record IsBelow (some below : Part) : Type 0 where
-  id : some.id ≡ below.id
-  records : records_in some ≡ records_in below
+pub record IsBelow (some below : Part) : Type 0 where
+  pub id : some.id ≡ below.id
+  pub records : records_in some ≡ records_in below
 
-abbrev Which : List Part → ℕ → List Touch → Part → ℕ → Type 0
+abbrev pub Which : List Part → ℕ → List Touch → Part → ℕ → Type 0
 Which parts r ts part i = ((i < length parts) × IsBelow part (part_at parts i)) ⊎ (part ≡ own_part r ts)
 
-which : (parts : List Part) (r : ℕ) (ts : List Touch) (i : ℕ) → i < length (parts_over parts r ts) → Which parts r ts (part_at (parts_over parts r ts) i) i
+pub which : (parts : List Part) (r : ℕ) (ts : List Touch) (i : ℕ) → i < length (parts_over parts r ts) → Which parts r ts (part_at (parts_over parts r ts) i) i
 which parts r ts i h = by (nat_lt i (length parts)) refl
   where
     by : (b : Bool) → nat_lt i (length parts) ≡ b → Which parts r ts (part_at (parts_over parts r ts) i) i

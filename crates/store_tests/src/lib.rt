@@ -13,3 +13,5 @@ mod join_tests;
 mod merge_tests;
 #[cfg(test)]
 mod scan_tests;
+#[cfg(test)]
+mod watched;

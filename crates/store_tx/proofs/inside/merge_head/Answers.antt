@@ -7,6 +7,7 @@ use Rattle.branch_tx.specs.Granted.{tx_in, merged}
 use Rattle.line_needs.specs.Needs.{lock_of, exclusive}
 use Rattle.store_tx.specs.Keeps.{Keeps}
 use Rattle.store_tx.proofs.Merges.{merged_is, merged_keeps, held_table, head_merged}
+use Rattle.store_tx.proofs.Shows.{three_agree}
 use Rattle.store_tx.proofs.inside.merge_head.Goals as goal
 
 pub merge-requires-clause-untouched : goal.merge-requires-clause-untouched
@@ -21,6 +22,10 @@ merge-requires-clause-left g c =
     let own = c.requires.needs.granted (exclusive (lock_of c.args.branch)) (inl refl) in
     held_table d k.rows k.session b c.args.tx.now c.grant_head.new.tx (c.in_ok-grant_head.ensures.keeps k.rows k.session k.keeps own) c.in_ok-grant_head.ensures.held c.in_ok-grant_head.ensures.more
     ((g.met.St.Store.counted store).tables (head_place d b) (subst (λ p. IsMade d p) c.head_place.ensures.place c.head_place.ensures.made))
+
+pub merge-requires-clause-agree : goal.merge-requires-clause-agree
+merge-requires-clause-agree g c =
+    three_agree (g.St.Store.state c.args.store.now) c.grant_head.new.tx (g.St.View.View.parts_of c.in_ok-base.base) (g.St.View.View.parts_of c.in_ok-right.right) c.in_ok-grant_head.ensures.shown c.in_ok-base.ensures.parts c.in_ok-right.ensures.parts
 
 pub returns-clause-reply : goal.returns-clause-reply
 returns-clause-reply g c =

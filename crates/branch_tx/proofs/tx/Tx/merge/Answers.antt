@@ -1,4 +1,4 @@
-use Rattle.std.proofs.Common.{◌≡◌, ◌<◌, nat_lt, true, Err, length, List, ap, sym, ◌∙◌, subst}
+use Rattle.std.proofs.Common.{◌≡◌, ◌<◌, ◌≤◌, ◌∷◌, [], nat_lt, true, Err, length, List, ap, sym, ◌∙◌, subst, arith}
 use Rattle.std.specs.List.{list_all}
 use Rattle.db_value.specs.Relations.{columns_at}
 use Rattle.db_value.specs.declared.entry.Change.{Change}
@@ -6,7 +6,8 @@ use Rattle.db_value.specs.declared.reply.Refusal.TheVariants.{Conflict as Refuse
 use Rattle.db_value.specs.declared.reply.Reply.TheVariants.{Refused}
 use Rattle.db_store.specs.Table.{Table}
 use Rattle.db_store.specs.Counted.{IsTable}
-use Rattle.db_store.specs.Overlay.{Overlay, laid}
+use Rattle.db_value.specs.Schema.{most_relations}
+use Rattle.db_store.specs.Overlay.{Overlay, laid, untouched}
 use Rattle.db_store.specs.WorkState.{overlays_of}
 use Rattle.db_store.proofs.CountLemmas.{ascending_differ}
 use Rattle.field_merge.specs.Merge.{Clash, least_clash, table_changes, table_clashes}
@@ -15,12 +16,23 @@ use Rattle.field_merge.proofs.OrderLemmas.{merged_within}
 use Rattle.branch_tx.specs.Act.{Outcome}
 use Rattle.branch_tx.specs.Merging.{relation_name, field_name}
 use Rattle.branch_tx.specs.Granted.{Granted, with_merge}
+use Rattle.branch_tx.specs.Shown.{parts_by, ViewsAgree}
+use Rattle.branch_tx.proofs.MergeAgree.{merge_agrees}
 use Rattle.branch_tx.proofs.MergeLemmas.{laid_is, merged_by, conflicting}
 use Rattle.branch_tx.proofs.tx.Tx.merge.Goals as goal
 
 pub merge_tables-requires-clause-left : goal.merge_tables-requires-clause-left
 merge_tables-requires-clause-left g c =
     subst (λ (x : Granted). IsTable x.schema (laid x.head x.overlays)) (sym c.self.view_is) (subst (IsTable c.args.self.now.schema) (sym (laid_is c.args.self.now c.requires.untouched)) c.requires.left)
+
+pub merge_tables-requires-clause-agree : goal.merge_tables-requires-clause-agree
+merge_tables-requires-clause-agree g c =
+    let own = c.self.inside.work in
+    let few = own.viewable.relations in
+    let small : length c.self.inside.schema ≤ most_relations = omega (arith, c.self.invariant.0, few) in
+    let is : overlays_of own ≡ untouched = ap (λ (x : Granted). x.overlays) c.self.view_is ∙ c.requires.untouched in
+    let agree = subst (λ (x : Granted). ViewsAgree (x.below ∷ parts_by (g.St.View.View.parts_of c.args.base.now) ∷ parts_by (g.St.View.View.parts_of c.args.right.now) ∷ [])) (sym c.self.view_is) c.requires.agree in
+    merge_agrees own is c.self.inside.schema c.args.base.now c.args.right.now small agree
 
 pub adopt-requires-clause-relations : goal.adopt-requires-clause-relations
 adopt-requires-clause-relations g c =
