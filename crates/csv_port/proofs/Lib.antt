@@ -2,3 +2,9 @@ pub mod FieldLemmas
 pub mod ReaderLemmas
 pub mod RowsLemmas
 pub mod BackLemmas
+pub mod LineLemmas
+pub mod ReadLemmas
+pub mod OpenLemmas
+pub mod RanLemmas
+pub mod RunLemmas
+pub mod TextLemmas

@@ -17,6 +17,14 @@ pub record IsRow (columns : ℕ) (row : Record) : Type 0 where
   pub count : length row.fields ≡ columns
   pub values : AllByRecursion IsValue row.fields
 
+-- rows that a text may have, for a relation with some number of columns
+pub record AreRowsOfSome (rows : List Record) : Type 0 where
+  pub columns : ℕ
+  pub some : 0 < columns
+  pub few : columns ≤ 15
+  pub rows_are : AllByRecursion (IsRow columns) rows
+  pub short : length rows ≤ most_rows
+
 -- what was written of rows, no more than a text may have, gives these rows
 abbrev pub ReadsBack : Type 0
 ReadsBack = (columns : ℕ) (rows : List Record) → 0 < columns → length rows ≤ most_rows → AllByRecursion (IsRow columns) rows

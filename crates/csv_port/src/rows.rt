@@ -11,7 +11,7 @@ use db_value::{ListOf, Record, Records};
 use std::alloc::{AllocError, Global};
 
 /// The most rows of a text.
-const MOST_ROWS: u64 = 65_536;
+pub(crate) const MOST_ROWS: u64 = 65_536;
 
 // The next row, which is the one with this number.
 fn next_row(

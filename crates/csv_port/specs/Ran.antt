@@ -1,0 +1,33 @@
+-- Which lines of an import were run.
+use Rattle.std.specs.Prelude.{◌≡◌, ℕ, Bool, List, [], map, Option}
+use Rattle.db_value.specs.declared.entry.Entry.{Entry}
+use Rattle.db_value.specs.declared.reply.Reply.{Reply}
+use Rattle.db_store.specs.State.{State}
+use Rattle.entry_codec.specs.Logs.{Opening}
+use Rattle.stmt_text.specs.declared.stmt.Stmt.{Stmt}
+use Rattle.db_core.specs.Kept.{Logged, world_of}
+use Rattle.db_core.specs.Order.{reply_in}
+use Rattle.db_core.specs.Sits.{marked}
+use Rattle.script_run.specs.Output.{Marked, marked_as, unmarked}
+use Rattle.script_run.specs.Heard.{RanLine}
+use Rattle.script_run.specs.Runs.{Runs}
+use Rattle.csv_port.specs.Lines.{importer, text_by}
+
+-- a statement of the import was run, with the mark of a log that failed or without, and has this reply
+abbrev pub RanStmt :
+    {L : Type 0} (faults : L → ℕ) (Keeps : L → State → List Entry → Option (List ℕ) → Type 0) (generation : L → ℕ) (moment : L → ℕ × ℕ) (opens_since : L → ℕ × ℕ → Opening → Type 0) (Quiet : L → ℕ × ℕ → Type 0)
+    (old new : Logged L) (x : Stmt) (r : Reply) → Type 0
+RanStmt faults Keeps generation moment opens_since Quiet old new x r =
+    (failed : Bool) × RanLine faults Keeps generation moment opens_since Quiet old new (marked_as (text_by x) failed) × (r ≡ reply_in (world_of old.kept) (marked importer x failed) [])
+
+-- of these lines the first ones were run, and no others
+abbrev pub RunsFirst :
+    {L : Type 0} (faults : L → ℕ) (Keeps : L → State → List Entry → Option (List ℕ) → Type 0) (generation : L → ℕ) (moment : L → ℕ × ℕ) (opens_since : L → ℕ × ℕ → Opening → Type 0) (Quiet : L → ℕ × ℕ → Type 0)
+    (old new : Logged L) (all : List (List ℕ)) → Type 0
+RunsFirst faults Keeps generation moment opens_since Quiet old new all = (ran : List Marked) × (rest : List (List ℕ)) × Runs faults Keeps generation moment opens_since Quiet old new all ran rest
+
+-- all of them were run, and none has the mark
+abbrev pub RunsToEnd :
+    {L : Type 0} (faults : L → ℕ) (Keeps : L → State → List Entry → Option (List ℕ) → Type 0) (generation : L → ℕ) (moment : L → ℕ × ℕ) (opens_since : L → ℕ × ℕ → Opening → Type 0) (Quiet : L → ℕ × ℕ → Type 0)
+    (old new : Logged L) (all : List (List ℕ)) → Type 0
+RunsToEnd faults Keeps generation moment opens_since Quiet old new all = Runs faults Keeps generation moment opens_since Quiet old new all (map unmarked all) []

@@ -1,0 +1,178 @@
+//! The rows of a text, inserted in one transaction of session 1.
+ghost use Rattle.std.specs.Prelude.{◌≡◌, ◌≤◌, ◌<◌, [], true, Ok, IfOk, IfSome, OnOk, OnErr, IsErrOf, length};
+ghost use Rattle.db_value.specs.Text.{is_name};
+ghost use Rattle.db_outside.specs.Device.{Rose};
+ghost use Rattle.db_core.specs.Kept.{Stands};
+ghost use Rattle.csv_port.specs.Lines.{import_lines, ReadsAs};
+ghost use Rattle.csv_port.specs.Import.{count_named, import_told, lines_told, stop_by, told_by, told_of, Tells};
+ghost use Rattle.csv_port.specs.Ran.{RanStmt, RunsToEnd, RunsFirst};
+ghost use Rattle.csv_port.specs.Laws.{AreRowsOfSome};
+
+use crate::rows::{MOST_ROWS, read_rows};
+use crate::stop::ImportStop;
+use db_core::Core;
+use db_store::Store;
+use db_value::{Name, Record, Refusal, Reply, Schema};
+use entry_codec::Log;
+use std::alloc::{AllocError, Global};
+use stmt_text::{Line, Stmt, write_line};
+
+/// The session of an import.
+const IMPORTER: u32 = 1;
+
+/// What an import did: how many rows it inserted, and the position of the version of master that it
+/// made. Without rows it made none.
+#[derive(Clone, Copy, Debug, PartialEq, Eq)]
+pub struct Imported {
+    pub rows: u32,
+    pub position: Option<u32>,
+}
+
+// Runs a statement of the import.
+fn run_stmt<St: Store, J: Log<St>>(
+    alloc: Global,
+    core: &mut Core<St, J>,
+    stmt: Stmt,
+) -> Result<Reply, AllocError>
+    requires { ReadsAs stmt }
+    ensures ran { IfOk result (λ r. RanStmt J.faults J.Keeps J.generation J.moment J.opens_since
+        J.Quiet core.old core.new stmt r) }
+    ensures err { OnErr result (core.new ≡ core.old) }
+    ensures stands { Stands core.new.kept }
+{
+    let line = Line {
+        session: IMPORTER,
+        stmt,
+    };
+    core.stands();
+    let text = write_line(alloc, &line)?;
+    let reply = core.answer(&text, &line)?;
+    core.stands();
+    Ok(reply)
+}
+
+// Why the import stops at a row, by the reply to its insert.
+fn stop_by(row: u64, reply: &Reply) -> Option<ImportStop>
+    ensures { result ≡ stop_by row reply.now }
+{
+    match reply {
+        Reply::Refused { why } => match why {
+            Refusal::KeyThere { .. } => Some(ImportStop::KeyThere { row }),
+            Refusal::TableFull { .. } => Some(ImportStop::Full { row }),
+            Refusal::VersionsFull { .. } => Some(ImportStop::Full { row }),
+            _ => None,
+        },
+        _ => None,
+    }
+}
+
+// What the reply to the commit tells of so many rows.
+fn told_by(rows: u32, reply: &Reply) -> Result<Imported, ImportStop>
+    ensures { result ≡ told_by rows reply.now }
+{
+    match reply {
+        Reply::Made { position, .. } => Ok(Imported {
+            rows,
+            position: Some(*position),
+        }),
+        Reply::Refused {
+            why: Refusal::FaultDisk,
+        } => Err(ImportStop::DiskFault),
+        _ => Ok(Imported {
+            rows,
+            position: None,
+        }),
+    }
+}
+
+// Inserts rows, of which there is one at least.
+fn import_rows<St: Store, J: Log<St>>(
+    alloc: Global,
+    core: &mut Core<St, J>,
+    relation: &Name,
+    rows: &[Record],
+) -> Result<Imported, ImportStop>
+    requires fresh { core.old.kept.steps ≡ [] }
+    requires some { 0 < length rows.now }
+    requires rows { AreRowsOfSome rows.now }
+    requires named { is_name relation.now ≡ true }
+    ensures told { Tells (told_of core.old.kept.now relation.now rows.now) result }
+    ensures first { RunsFirst J.faults J.Keeps J.generation J.moment J.opens_since J.Quiet
+        core.old core.new (import_lines relation.now rows.now) }
+    ensures all { OnOk result (RunsToEnd J.faults J.Keeps J.generation J.moment J.opens_since J.Quiet
+        core.old core.new (import_lines relation.now rows.now)) }
+    ensures stays { OnErr result (core.new.kept.now ≡ core.old.kept.now) }
+    ensures fault { IsErrOf result ImportStop.DiskFault
+        → Rose (J.faults core.old.log) (J.faults core.new.log) }
+{
+    core.stands();
+    let room = MOST_ROWS as u32;
+    run_stmt(alloc, core, Stmt::Begin { room: Some(room) })?;
+    let mut number: u64 = 0;
+    for row in rows {
+        number += 1;
+        let insert = Stmt::Insert {
+            relation: *relation,
+            key: row.key,
+            fields: row.fields,
+        };
+        let reply = run_stmt(alloc, core, insert)?;
+        match stop_by(number, &reply) {
+            Some(stop) => return Err(stop),
+            None => {}
+        }
+    }
+    let reply = run_stmt(alloc, core, Stmt::Commit)?;
+    told_by(number as u32, &reply)
+}
+
+// The number of a relation's columns.
+fn count_of(schema: &Schema, relation: &Name) -> Option<usize>
+    ensures value { result ≡ count_named schema.now relation.now }
+    ensures within { IfSome result (λ n. (0 < n) × (n ≤ 15)) }
+{
+    match schema.relation(relation) {
+        None => None,
+        Some(at) => Some(schema.relations()[at as usize].columns.as_slice().len()),
+    }
+}
+
+/// Imports the rows of a text into a relation of master, as session 1 of a core without lines. All rows
+/// are read before the first is inserted. A row that isn't inserted stops the import, and nothing of it
+/// stays.
+pub fn import<St: Store, J: Log<St>>(
+    alloc: Global,
+    core: &mut Core<St, J>,
+    relation: &Name,
+    text: &[u8],
+) -> Result<Imported, ImportStop>
+    requires fresh { core.old.kept.steps ≡ [] }
+    requires named { is_name relation.now ≡ true }
+    ensures told { Tells (import_told core.old.kept.now relation.now text.now) result }
+    ensures first { RunsFirst J.faults J.Keeps J.generation J.moment J.opens_since J.Quiet
+        core.old core.new (lines_told core.old.kept.now relation.now text.now) }
+    ensures all { OnOk result (RunsToEnd J.faults J.Keeps J.generation J.moment J.opens_since J.Quiet
+        core.old core.new (lines_told core.old.kept.now relation.now text.now)) }
+
+    // After each refusal and fault the dataset is as before.
+    ensures stays { OnErr result (core.new.kept.now ≡ core.old.kept.now) }
+    ensures fault { IsErrOf result ImportStop.DiskFault
+        → Rose (J.faults core.old.log) (J.faults core.new.log) }
+{
+    core.stands();
+    let Some(columns) = count_of(core.schema(), relation) else {
+        return Err(ImportStop::NoRelation);
+    };
+    match read_rows(alloc, columns, text) {
+        Err(stop) => Err(stop),
+        Ok(rows) => {
+            if rows.as_slice().is_empty() {
+                return Ok(Imported {
+                    rows: 0,
+                    position: None,
+                });
+            }
+            import_rows(alloc, core, relation, rows.as_slice())
+        }
+    }
+}
