@@ -84,6 +84,19 @@ static void time_page(const char *work, int fields) {
     free(page);
 }
 
+typedef struct { uint64_t key; uint32_t slot; } keyed;
+
+// The last slot with a key, by a binary search.
+static KERNEL uint32_t last_of(const keyed *all, size_t count, uint64_t key) {
+    size_t from = 0;
+    while (count > 1) {
+        size_t half = count / 2;
+        if (all[from + half].key <= key) from += half;
+        count -= half;
+    }
+    return all[from].slot;
+}
+
 int main(void) {
     time_page("record_page read 2 fields", 2);
     time_page("record_page read 15 fields", 15);
@@ -93,7 +106,10 @@ int main(void) {
     row into = {0};
     if (!links) return 1;
     for (int at = 0; at < pages; at++) links[at] = filled(fields, (uint64_t)at * (uint64_t)most, at + 1 < pages ? most : RECORDS - at * most);
-    uint64_t read = UINT64_MAX, longer = UINT64_MAX, sums = 0, lengths = 0;
+    keyed *all = malloc(RECORDS * sizeof *all);
+    if (!all) return 1;
+    for (uint32_t slot = 0; slot < RECORDS; slot++) all[slot] = (keyed){slot, slot};
+    uint64_t read = UINT64_MAX, longer = UINT64_MAX, found = UINT64_MAX, sums = 0, lengths = 0, slots = 0;
     for (int round = 0; round < ROUNDS; round++) {
         uint64_t start = now();
         for (int at = 0; at < pages; at++) {
@@ -116,8 +132,13 @@ int main(void) {
             free(more);
         }
         longer = least(longer, now() - start);
+
+        start = now();
+        for (uint64_t turn = 0; turn < RECORDS; turn++) slots += last_of(all, RECORDS, turn * 2654435761u % RECORDS);
+        found = least(found, now() - start);
     }
     tell("segment read", RECORDS, read, RECORDS, sums, "the same over a list of pages");
     tell("segment extended", RECORDS, longer, LONGER, lengths, "a copy of a list of plain pointers and of the last page");
+    tell("segment last", RECORDS, found, RECORDS, slots, "a binary search in a sorted list of keys with their slots");
     return 0;
 }

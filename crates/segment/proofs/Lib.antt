@@ -1,5 +1,5 @@
-mod BlockLemmas
+pub mod PageLemmas
+pub mod BlockLemmas
 pub mod KeyLemmas
-mod PageLemmas
 mod GreatestLemmas
 mod SlotLemmas

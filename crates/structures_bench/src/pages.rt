@@ -2,6 +2,7 @@
 ghost use Rattle.std.specs.Prelude.{◌≡◌, ◌<◌, ◌≤◌, ◌+◌, ◌^◌, length, IfOk};
 ghost use Rattle.segment.specs.Pages.{AreWide};
 
+use crate::keys::scattered;
 use crate::timing::Timing;
 use anyhow::Result;
 use db_value::{Fields, Record, Records, Steps};
@@ -138,6 +139,17 @@ fn extend_often(segment: &Segment, rows: &Records) -> Result<u64, AllocError>
     Ok(sum)
 }
 
+// The sum of the last slots of all keys below a size, in a scattered order.
+fn sum_of_lasts(segment: &Segment, size: u32) -> u64 {
+    let mut sum = 0u64;
+    for turn in 0..size {
+        if let Some(slot) = segment.last(u64::from(scattered(turn, size))) {
+            sum = sum.wrapping_add(u64::from(slot));
+        }
+    }
+    sum
+}
+
 fn time_page<R: Clock + Print + AllocGlobal>(
     rt: &R,
     work: &str,
@@ -158,13 +170,14 @@ fn time_page<R: Clock + Print + AllocGlobal>(
     Ok(())
 }
 
-/// Times the records of a page and of a segment of `size` records, and segments that are longer by one.
+/// Times the records of a page and of a segment of `size` records, segments that are longer by one, and the last
+/// slots of keys.
 pub fn time_pages<R: Clock + Print + AllocGlobal>(rt: &R, size: u32, rounds: u32) -> Result<()>
     requires { size ≤ 16777216 }
 {
     time_page(rt, "record_page read 2 fields", 2, rounds)?;
     time_page(rt, "record_page read 15 fields", 15, rounds)?;
-    let (mut read, mut longer) = (Timing::new(), Timing::new());
+    let (mut read, mut longer, mut last) = (Timing::new(), Timing::new(), Timing::new());
     let segment = segment_of(rt.alloc(), 2, size)?;
     let rows = rows_of(rt.alloc(), 2, 1)?;
     for _ in 0..rounds {
@@ -175,8 +188,13 @@ pub fn time_pages<R: Clock + Print + AllocGlobal>(rt: &R, size: u32, rounds: u32
         let start = Instant::now(rt)?;
         let sum = extend_often(&segment, &rows)?;
         longer.add(start.elapsed(rt)?, sum);
+
+        let start = Instant::now(rt)?;
+        let sum = sum_of_lasts(&segment, size);
+        last.add(start.elapsed(rt)?, sum);
     }
     read.print(rt, "segment read", size, "records", size)?;
     longer.print(rt, "segment extended", size, "records", LONGER)?;
+    last.print(rt, "segment last", size, "records", size)?;
     Ok(())
 }
