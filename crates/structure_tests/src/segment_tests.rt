@@ -151,3 +151,82 @@ fn leaves_the_segment_before_as_it_was(rt: HostRuntime) -> Result<(), Fail> {
     }
     Ok(())
 }
+
+// Records whose keys are their slots modulo a number, from a slot on.
+fn in_turn(alloc: Global, first: u32, count: u32, turn: u32) -> Result<Records, AllocError>
+    requires { 0 < turn }
+    ensures wide { IfOk result (λ rows. AreWide 1 rows) }
+    ensures count { IfOk result (λ rows. length rows ≡ count) }
+{
+    let mut rows = Vec::with_capacity(alloc, count as usize)?;
+    for place in 0..count {
+        rows.push(row_of(u64::from(first.wrapping_add(place) % turn), 1))?;
+    }
+    Ok(Records::of(rows))
+}
+
+// A segment of 100 times as many such records, so many at a time.
+fn grown_in_turn(alloc: Global, turn: u32, by: u32) -> Result<Segment, AllocError>
+    requires some { 0 < turn }
+    requires by { by < 2 ^ 16 }
+{
+    let mut now = Segment::new(alloc, 1)?;
+    for _step in 0..100u32 {
+        let rows = in_turn(alloc, now.len(), by, turn)?;
+        now = now.extended(&rows)?;
+    }
+    Ok(now)
+}
+
+// The first key whose last slot is told wrong, or how many keys there are.
+fn first_wrong_last(segment: &Segment, turn: u32) -> u32
+    requires { 0 < turn }
+{
+    let len = segment.len();
+    for key in 0..turn {
+        let last = if key < len {
+            Some(len - 1 - (len - 1 - key) % turn)
+        } else {
+            None
+        };
+        if segment.last(u64::from(key)) != last {
+            return key;
+        }
+    }
+    turn
+}
+
+// The first slot whose slot before with the same key is told wrong, or the length.
+fn first_wrong_before(segment: &Segment, turn: u32) -> u32 {
+    for slot in 0..segment.len() {
+        if segment.before(slot) != slot.checked_sub(turn) {
+            return slot;
+        }
+    }
+    segment.len()
+}
+
+#[test]
+#[rattlefmt::skip]
+fn finds_the_slots_of_keys(rt: HostRuntime) -> Result<(), Fail> {
+    let cases = [
+        // keys  records at a time, a hundred times
+        (1,      1),
+        (7,      1),
+        (7,      64),
+        (50,     3),
+        (640,    7),
+        (5000,   31),
+    ];
+    for (keys, by) in cases {
+        if keys == 0 || by > 400 {
+            continue;
+        }
+        let segment = grown_in_turn(rt.alloc(), keys, by)?;
+        assert_eq!(rt; segment.len(), 100 * by, "{by} of {keys}");
+        assert_eq!(rt; first_wrong_last(&segment, keys), keys, "{by} of {keys}");
+        assert_eq!(rt; first_wrong_before(&segment, keys), 100 * by, "{by} of {keys}");
+        assert_eq!(rt; segment.last(u64::from(keys)), None, "{by} of {keys}");
+    }
+    Ok(())
+}
