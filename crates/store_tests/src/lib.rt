@@ -12,4 +12,6 @@ mod join_tests;
 #[cfg(test)]
 mod merge_tests;
 #[cfg(test)]
+mod part_tests;
+#[cfg(test)]
 mod scan_tests;

@@ -23,7 +23,7 @@ returns-then-is_last c =
     let place = made_kept s.schema s.lanes.items s.order.items s.segments.items o c.requires in
     let last : is_last (layout_of s) o ≡ true = sym c.is_last.ensures ∙ c.if-is_last.true in
     subst (λ (ls : List Lived). IsSeen s.schema s.segments.items k o.position ls) (sym (c.in_ok-view.ensures ∙ c.view.ensures ∙ ap (λ (x : KeptLane). x.head) c.lane.ensures.lane))
-    (head_seen s.schema s.lanes.items s.segments.items o.branch o.position s.stored place.0 (last_kept s.schema s.lanes.items s.order.items s.segments.items o place.0 last))
+    (head_seen s.schema s.lanes.items s.order.items s.segments.items o.branch o.position s.stored s.laid place.0 (last_kept s.schema s.lanes.items s.order.items s.segments.items o place.0 last))
 
 pub returns : goal.returns
 returns c =
