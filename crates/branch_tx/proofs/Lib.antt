@@ -3,6 +3,7 @@ pub mod Spellings
 pub mod LentLemmas
 pub mod ShownLemmas
 pub mod SeenAgree
+pub mod MergeAgree
 pub mod Private
 pub mod Images
 pub mod WithSets

@@ -1,5 +1,5 @@
 -- What a transaction sees agrees: its working table with the views that it was lent, and these with each other.
-use Rattle.std.proofs.Common.{◌≡◌, ◌≢◌, ℕ, zero, suc, ◌+◌, ◌<◌, ◌≤◌, Bool, true, false, List, [], ◌∷◌, ◌++◌, length, map, get_or, refl, ap, sym, subst, ◌∙◌, arith, inl, inr, ◌⊎◌}
+use Rattle.std.proofs.Common.{◌≡◌, ℕ, zero, suc, ◌<◌, ◌≤◌, Bool, true, false, List, [], ◌∷◌, length, map, get_or, refl, ap, sym, subst, ◌∙◌, arith, inl, inr, ◌⊎◌}
 use Rattle.std.specs.Prelude.{nat_lt}
 use Rattle.std.specs.List.{All, AllByRecursion}
 use Rattle.std.proofs.lemmas.Bool.{ltb-true, ltb-false}
@@ -12,13 +12,13 @@ use Rattle.db_store.specs.declared.seen.Seen.TheVariants.{Kept, Own}
 use Rattle.db_store.specs.declared.work.Work.{Work}
 use Rattle.db_store.specs.declared.touch.Touch.{Touch}
 use Rattle.db_store.specs.Touched.{touches_at}
-use Rattle.db_store.specs.Parts.{Part, part_at, no_part, records_in}
-use Rattle.db_store.specs.WorkParts.{own_id, masked_slot, masked, own_part, parts_over}
+use Rattle.db_store.specs.Parts.{Part, part_at, records_in}
+use Rattle.db_store.specs.WorkParts.{masked_slot, own_part, parts_over}
 use Rattle.db_store.specs.SeenState.{seen_parts}
 use Rattle.db_store.proofs.WorkLemmas.{part_below, part_last}
 use Rattle.multi_scan.specs.Agree.{AgreeOn, AllAgree}
 use Rattle.multi_scan.specs.Places.{shown}
-use Rattle.branch_tx.specs.Shown.{Shown, parts_by, parts_at, parts_in, ViewsAgree}
+use Rattle.branch_tx.specs.Shown.{Shown, parts_at, parts_in, ViewsAgree}
 use Rattle.branch_tx.specs.Granted.{Granted, views_of}
 use Rattle.branch_tx.specs.SeenFrom.{IsWorkOf, IsFrom, AreFrom, parts_below, LackOwnId, IsApart}
 use Rattle.branch_tx.proofs.ShownLemmas.{shown_at}
@@ -33,14 +33,14 @@ pub masked_ids : (parts : List Part) (r : ℕ) (ts : List Touch) (count : ℕ) �
 masked_ids parts r ts count h l i k e = l i k (ap (λ (p : Part). p.id) (part_below parts r ts i (omega (arith, h, k))) ∙ e)
 
 -- a part of a working table is one of below, with the same id and the same records, or its own
-record IsBelow (some below : Part) : Type 0 where
-  id : some.id ≡ below.id
-  records : records_in some ≡ records_in below
+pub record IsBelow (some below : Part) : Type 0 where
+  pub id : some.id ≡ below.id
+  pub records : records_in some ≡ records_in below
 
-abbrev Which : List Part → ℕ → List Touch → Part → ℕ → Type 0
+abbrev pub Which : List Part → ℕ → List Touch → Part → ℕ → Type 0
 Which parts r ts part i = ((i < length parts) × IsBelow part (part_at parts i)) ⊎ (part ≡ own_part r ts)
 
-which : (parts : List Part) (r : ℕ) (ts : List Touch) (i : ℕ) → i < length (parts_over parts r ts) → Which parts r ts (part_at (parts_over parts r ts) i) i
+pub which : (parts : List Part) (r : ℕ) (ts : List Touch) (i : ℕ) → i < length (parts_over parts r ts) → Which parts r ts (part_at (parts_over parts r ts) i) i
 which parts r ts i h = by (nat_lt i (length parts)) refl
   where
     by : (b : Bool) → nat_lt i (length parts) ≡ b → Which parts r ts (part_at (parts_over parts r ts) i) i

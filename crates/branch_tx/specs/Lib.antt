@@ -5,6 +5,7 @@ pub mod Merging
 pub mod Alone
 pub mod Shown
 pub mod Granted
+pub mod MayMerge
 pub mod SeenFrom
 pub mod Lending
 pub mod Stops

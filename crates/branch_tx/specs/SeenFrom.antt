@@ -9,7 +9,7 @@ use Rattle.db_store.specs.Parts.{Part, part_at}
 use Rattle.db_store.specs.WorkParts.{own_id}
 use Rattle.db_store.specs.WorkState.{under_of, overlays_of}
 use Rattle.branch_tx.specs.Shown.{parts_by, IsAmong}
-use Rattle.branch_tx.specs.Granted.{Granted, views_of}
+use Rattle.branch_tx.specs.Granted.{Granted}
 
 -- the working table of a transaction
 pub record IsWorkOf {V : Type 0} {g : Ghosts V} (t : Granted) (w : Work V g) : Type 0 where

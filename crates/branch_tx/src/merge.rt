@@ -1,13 +1,13 @@
 //! Merges in a granted transaction.
-ghost use Rattle.std.specs.Prelude.{◌≡◌, ◌<◌, None, true, nat_lt, length, IfOk, OnOk, OnErr};
+ghost use Rattle.std.specs.Prelude.{◌≡◌, ◌<◌, true, nat_lt, length, IfOk, OnOk, OnErr};
 ghost use Rattle.std.specs.List.{list_all};
 ghost use Rattle.db_value.specs.Relations.{columns_at};
 ghost use Rattle.db_store.specs.Adopt.{keys_differ};
-ghost use Rattle.db_store.specs.Counted.{IsTable};
 ghost use Rattle.db_store.specs.Overlay.{untouched};
 ghost use Rattle.field_merge.specs.Named.{IsFieldOf};
 ghost use Rattle.branch_tx.specs.Merging.{relation_name, field_name};
 ghost use Rattle.branch_tx.specs.Granted.{merged, adopted, with_merge};
+ghost use Rattle.branch_tx.specs.MayMerge.{MayMerge};
 
 use crate::refuse::{refused, versions_full};
 use crate::tx::Tx;
@@ -66,7 +66,8 @@ impl<St: Store> Tx<St> {
     }
 
     /// Merges the right table, which stands at a place, into its working table, over the table of
-    /// their common ancestor. A refused merge leaves everything as before, and so does want of memory.
+    /// their common ancestor. All three views are of one store. A refused merge leaves everything as
+    /// before, and so does want of memory.
     pub fn merge(
         &mut self,
         from: VersionPlace,
@@ -74,11 +75,8 @@ impl<St: Store> Tx<St> {
         right: &St::View,
         prefer: Prefer,
     ) -> Result<Reply, AllocError>
-        requires untouched { self.old.overlays ≡ untouched }
-        requires first { self.old.second ≡ None }
-        requires left { IsTable self.old.schema self.old.head }
-        requires base { IsTable self.old.schema (St.View.table base.now) }
-        requires right { IsTable self.old.schema (St.View.table right.now) }
+        requires may { MayMerge self.old (St.View.table base.now) (St.View.table right.now)
+            (St.View.parts_of base.now) (St.View.parts_of right.now) }
         ensures reply { IfOk result (λ r. r ≡ (merged self.old from prefer (St.View.table base.now)
             (St.View.table right.now)).reply) }
         ensures left { OnOk result (self.new ≡ with_merge self.old

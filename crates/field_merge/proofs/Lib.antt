@@ -6,3 +6,7 @@ pub mod PreferLemmas
 pub mod OrderLemmas
 pub mod MadeLemmas
 pub mod ClashLemmas
+pub mod TurnLemmas
+pub mod SplitLemmas
+pub mod AgreeLemmas
+pub mod UnsharedLemmas

@@ -55,7 +55,7 @@ made_by to (c ∷ cs) t all others r key h =
 -- ---- members
 
 -- whether a number is one of these
-abbrev among : ℕ → List ℕ → Bool
+abbrev pub among : ℕ → List ℕ → Bool
 among k ks = list_any (λ x. k == x) ks
 
 append_nil : {A : Type 0} (xs ys : List A) → xs ++ ys ≡ [] → (xs ≡ []) × (ys ≡ [])
@@ -109,11 +109,11 @@ put_among : (key : ℕ) (ks : List ℕ) → among key (put_key key ks) ≡ true
 put_among key [] = among_first key key [] refl
 put_among key (x ∷ xs) = put_cases (λ (r : List ℕ). among key r ≡ true) key x xs (λ l. among_first key key (x ∷ xs) refl) (λ e. among_first key x xs e) (λ g. among_later key x (put_key key xs) (put_among key xs))
 
-union_right : (k : ℕ) (xs ys : List ℕ) → among k ys ≡ true → among k (union_keys xs ys) ≡ true
+pub union_right : (k : ℕ) (xs ys : List ℕ) → among k ys ≡ true → among k (union_keys xs ys) ≡ true
 union_right k [] ys m = m
 union_right k (x ∷ xs) ys m = among_put k x (union_keys xs ys) (union_right k xs ys m)
 
-union_left : (k : ℕ) (xs ys : List ℕ) → among k xs ≡ true → among k (union_keys xs ys) ≡ true
+pub union_left : (k : ℕ) (xs ys : List ℕ) → among k xs ≡ true → among k (union_keys xs ys) ≡ true
 union_left k [] ys m = absurd (false≢true m)
 union_left k (x ∷ xs) ys m = at (k == x) refl m (union_left k xs ys)
   where
@@ -121,7 +121,7 @@ union_left k (x ∷ xs) ys m = at (k == x) refl m (union_left k xs ys)
     at true q m later = subst (λ n. among n (put_key x (union_keys xs ys)) ≡ true) (sym (eqb-true k x q)) (put_among x (union_keys xs ys))
     at false q m later = among_put k x (union_keys xs ys) (later m)
 
-among_keys : (key : ℕ) (rows : List Record) (fields : List Value) → fields_in key rows ≡ Some fields → among key (keys_of rows) ≡ true
+pub among_keys : (key : ℕ) (rows : List Record) (fields : List Value) → fields_in key rows ≡ Some fields → among key (keys_of rows) ≡ true
 among_keys key [] fields e = absurd (none-some fields e)
 among_keys key (r ∷ rs) fields e = at (r.key == key) refl e (among_keys key rs fields)
   where

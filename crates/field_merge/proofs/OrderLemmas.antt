@@ -25,7 +25,7 @@ over_rows : (key : ℕ) (rows : List Record) → Above key rows → Over key (ke
 over_rows key [] a = tt
 over_rows key (r ∷ rs) a = (a.0, over_rows key rs a.1)
 
-climbs_rows : (rows : List Record) → Rises rows → Climbs (keys_of rows)
+pub climbs_rows : (rows : List Record) → Rises rows → Climbs (keys_of rows)
 climbs_rows [] up = tt
 climbs_rows (r ∷ rs) up = (over_rows r.key rs up.0, climbs_rows rs up.1)
 

@@ -1,25 +1,19 @@
 -- The merge relation by relation.
-use Rattle.std.proofs.Common.{◌≡◌, ℕ, suc, ◌==◌, ◌+◌, ◌-◌, ◌<◌, ◌≤◌, Bool, true, false, cond, List, [], ◌∷◌, ◌++◌, length, Some, Result, Err, refl, ap, sym, ◌∙◌, subst, arith}
+use Rattle.std.proofs.Common.{◌≡◌, ℕ, suc, ◌==◌, ◌+◌, ◌-◌, ◌<◌, ◌≤◌, Bool, true, false, cond, List, [], ◌∷◌, ◌++◌, length, Some, Result, Err, refl, ap, sym, ◌∙◌, arith}
 use Rattle.std.specs.List.{flat_map, range_with_len}
 use Rattle.std.proofs.lemmas.Bool.{eqb-true, eq-eqb}
 use Rattle.std.proofs.lemmas.Option.{none-some}
 use Rattle.std.proofs.lemmas.List.{append-nil, append_assoc}
 use Rattle.db_value.specs.Value.{Value}
-use Rattle.db_value.specs.Relations.{columns_at}
 use Rattle.db_value.specs.declared.record.Record.{Record}
 use Rattle.db_value.specs.declared.entry.Change.{Change}
-use Rattle.db_value.specs.declared.schema.Relation.{Relation}
-use Rattle.db_value.specs.declared.condition.Prefer.{Prefer}
-use Rattle.db_store.specs.Table.{Contents, Table, relation_at, rows_of}
-use Rattle.db_store.specs.Counted.{IsTable}
-use Rattle.db_store.specs.Rising.{rises_rows}
-use Rattle.db_store.specs.SameRows.{fields_in, Apart, fields_rows, apart_rows}
-use Rattle.field_merge.specs.Merge.{merge_at, all_keys, change_where, clash_where, relation_changes, relation_clashes, Clash, least_clash}
-use Rattle.field_merge.specs.Walk.{record_changes, record_clashes, HaveFields, AreSides}
+use Rattle.db_store.specs.SameRows.{fields_in, Apart}
+use Rattle.field_merge.specs.Merge.{Clash, least_clash}
+use Rattle.field_merge.specs.Walk.{HaveFields}
 
 -- ---- the rows of a table's relation
 
-have_fields : (n : ℕ) (rows : List Record) → Apart rows → ((q : ℕ) (fields : List Value) → fields_in q rows ≡ Some fields → length fields ≡ n) → HaveFields n rows
+pub have_fields : (n : ℕ) (rows : List Record) → Apart rows → ((q : ℕ) (fields : List Value) → fields_in q rows ≡ Some fields → length fields ≡ n) → HaveFields n rows
 have_fields n [] a each = tt
 have_fields n (r ∷ rs) a each = (
   each r.key r.fields (ap (λ (b : Bool). cond b (Some r.fields) (fields_in r.key rs)) (eq-eqb r.key r.key refl)),
@@ -29,37 +23,6 @@ have_fields n (r ∷ rs) a each = (
     behind : (q : ℕ) (fields : List Value) → fields_in q rs ≡ Some fields → (b : Bool) → (r.key == q) ≡ b → fields_in q (r ∷ rs) ≡ Some fields
     behind q fields e true k = absurd (none-some fields (sym (sym e ∙ ap (λ n. fields_in n rs) (sym (eqb-true r.key q k)) ∙ a.0)))
     behind q fields e false k = ap (λ (b : Bool). cond b (Some r.fields) (fields_in q rs)) k ∙ e
-
-counted_rows : (schema : List Relation) (t : Table) (r : ℕ) → IsTable schema t → r < length schema → HaveFields (length (columns_at schema r)) (rows_of (relation_at t r))
-counted_rows schema t r is h = have_fields (length (columns_at schema r)) (rows_of (relation_at t r)) (apart_rows (relation_at t r))
-    (λ q fields e. is.counted r q fields (subst (λ n. r < n) (sym is.wide) h) (sym (fields_rows (relation_at t r) q) ∙ e))
-
--- lists that are the rows of three tables
-pub record AreRows (base left right : Contents) (xs ys zs : List Record) : Type 0 where
-  pub base_is : xs ≡ rows_of base
-  pub left_is : ys ≡ rows_of left
-  pub right_is : zs ≡ rows_of right
-
-pub sides_are : (schema : List Relation) (r : ℕ) (base left right : Table) (xs ys zs : List Record) → r < length schema → IsTable schema base → IsTable schema left → IsTable schema right → AreRows (relation_at base r) (relation_at left r) (relation_at right r) xs ys zs → AreSides xs ys zs
-sides_are schema r base left right xs ys zs h b l m are =
-    subst (λ (rows : List Record). AreSides rows ys zs) (sym are.base_is)
-    (subst (λ (rows : List Record). AreSides (rows_of (relation_at base r)) rows zs) (sym are.left_is)
-    (subst (λ (rows : List Record). AreSides (rows_of (relation_at base r)) (rows_of (relation_at left r)) rows) (sym are.right_is) (record {
-      base_rises = rises_rows (relation_at base r);
-      left_rises = rises_rows (relation_at left r);
-      right_rises = rises_rows (relation_at right r);
-      fields = (length (columns_at schema r), counted_rows schema base r b h, counted_rows schema left r l h, counted_rows schema right r m h);
-    })))
-
-pub changes_of_rows : (prefer : Prefer) (r : ℕ) (base left right : Contents) (xs ys zs : List Record) → AreRows base left right xs ys zs → record_changes prefer r xs ys zs ≡ relation_changes prefer r base left right
-changes_of_rows prefer r base left right xs ys zs are =
-    (λ i. record_changes prefer r (are.base_is i) (are.left_is i) (are.right_is i))
-    ∙ (λ i. flat_map (λ key. change_where r key (fields_rows left key i) (merge_at prefer (fields_rows base key i) (fields_rows left key i) (fields_rows right key i))) (all_keys base left right))
-
-pub clashes_of_rows : (prefer : Prefer) (r : ℕ) (base left right : Contents) (xs ys zs : List Record) → AreRows base left right xs ys zs → record_clashes prefer r xs ys zs ≡ relation_clashes prefer r base left right
-clashes_of_rows prefer r base left right xs ys zs are =
-    (λ i. record_clashes prefer r (are.base_is i) (are.left_is i) (are.right_is i))
-    ∙ (λ i. flat_map (λ key. clash_where r key (merge_at prefer (fields_rows base key i) (fields_rows left key i) (fields_rows right key i))) (all_keys base left right))
 
 -- ---- one relation more
 

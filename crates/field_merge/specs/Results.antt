@@ -9,21 +9,24 @@ use Rattle.db_value.specs.declared.condition.Prefer.{Prefer}
 use Rattle.db_value.specs.declared.condition.Prefer.TheVariants.{Neither}
 use Rattle.db_store.specs.Table.{Table, relation_at, with_changes}
 use Rattle.db_store.specs.Counted.{IsTable}
+use Rattle.db_store.specs.Parts.{Part}
 use Rattle.db_store.specs.Fits.{ascends, change_fits}
 use Rattle.field_merge.specs.declared.stop.MergeStop.{MergeStop}
 use Rattle.field_merge.specs.declared.stop.MergeStop.TheVariants.{Conflict}
 use Rattle.field_merge.specs.Merge.{Clash, least_clash, merge_key, relation_changes, relation_clashes, table_changes, table_clashes}
 use Rattle.field_merge.specs.Named.{IsFieldOf}
+use Rattle.field_merge.specs.Shared.{PartsAgree}
 
 -- if a merge stopped at a conflict, it has this
 abbrev pub IfConflict : {T : Type 0} → Result T MergeStop → (Clash → Type 0) → Type 0
 IfConflict result P = (r k : ℕ) (f : Option ℕ) → result ≡ Err (Conflict r k f) → P (record { relation = r; key = k; field = f })
 
--- all three are tables of the schema
-pub record AreTables (schema : List Relation) (base left right : Table) : Type 0 where
+-- views of three tables of the schema, whose parts agree
+pub record AreViews (schema : List Relation) (base left right : Table) (bs ls rs : ℕ → List Part) : Type 0 where
   pub of_base : IsTable schema base
   pub of_left : IsTable schema left
   pub of_right : IsTable schema right
+  pub agree : PartsAgree schema bs ls rs
 
 -- changes of left that make the merge of one relation of three tables
 abbrev pub changes_at : Prefer → Table → Table → Table → ℕ → List Change

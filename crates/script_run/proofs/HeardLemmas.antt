@@ -51,7 +51,7 @@ module _ {L : Type 0} (faults : L → ℕ) (Keeps : L → State → List Entry �
 
   -- these lines were run, and the others were not
   pub runs_to : (old new : Logged L) (all : List (List ℕ)) (ran : List Marked) (rest : List (List ℕ)) → all ≡ lines_of ran ++ rest → Stands new.kept → Hears old.kept new.kept ran → All old ran new → RunsTo old new all ran rest
-  runs_to old new all ran rest lines stands h stores = record { lines = lines; state = heard_state old.kept new.kept ran stands h; stores = stores }
+  runs_to old new all ran rest lines stands h stores = record { lines = lines; heard = h; state = heard_state old.kept new.kept ran stands h; stores = stores }
 
   -- and one line more
   pub runs_more : (old mid new : Logged L) (all : List (List ℕ)) (ran : List Marked) (m : Marked) (rest : List (List ℕ)) → all ≡ lines_of ran ++ m.line ∷ rest → Stands mid.kept → Stands new.kept → Hears old.kept mid.kept ran → All old ran mid → Line mid new m

@@ -1,3 +1,5 @@
-pub mod PageLemmas
-pub mod BlockLemmas
+mod BlockLemmas
 pub mod KeyLemmas
+mod PageLemmas
+mod GreatestLemmas
+mod SlotLemmas

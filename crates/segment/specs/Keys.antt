@@ -1,11 +1,13 @@
--- The slots in which the records with a key stand, and two indexes that tell them.
-use Rattle.std.specs.Prelude.{◌≡◌, ℕ, suc, ◌+◌, ◌-◌, ◌<◌, ◌≤◌, ◌==◌, cond, List, [], ◌∷◌, length, take, Option, Some, None}
+-- The slots in which the records with a key stand, and the runs that tell them.
+use Rattle.std.specs.Prelude.{◌≡◌, ◌≢◌, ℕ, suc, ◌<◌, ◌≤◌, ◌==◌, cond, List, [], ◌∷◌, length, map, take, Option, Some, None}
+use Rattle.std.specs.Arc.{arc_value}
+use Rattle.std.specs.List.{All, Contains}
 use Rattle.std.specs.Option.{option_or}
-use Rattle.std.specs.FinMap as finite
 use Rattle.db_value.specs.declared.record.Record.{Record}
 use Rattle.record_page.specs.Page.{record_at}
-use Rattle.key_index.specs.declared.changes.SpotChange.{SpotChange}
-use Rattle.key_index.specs.Places.{Places}
+use Rattle.segment.specs.declared.slot.KeyedSlot.{KeyedSlot}
+use Rattle.segment.specs.declared.run.Run.{Run}
+use Rattle.segment.specs.declared.keys.KeySlots.{KeySlots}
 
 -- the greatest slot with a key, of records that stand from a slot on
 abbrev pub last_from : ℕ → List Record → ℕ → Option ℕ
@@ -20,22 +22,31 @@ last_slot records key = last_from 0 records key
 abbrev pub slot_before : List Record → ℕ → Option ℕ
 slot_before records slot = last_slot (take slot records) (record_at records slot).key
 
--- a slot as an index has it
-abbrev pub placed : Option ℕ → Option (ℕ × ℕ)
-placed None = None
-placed (Some slot) = Some (0, slot)
+-- these are the slots from one up to another, with their keys
+pub record AreOf (records : List Record) (from to : ℕ) (slots : List KeyedSlot) : Type 0 where
+  pub ordered : from ≤ to
+  pub each : (slot : ℕ) → from ≤ slot → slot < to → Contains slots (record { key = (record_at records slot).key; slot = slot })
+  pub only : All (λ keyed. (from ≤ keyed.slot) × ((keyed.slot < to) × ((record_at records keyed.slot).key ≡ keyed.key))) slots
 
--- what an index of the slots before others has to change for a slot
-abbrev pub noted : ℕ → Option (ℕ × ℕ) → List SpotChange
-noted slot None = []
-noted slot (Some before) = record { key = slot; place = Some before } ∷ []
+-- the runs, the last slots first, have all slots up to one
+abbrev pub AreRuns : List Record → List Run → ℕ → Type 0
+AreRuns records [] to = to ≡ 0
+AreRuns records (run ∷ older) to = AreOf records run.from to run.slots.items × AreRuns records older run.from
 
--- one index has the greatest slot of each key, and the other has the slot before each slot, if there is one
-pub record AreSlots (lasts befores : Places) (records : List Record) : Type 0 where
-  pub last : (key : ℕ) → finite.get lasts key ≡ placed (last_slot records key)
-  pub before : (slot : ℕ) → slot < length records → finite.get befores slot ≡ placed (slot_before records slot)
-  pub past : (slot : ℕ) → length records ≤ slot → finite.get befores slot ≡ None
+-- the runs, the last slots first
+abbrev pub runs_of : KeySlots → List Run
+runs_of keys = map arc_value (arc_value keys.runs).items.items
 
--- the keys of records ascend from one place up to another
-abbrev pub RisesIn : List Record → ℕ → ℕ → Type 0
-RisesIn rows from to = (i : ℕ) → from ≤ i → i + 1 < to → (record_at rows i).key < (record_at rows (i + 1)).key
+-- the runs and the newest have all slots
+pub record AreSlots (keys : KeySlots) (records : List Record) : Type 0 where
+  pub newest : AreOf records keys.from (length records) keys.newest.items
+  pub runs : AreRuns records (runs_of keys) keys.from
+
+-- no record has the key from one slot up to another
+abbrev pub LacksKey : List Record → ℕ → ℕ → ℕ → Type 0
+LacksKey records key from to = (slot : ℕ) → from ≤ slot → slot < to → (record_at records slot).key ≢ key
+
+-- it is the greatest slot below the bound with the key, of those from one up to another, if there is one
+abbrev pub IsLastIn : List Record → ℕ → ℕ → ℕ → ℕ → Option ℕ → Type 0
+IsLastIn records from to key bound None = (slot : ℕ) → from ≤ slot → slot < to → slot < bound → (record_at records slot).key ≢ key
+IsLastIn records from to key bound (Some last) = (last < bound) × ((last < to) × (((record_at records last).key ≡ key) × ((slot : ℕ) → last < slot → slot < to → slot < bound → (record_at records slot).key ≢ key)))

@@ -1,116 +1,124 @@
 //! The slots in which the records with a key stand.
-ghost use Rattle.std.specs.Prelude.{◌≡◌, ℕ, List, ◌+◌, ◌^◌, ◌<◌, ◌≤◌, ◌++◌, ◌∷◌, [], length, take, Some, IfOk, OnOk};
-ghost use Rattle.std.specs.FinMap as finite;
+ghost use Rattle.std.specs.Prelude.{◌≡◌, ◌≤◌, ◌<◌, ◌+◌, ◌^◌, ◌++◌, ◌∷◌, [], ℕ, List, length, take, IfOk};
 ghost use Rattle.db_value.specs.declared.record.Record.{Record};
-ghost use Rattle.segment.specs.Keys.{AreSlots, RisesIn, noted};
 
+use crate::block::share;
+use crate::run::Run;
+use crate::slot::{KeyedSlot, look_through};
 use db_value::Record;
-use key_index::{KeyIndex, SpotChange, SpotChanges};
 use std::alloc::{AllocError, Global};
+use std::sync::Arc;
 
-/// Slots tell the last slot with a key, and the slot before another with the same key.
+/// So many slots make a run. To look fewer through takes no longer than a search in the runs.
+const RUN_SLOTS: usize = 64;
+
+/// Runs are links to runs, the last slots first.
 #[derive(Drop)]
-pub(crate) struct KeySlots {
-    pub(crate) lasts: KeyIndex,
-    pub(crate) befores: KeyIndex,
+pub(crate) struct Runs {
+    items: Vec<Arc<Run>>,
 }
 
-// The end of the run of ascending keys that begins at a place.
-#[tactic(auto, using(crate::proofs::KeyLemmas::rises_one, crate::proofs::KeyLemmas::rises_more))]
-fn run_end(rows: &[Record], from: usize) -> usize
-    requires { from < length rows.now }
-    ensures some { from < result }
-    ensures within { result ≤ length rows.now }
-    ensures rises { RisesIn rows.now from result }
+/// They tell the last slot with a key below another slot. The newest slots, from one on, are in no
+/// run yet.
+#[derive(Drop)]
+pub(crate) struct KeySlots {
+    runs: Arc<Runs>,
+    from: u32,
+    newest: Vec<KeyedSlot>,
+}
+
+// How many of the runs, the last ones first, are no longer than so many slots and the runs after it.
+fn count_to_join(runs: &[Arc<Run>], slots: usize) -> usize
+    ensures { result ≤ length runs.now }
 {
-    let mut to = from + 1;
-    while to < rows.len() {
-        if rows[to].key <= rows[to - 1].key {
-            return to;
+    let mut size = slots;
+    let mut count = 0;
+    for run in runs {
+        if run.slots.len() > size {
+            return count;
         }
-        to += 1;
+        size = size.saturating_add(run.slots.len());
+        count += 1;
     }
-    to
+    count
 }
 
 impl KeySlots {
-    /// The slots of no records.
-    #[tactic(auto, using(crate::proofs::KeyLemmas::no_slots))]
-    pub(crate) fn new(alloc: Global) -> KeySlots
-        ensures { AreSlots result.lasts result.befores [] }
-    {
-        KeySlots {
-            lasts: KeyIndex::new(alloc),
-            befores: KeyIndex::new(alloc),
-        }
-    }
+    ghost use Rattle.segment.specs.Keys.{AreOf, AreRuns, AreSlots, IsLastIn, LacksKey, last_slot, runs_of};
 
-    /// The same slots, which share all with these.
-    pub(crate) fn duplicate(&self) -> Result<KeySlots, AllocError>
-        ensures { IfOk result (λ k. k ≡ self.now) }
+    /// Those of no records.
+    pub(crate) fn new(alloc: Global) -> Result<KeySlots, AllocError>
+        ensures { IfOk result (λ keys. AreSlots keys []) }
     {
+        let items = Vec::new(alloc);
         Ok(KeySlots {
-            lasts: self.lasts.duplicate()?,
-            befores: self.befores.duplicate()?,
+            runs: Arc::new(alloc, Runs { items })?,
+            from: 0,
+            newest: Vec::new(alloc),
         })
     }
 
-    // Notes that a record with a key is put into a slot.
-    fn note(
-        &self,
-        lasts: &mut Vec<SpotChange>,
-        befores: &mut Vec<SpotChange>,
-        key: u64,
-        slot: u32,
-    ) -> Result<(), AllocError>
-        ensures last { OnOk result (lasts.new.items
-            ≡ lasts.old.items ++ record { key = key; place = Some (0, slot) } ∷ []) }
-        ensures before { OnOk result (befores.new.items
-            ≡ befores.old.items ++ noted slot (finite.get self.now.lasts key)) }
+    /// The same ones, which share all runs with these.
+    pub(crate) fn duplicate(&self) -> Result<KeySlots, AllocError>
+        ensures { IfOk result (λ keys. (records : List Record)
+            → AreSlots self.now records → AreSlots keys records) }
     {
-        lasts.push(SpotChange {
-            key,
-            place: Some((0, slot)),
-        })?;
-        if let Some(before) = self.lasts.find(key) {
-            befores.push(SpotChange {
-                key: u64::from(slot),
-                place: Some(before),
-            })?;
-        }
-        Ok(())
+        Ok(KeySlots {
+            runs: Arc::try_clone(&self.runs)?,
+            from: self.from,
+            newest: Vec::from_slice(*self.newest.allocator(), &self.newest)?,
+        })
     }
 
-    // The slots after some of the rows, whose keys ascend, are put behind as many records.
-    fn with_run(
+    // The newest slots after rows are put behind so many records.
+    fn newest_with(
         &self,
         alloc: Global,
         len: u32,
         rows: &[Record],
-        from: usize,
-        to: usize,
-    ) -> Result<KeySlots, AllocError>
-        requires few { len + length rows.now < 2 ^ 32 }
-        requires begun { from ≤ to }
-        requires within { to ≤ length rows.now }
-        requires rises { RisesIn rows.now from to }
-        ensures { IfOk result (λ k. (records : List Record) → length records ≡ len
-            → AreSlots self.now.lasts self.now.befores (records ++ take from rows.now)
-            → AreSlots k.lasts k.befores (records ++ take to rows.now)) }
+    ) -> Result<Vec<KeyedSlot>, AllocError>
+        requires { len + length rows.now < 2 ^ 32 }
+        ensures { IfOk result (λ slots. (records : List Record) → length records ≡ len
+            → AreOf records self.now.from len self.now.newest.items
+            → AreOf (records ++ rows.now) self.now.from (len + length rows.now) slots.items) }
     {
-        let mut lasts = Vec::with_capacity(alloc, to - from)?;
-        let mut befores = Vec::new(alloc);
-        for at in from..to {
-            self.note(&mut lasts, &mut befores, rows[at].key, len + at as u32)?;
+        let mut slots = Vec::with_capacity(alloc, self.newest.len() + rows.len())?;
+        slots.extend_from_slice(&self.newest)?;
+        for at in 0..rows.len() {
+            slots.push(KeyedSlot {
+                key: rows[at].key,
+                slot: len + at as u32,
+            })?;
         }
+        Ok(slots)
+    }
+
+    // One run of the newest slots and of all runs that are no longer, and the other runs.
+    fn with_run(
+        &self,
+        alloc: Global,
+        newest: Vec<KeyedSlot>,
+        to: u32,
+    ) -> Result<KeySlots, AllocError>
+        ensures { IfOk result (λ keys. (records : List Record) → length records ≡ to
+            → AreOf records self.now.from to newest.items
+            → AreRuns records (runs_of self.now) self.now.from
+            → AreSlots keys records) }
+    {
+        let runs = self.runs.items.as_slice();
+        let (near, far) = runs.split_at(count_to_join(runs, newest.len()));
+        let run = Run::joined(near, self.from, newest)?;
+        let mut items = Vec::with_capacity(alloc, far.len() + 1)?;
+        items.push(Arc::new(alloc, run)?)?;
+        share(&mut items, far)?;
         Ok(KeySlots {
-            lasts: self.lasts.with_changes(&SpotChanges::of(lasts))?,
-            befores: self.befores.with_changes(&SpotChanges::of(befores))?,
+            runs: Arc::new(alloc, Runs { items })?,
+            from: to,
+            newest: Vec::new(alloc),
         })
     }
 
-    /// The slots after rows are put behind so many records, one run of ascending keys after another.
-    #[tactic(auto, using(crate::proofs::KeyLemmas::slots_begun, crate::proofs::KeyLemmas::slots_done))]
+    /// Those after rows are put behind so many records.
     pub(crate) fn with_rows(
         &self,
         alloc: Global,
@@ -118,17 +126,56 @@ impl KeySlots {
         rows: &[Record],
     ) -> Result<KeySlots, AllocError>
         requires { len + length rows.now < 2 ^ 32 }
-        ensures { IfOk result (λ k. (records : List Record) → length records ≡ len
-            → AreSlots self.now.lasts self.now.befores records
-            → AreSlots k.lasts k.befores (records ++ rows.now)) }
+        ensures { IfOk result (λ keys. (records : List Record) → length records ≡ len
+            → AreSlots self.now records → AreSlots keys (records ++ rows.now)) }
     {
-        let mut slots = self.duplicate()?;
-        let mut done = 0;
-        while done < rows.len() {
-            let to = run_end(rows, done);
-            slots = slots.with_run(alloc, len, rows, done, to)?;
-            done = to;
+        let newest = self.newest_with(alloc, len, rows)?;
+        if newest.len() >= RUN_SLOTS {
+            let slots = self.with_run(alloc, newest, len + rows.len() as u32)?;
+            return Ok(slots);
         }
-        Ok(slots)
+        Ok(KeySlots {
+            runs: Arc::try_clone(&self.runs)?,
+            from: self.from,
+            newest,
+        })
+    }
+
+    // The greatest slot below a bound with a key, of the newest.
+    fn last_of_newest(&self, key: u64, bound: u32) -> Option<u32>
+        ensures { (records : List Record) (to : ℕ)
+            → AreOf records self.now.from to self.now.newest.items
+            → IsLastIn records self.now.from to key bound result }
+    {
+        if self.from >= bound {
+            return None;
+        }
+        look_through(self.newest.as_slice(), key, bound)
+    }
+
+    // The greatest slot below a bound with a key, if none of the newest is one.
+    fn last_in_runs(&self, key: u64, bound: u32) -> Option<u32>
+        ensures { (records : List Record) → bound ≤ length records
+            → AreRuns records (runs_of self.now) self.now.from
+            → LacksKey records key self.now.from bound
+            → result ≡ last_slot (take bound records) key }
+    {
+        for run in self.runs.items.as_slice() {
+            if let Some(slot) = run.last_below(key, bound) {
+                return Some(slot);
+            }
+        }
+        None
+    }
+
+    /// The greatest slot below a bound whose record has a key, if there is one.
+    pub(crate) fn last_below(&self, key: u64, bound: u32) -> Option<u32>
+        ensures { (records : List Record) → bound ≤ length records → AreSlots self.now records
+            → result ≡ last_slot (take bound records) key }
+    {
+        match self.last_of_newest(key, bound) {
+            None => self.last_in_runs(key, bound),
+            Some(slot) => Some(slot),
+        }
     }
 }

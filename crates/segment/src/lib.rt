@@ -7,23 +7,29 @@
 //! ```text
 //! segment -> blocks -> block of 64 links -> pages, all full
 //!         -> at most 64 links of its own -> pages, all full but the last
-//!         -> two indexes: from a key to its last slot, and from a slot to the one before it with the same key
+//!         -> runs, each of slots that follow one another, by their keys; each is longer than all later ones
+//!         -> fewer than 64 slots of its own after them, with their keys
 //! ```
 //!
 //! | file | has |
 //! |---|---|
 //! | `specs/Pages.antt` | which records pages have, and when pages are full |
-//! | `specs/Keys.antt` | the slots in which the records with a key stand |
+//! | `specs/Keys.antt` | the slots in which the records with a key stand, and the runs that tell them |
+//! | `specs/Slots.antt` | the order in which a run has its slots, for the private functions |
 //! | `specs/Tails.antt` | the records of a segment that is being made, for the private functions |
 //! | `src/block.rt` | links to pages, and blocks of them |
-//! | `src/keys.rt` | the indexes that tell those slots |
+//! | `src/slot.rt` | a slot with its key, and searches among such slots |
+//! | `src/run.rt` | one run |
+//! | `src/keys.rt` | the runs, and the slots that are in none yet |
 //! | `src/tail.rt` | the end of a segment that is being made |
 //! | `src/segment.rt` | the segment |
 #![tactic(auto)]
 
 mod block;
 mod keys;
+mod run;
 mod segment;
+mod slot;
 mod tail;
 
 pub use segment::Segment;

@@ -7,12 +7,12 @@ ghost use Rattle.segment.specs.Pages.{AreWide, page_count, page_of};
 use crate::block::{BLOCK_PAGES, Blocks, front_of, page_in, put_page};
 use crate::keys::KeySlots;
 use crate::tail::Tail;
-use db_value::{Record, Records, Steps};
+use db_value::{Fields, Record, Records, Steps};
 use record_page::{Page, capacity_of};
 use std::alloc::{AllocError, Global};
-use std::marker::Model;
+use std::marker::{Brand, Model};
 use std::sync::Arc;
-use std::sync::ledger::Ledger;
+use std::sync::ledger::{Blank, Ledger};
 
 /// A segment is a list of fewer than 2^32 records with one number of fields each. All its pages but
 /// the last one are full.
@@ -39,8 +39,16 @@ impl Model for Segment {
 
     ghost view = { λ s. record { fields = s.fields; records = records_of (pages_of (arc_value s.blocks) ++ map arc_value s.tail.items) } };
 
-    ghost invariant = { λ s. ((s.len ≡ length (records_of (pages_of (arc_value s.blocks) ++ map arc_value s.tail.items))) × AreSlots s.slots.lasts s.slots.befores (records_of (pages_of (arc_value s.blocks) ++ map arc_value s.tail.items)))
+    ghost invariant = { λ s. ((s.len ≡ length (records_of (pages_of (arc_value s.blocks) ++ map arc_value s.tail.items))) × AreSlots s.slots (records_of (pages_of (arc_value s.blocks) ++ map arc_value s.tail.items)))
         × ((s.most ≡ capacity s.fields) × IsLaid s.fields (arc_value s.blocks) (map arc_value s.tail.items)) };
+}
+
+// A record that is read into.
+fn blank_record() -> Record {
+    match Fields::of(&[0]) {
+        Some(fields) => Record { key: 0, fields },
+        None => unreachable!(),
+    }
 }
 
 impl Segment {
@@ -58,7 +66,7 @@ impl Segment {
             len: 0,
             blocks: Arc::new(alloc, Blocks::new(alloc))?,
             tail: Vec::new(alloc),
-            slots: KeySlots::new(alloc),
+            slots: KeySlots::new(alloc)?,
         })
     }
 
@@ -92,7 +100,7 @@ impl Segment {
     fn closed(mut tail: Tail, slots: KeySlots, len: u32) -> Result<Segment, AllocError>
         requires len { len ≡ length (rows_in tail) }
         requires wide { AreWide tail.fields (rows_in tail) }
-        requires slots { AreSlots slots.lasts slots.befores (rows_in tail) }
+        requires slots { AreSlots slots (rows_in tail) }
         ensures { IfOk result (λ s. s ≡ record { fields = tail.fields; records = rows_in tail }) }
     {
         if tail.last.len() > 0 {
@@ -120,7 +128,7 @@ impl Segment {
     fn with_last(tail: Tail, slots: KeySlots, len: u32) -> Result<Segment, AllocError>
         requires len { len ≡ length (rows_in tail) }
         requires wide { AreWide tail.fields (rows_in tail) }
-        requires slots { AreSlots slots.lasts slots.befores (rows_in tail) }
+        requires slots { AreSlots slots (rows_in tail) }
         requires some { 0 < length tail.last.records }
         requires room { length tail.pages.items < 64 }
         ensures { IfOk result (λ s. s ≡ record { fields = tail.fields; records = rows_in tail }) }
@@ -195,14 +203,32 @@ impl Segment {
         page.read((slot % most) as u16, into, steps);
     }
 
+    // The key in a slot, read with a ledger of its own.
+    fn key_read<L: Ledger>(&self, slot: u32, blank: Blank) -> u64
+        requires slot { slot < length self.now.records }
+        requires name { blank.name ≡ L.name }
+        requires parts { blank.parts ≡ L.parts }
+        requires some { 0 < L.parts }
+        ensures { result ≡ (record_at self.now.records slot).key }
+    {
+        let mut steps = Steps::<L>::open(blank);
+        let mut row = blank_record();
+        self.read(slot, &mut row, &mut steps);
+        row.key
+    }
+
+    fn key_in(&self, slot: u32) -> u64
+        requires { slot < length self.now.records }
+        ensures { result ≡ (record_at self.now.records slot).key }
+    {
+        self.key_read::<Brand>(slot, Blank::new(1))
+    }
+
     /// The last slot with a key, or `None` if no record has it.
     pub fn last(&self, key: u64) -> Option<u32>
         ensures { result ≡ last_slot self.now.records key }
     {
-        match self.slots.lasts.find(key) {
-            None => None,
-            Some((_, slot)) => Some(slot),
-        }
+        self.slots.last_below(key, self.len)
     }
 
     /// The last slot before this one whose record has the same key, if there is one.
@@ -210,10 +236,7 @@ impl Segment {
         requires { slot < length self.now.records }
         ensures { result ≡ slot_before self.now.records slot }
     {
-        match self.slots.befores.find(u64::from(slot)) {
-            None => None,
-            Some((_, before)) => Some(before),
-        }
+        self.slots.last_below(self.key_in(slot), slot)
     }
 
     /// An equal segment, which shares its pages with this one.

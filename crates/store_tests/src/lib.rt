@@ -15,3 +15,5 @@ mod merge_tests;
 mod part_tests;
 #[cfg(test)]
 mod scan_tests;
+#[cfg(test)]
+mod watched;

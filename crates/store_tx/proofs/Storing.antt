@@ -17,7 +17,7 @@ use Rattle.db_outside.specs.Record.{most_body}
 use Rattle.entry_codec.specs.Spelling.{spelling, entry_size, second_size, change_size, changes_size, field_count, HasFewChanges}
 use Rattle.entry_codec.specs.Grammar.{entries_in}
 use Rattle.entry_codec.specs.Laws.{IsEntry, IsChange, AreChanges, AreFields}
-use Rattle.entry_codec.specs.Logs.{Follows, Opening, MayGive, GivesOneOf, GivesOnly, GoesOn, IsNoLater, AddsOnly, KeepsAny, KeepsOneOf, WhereKept}
+use Rattle.entry_codec.specs.Logs.{Follows, Opening, MayGive, GivesOneOf, GivesOnly, GoesOn, AddsOnly, KeepsAny, KeepsOneOf, WhereKept}
 use Rattle.db_outside.specs.Device.{Rose}
 use Rattle.store_tx.specs.Stored.{GivesIf, Stores}
 use Rattle.entry_codec.proofs.Back.{size_is, all}

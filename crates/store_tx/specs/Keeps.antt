@@ -62,6 +62,12 @@ pub record Keeps (d : Dataset) (rows : List Row) (s b : ℕ) (g : Granted) : Typ
   pub lent : AllLent d rows s b g.lent
   pub heads : HeadsFor d rows s g.heads
 
+-- the branch is there, and the transaction has the schema and views of the state
+pub record IsOn (st : State) (b : ℕ) (g : Granted) : Type 0 where
+  pub there : b < length (dataset_of st).branches
+  pub schema : g.schema ≡ (dataset_of st).schema
+  pub shown : AreAllOf st g
+
 -- the branch is there, for some session the transaction keeps what it was granted, and its views are of the state
 pub record IsKept (st : State) (b : ℕ) (g : Granted) : Type 0 where
   pub there : b < length (dataset_of st).branches
@@ -106,3 +112,8 @@ pub record IsMore (g h : Granted) : Type 0 where
   pub second : h.second ≡ g.second
   pub lent : take (length g.lent) h.lent ≡ g.lent
   pub heads : is_some g.heads ≡ true → h.heads ≡ g.heads
+
+-- and its views are of the state
+pub record GrantsMore (st : State) (g h : Granted) : Type 0 where
+  pub more : IsMore g h
+  pub shown : AreAllOf st h

@@ -1,5 +1,5 @@
 -- What statements do over the head of a branch.
-use Rattle.std.specs.Prelude.{ℕ, Bool, List, None, Option, Some, [], false, length, map, true, ◌≡◌, ◌⊎◌}
+use Rattle.std.specs.Prelude.{ℕ, Bool, List, None, Option, Some, [], false, length, map, true, ◌<◌, ◌∷◌, ◌≡◌, ◌⊎◌}
 use Rattle.branch_tx.specs.Act.{Outcome, Tx, act, refused}
 use Rattle.branch_tx.specs.Alone.{branch_as, branch_of, commit_entry, commit_reply, fresh, ground_of, merge_named, merge_of, on_of}
 use Rattle.branch_tx.specs.Covers.{covers}
@@ -17,6 +17,7 @@ use Rattle.db_store.specs.State.{State, dataset_of}
 use Rattle.db_value.specs.declared.condition.Prefer.{Prefer}
 use Rattle.lock_table.specs.declared.need.Need.{Need}
 use Rattle.db_value.specs.Text.{is_name}
+use Rattle.line_needs.specs.Needs.{exclusive, lock_of}
 use Rattle.db_value.specs.declared.entry.Entry.{Entry}
 use Rattle.db_value.specs.declared.entry.Entry.TheVariants.{Branch as BranchEntry}
 use Rattle.db_value.specs.declared.reply.Refusal.{Refusal}
@@ -124,6 +125,23 @@ pub record GoesOn (st : State) (b : ℕ) (ns : List Need) (o : Outcome (List Ove
 pub record MayWork (st : State) (b : ℕ) (x : Stmt) (g : Granted) : Type 0 where
   pub needs : HasNeeds st b (needs_in st b g x) g
   pub clean : has_done g ≡ false → g.overlays ≡ untouched
+
+-- the statement reads or changes records, and some session has its needs
+pub record MayAct (st : State) (b : ℕ) (x : Stmt) (g : Granted) : Type 0 where
+  pub acts : IsAct x
+  pub needs : HasNeeds st b (needs_in st b g x) g
+
+-- the statement reads or changes records, or merges, and it can be done in the transaction
+pub record MayActOrMerge (st : State) (b : ℕ) (x : Stmt) (g : Granted) : Type 0 where
+  pub works : IsWork x
+  pub may : MayWork st b x g
+
+-- the other branch is there, some session has the transaction's own branch alone, and nothing was done or touched
+pub record MayMergeHead (st : State) (b other : ℕ) (g : Granted) : Type 0 where
+  pub there : other < length (dataset_of st).branches
+  pub needs : HasNeeds st b (exclusive (lock_of b) ∷ []) g
+  pub first : has_done g ≡ false
+  pub untouched : g.overlays ≡ untouched
 
 -- a transaction answers a statement by itself, or the statement names a version that isn't there
 abbrev pub IsReady : State → ℕ → Stmt → Granted → Type 0

@@ -6,14 +6,14 @@ ghost use Rattle.db_store.specs.Parts.{IsViewable, AreOf};
 ghost use Rattle.db_store.specs.State.{dataset_of};
 ghost use Rattle.lock_table.specs.Rows.{Row};
 ghost use Rattle.db_store.specs.Overlay.{untouched};
-ghost use Rattle.store_tx.specs.Statements.{IsReady, IsAct, IsRefusedFor, begun_tx, held_by, lacking_at, lacking_of, lacking_over};
+ghost use Rattle.store_tx.specs.Statements.{IsReady, MayAct, IsRefusedFor, begun_tx, held_by, lacking_at, lacking_of, lacking_over};
 ghost use Rattle.db_store.specs.Found.{found, branch_names};
 ghost use Rattle.branch_tx.specs.Found.{Lacking, source_of};
 ghost use Rattle.branch_tx.specs.Alone.{ground_of};
 ghost use Rattle.branch_tx.specs.Granted.{tx_in, is_current, AreAllOf};
 ghost use Rattle.branch_tx.specs.Covers.{covers, holds_alone, has_version, has_at, has_heads, has_over};
 ghost use Rattle.line_needs.specs.Needs.{found_needs, source_needs, names_needs, scan_needs, needs};
-ghost use Rattle.store_tx.specs.Keeps.{Keeps, IsKept, HasNeeds, KeepsWith, KeepsBy, IsBack, IsMore, head_need, needs_in};
+ghost use Rattle.store_tx.specs.Keeps.{Keeps, IsKept, IsOn, HasNeeds, KeepsWith, KeepsBy, IsBack, IsMore, GrantsMore, head_need, needs_in};
 
 use branch_tx::{Tx, plain_names};
 use db_store::{Store, Work};
@@ -79,10 +79,8 @@ pub fn open_tx<St: Store>(
 
 // Puts the head of its branch under the transaction, which has touched nothing.
 fn hold<St: Store>(store: &St, tx: &mut Tx<St>, branch: u32, alone: bool) -> Result<(), AllocError>
-    requires branch { branch < length (dataset_of (St.state store.now)).branches }
-    requires schema { tx.old.schema ≡ (dataset_of (St.state store.now)).schema }
+    requires on { IsOn (St.state store.now) branch tx.old }
     requires untouched { tx.old.overlays ≡ untouched }
-    requires shown { AreAllOf (St.state store.now) tx.old }
     ensures ok { OnOk result (tx.new
         ≡ held_by (dataset_of (St.state store.now)) branch alone tx.new.below tx.old) }
     ensures shown { AreAllOf (St.state store.now) tx.new }
@@ -105,8 +103,7 @@ pub fn grant_head<St: Store>(
         tx.old tx.new) }
     ensures held { OnOk result (is_some tx.new.held ≡ true) }
     ensures alone { OnOk result (alone ≡ true → holds_alone tx.new.held ≡ true) }
-    ensures more { IsMore tx.old tx.new }
-    ensures shown { AreAllOf (St.state store.now) tx.new }
+    ensures more { GrantsMore (St.state store.now) tx.old tx.new }
 {
     if tx.holds_alone() {
         return Ok(());
@@ -131,8 +128,7 @@ fn lend<St: Store>(
     ensures granted { IfOk result (λ o. o ≡ None → has_version tx.new version.now ≡ true) }
     ensures lacks { IfOk result (λ o. IfSome o (λ why.
         source_of branch (found (dataset_of (St.state store.now)) version.now) ≡ Lacking why)) }
-    ensures more { IsMore tx.old tx.new }
-    ensures shown { AreAllOf (St.state store.now) tx.new }
+    ensures more { GrantsMore (St.state store.now) tx.old tx.new }
 {
     if tx.has_lent(version) {
         return Ok(None);
@@ -160,8 +156,7 @@ fn grant_version<St: Store>(
     ensures granted { IfOk result (λ o. o ≡ None → has_version tx.new version.now ≡ true) }
     ensures lacks { IfOk result (λ o. IfSome o (λ why.
         source_of branch (found (dataset_of (St.state store.now)) version.now) ≡ Lacking why)) }
-    ensures more { IsMore tx.old tx.new }
-    ensures shown { AreAllOf (St.state store.now) tx.new }
+    ensures more { GrantsMore (St.state store.now) tx.old tx.new }
 {
     if tx.is_current(version) {
         grant_head(store, tx, branch, false)?;
@@ -184,8 +179,7 @@ fn grant_at<St: Store>(
     ensures granted { IfOk result (λ o. o ≡ None → has_at tx.new at.now ≡ true) }
     ensures lacks { IfOk result (λ o. IfSome o (λ why.
         lacking_at (dataset_of (St.state store.now)) branch at.now ≡ Some why)) }
-    ensures more { IsMore tx.old tx.new }
-    ensures shown { AreAllOf (St.state store.now) tx.new }
+    ensures more { GrantsMore (St.state store.now) tx.old tx.new }
 {
     match at {
         None => {
@@ -213,8 +207,7 @@ fn grant_names<St: Store>(
     ensures granted { IfOk result (λ o. o ≡ None → list_all (has_version tx.new) names.now ≡ true) }
     ensures lacks { IfOk result (λ o. IfSome o (λ why.
         lacking_of (dataset_of (St.state store.now)) branch names.now ≡ Some why)) }
-    ensures more { IsMore tx.old tx.new }
-    ensures shown { AreAllOf (St.state store.now) tx.new }
+    ensures more { GrantsMore (St.state store.now) tx.old tx.new }
 {
     for name in names {
         match grant_version(store, tx, branch, name)? {
@@ -243,8 +236,7 @@ fn grant_two<St: Store>(
     ensures lacks { IfOk result (λ o. IfSome o (λ why.
         lacking_of (dataset_of (St.state store.now)) branch (first.now ∷ second.now ∷ [])
         ≡ Some why)) }
-    ensures more { IsMore tx.old tx.new }
-    ensures shown { AreAllOf (St.state store.now) tx.new }
+    ensures more { GrantsMore (St.state store.now) tx.old tx.new }
 {
     let names = [*first, *second];
     let lacking = grant_names(store, tx, branch, &names)?;
@@ -275,8 +267,7 @@ fn grant_heads<St: Store>(
     ensures granted { IfOk result (λ o. o ≡ None → has_heads tx.new tx.new.heads ≡ true) }
     ensures lacks { IfOk result (λ o. IfSome o (λ why.
         lacking_over (dataset_of (St.state store.now)) branch ScanOver.Heads ≡ Some why)) }
-    ensures more { IsMore tx.old tx.new }
-    ensures shown { AreAllOf (St.state store.now) tx.new }
+    ensures more { GrantsMore (St.state store.now) tx.old tx.new }
 {
     let heads = branch_names(tx.allocator(), store)?;
     let names = plain_names(tx.allocator(), heads.as_slice())?;
@@ -304,8 +295,7 @@ fn grant_over<St: Store>(
     ensures granted { IfOk result (λ o. o ≡ None → has_over tx.new over.now ≡ true) }
     ensures lacks { IfOk result (λ o. IfSome o (λ why.
         lacking_over (dataset_of (St.state store.now)) branch over.now ≡ Some why)) }
-    ensures more { IsMore tx.old tx.new }
-    ensures shown { AreAllOf (St.state store.now) tx.new }
+    ensures more { GrantsMore (St.state store.now) tx.old tx.new }
 {
     match over {
         ScanOver::Current => {
@@ -331,17 +321,14 @@ pub fn grant<St: Store>(
     branch: u32,
     stmt: &Stmt,
 ) -> Result<Option<Refusal>, AllocError>
-    requires acts { IsAct stmt.now }
-    requires needs { HasNeeds (St.state store.now) branch
-        (needs_in (St.state store.now) branch tx.old stmt.now) tx.old }
+    requires may { MayAct (St.state store.now) branch stmt.now tx.old }
     requires uncovered { covers tx.old stmt.now ≡ false }
     ensures keeps { OnOk result (KeepsWith (St.state store.now) branch
         (needs_in (St.state store.now) branch tx.old stmt.now) tx.old tx.new) }
     ensures covered { IfOk result (λ o. o ≡ None → covers tx.new stmt.now ≡ true) }
     ensures lacks { IfOk result
         (λ o. IfSome o (IsRefusedFor (St.state store.now) branch tx.old stmt.now)) }
-    ensures more { IsMore tx.old tx.new }
-    ensures shown { AreAllOf (St.state store.now) tx.new }
+    ensures more { GrantsMore (St.state store.now) tx.old tx.new }
 {
     match stmt {
         Stmt::Insert { .. } => {
@@ -384,9 +371,7 @@ pub fn grant_or_back<St: Store>(
     branch: u32,
     stmt: &Stmt,
 ) -> Result<(), AllocError>
-    requires acts { IsAct stmt.now }
-    requires needs { HasNeeds (St.state store.now) branch
-        (needs_in (St.state store.now) branch tx.old stmt.now) tx.old }
+    requires may { MayAct (St.state store.now) branch stmt.now tx.old }
     ensures ready { OnOk result (IsReady (St.state store.now) branch stmt.now tx.new) }
     ensures keeps { OnOk result (KeepsWith (St.state store.now) branch
         (needs_in (St.state store.now) branch tx.old stmt.now) tx.old tx.new) }

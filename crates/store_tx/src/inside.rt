@@ -1,13 +1,12 @@
 //! Statements that are answered in an open transaction.
-ghost use Rattle.std.specs.Prelude.{◌≡◌, ◌<◌, ◌∷◌, [], false, length, IfOk, OnOk, OnErr};
+ghost use Rattle.std.specs.Prelude.{◌≡◌, ◌∷◌, [], false, IfOk, OnOk, OnErr};
 ghost use Rattle.db_value.specs.Long.{IsLong};
 ghost use Rattle.db_store.specs.State.{dataset_of};
-ghost use Rattle.db_store.specs.Overlay.{untouched};
 ghost use Rattle.store_tx.specs.Ends.{is_end};
-ghost use Rattle.store_tx.specs.Statements.{IsAct, IsWork, MayWork, GoesOn, acted_over, merged_over, step_in};
-ghost use Rattle.branch_tx.specs.Granted.{has_done, AreAllOf};
-ghost use Rattle.line_needs.specs.Needs.{lock_of, exclusive, needs};
-ghost use Rattle.store_tx.specs.Keeps.{HasNeeds, IsBack, IsMore, needs_in};
+ghost use Rattle.store_tx.specs.Statements.{MayAct, MayActOrMerge, MayMergeHead, MayWork, GoesOn, acted_over, merged_over, step_in};
+ghost use Rattle.branch_tx.specs.Granted.{AreAllOf};
+ghost use Rattle.line_needs.specs.Needs.{lock_of, exclusive};
+ghost use Rattle.store_tx.specs.Keeps.{IsBack, IsMore, needs_in};
 
 use crate::granting::{grant, grant_head, head_place};
 use crate::twice::{Twice, copied, done, refusal, refused};
@@ -26,9 +25,7 @@ fn merge_head<St: Store>(
     other: u32,
     prefer: Prefer,
 ) -> Result<Reply, AllocError>
-    requires other { other < length (dataset_of (St.state store.now)).branches }
-    requires needs { HasNeeds (St.state store.now) branch (exclusive (lock_of branch) ∷ []) tx.old }
-    requires first { (has_done tx.old ≡ false) × (tx.old.overlays ≡ untouched) }
+    requires may { MayMergeHead (St.state store.now) branch other tx.old }
     ensures reply { IfOk result (λ r.
         r ≡ (merged_over (St.state store.now) branch tx.old prefer other).reply) }
     ensures tx { OnOk result (GoesOn (St.state store.now) branch
@@ -87,9 +84,7 @@ fn act<St: Store>(
     branch: u32,
     stmt: &Stmt,
 ) -> Result<Reply, AllocError>
-    requires acts { IsAct stmt.now }
-    requires needs { HasNeeds (St.state store.now) branch
-        (needs_in (St.state store.now) branch tx.old stmt.now) tx.old }
+    requires may { MayAct (St.state store.now) branch stmt.now tx.old }
     ensures reply { IfOk result (λ r.
         r ≡ (acted_over (St.state store.now) branch tx.old stmt.now).reply) }
     ensures tx { OnOk result (GoesOn (St.state store.now) branch
@@ -119,8 +114,7 @@ fn work<St: Store>(
     branch: u32,
     stmt: &Stmt,
 ) -> Result<Reply, AllocError>
-    requires works { IsWork stmt.now }
-    requires may { MayWork (St.state store.now) branch stmt.now tx.old }
+    requires may { MayActOrMerge (St.state store.now) branch stmt.now tx.old }
     ensures reply { IfOk result (λ r.
         r ≡ (acted_over (St.state store.now) branch tx.old stmt.now).reply) }
     ensures tx { OnOk result (GoesOn (St.state store.now) branch
@@ -152,8 +146,7 @@ pub fn work_twice<St: Store>(
     branch: u32,
     stmt: &Stmt,
 ) -> Result<Twice, AllocError>
-    requires works { IsWork stmt.now }
-    requires may { MayWork (St.state store.now) branch stmt.now tx.old }
+    requires may { MayActOrMerge (St.state store.now) branch stmt.now tx.old }
     ensures reply { IfOk result (λ t.
         t ≡ (acted_over (St.state store.now) branch tx.old stmt.now).reply) }
     ensures tx { OnOk result (GoesOn (St.state store.now) branch
@@ -174,8 +167,7 @@ fn work_or_back<St: Store>(
     branch: u32,
     stmt: &Stmt,
 ) -> Result<Twice, AllocError>
-    requires works { IsWork stmt.now }
-    requires may { MayWork (St.state store.now) branch stmt.now tx.old }
+    requires may { MayActOrMerge (St.state store.now) branch stmt.now tx.old }
     ensures reply { IfOk result (λ t.
         t ≡ (acted_over (St.state store.now) branch tx.old stmt.now).reply) }
     ensures tx { OnOk result (GoesOn (St.state store.now) branch

@@ -2,7 +2,7 @@ use Rattle.std.proofs.Common.{List, sym, subst}
 use Rattle.multi_scan.specs.Agree.{AllAgree}
 use Rattle.multi_scan.specs.Places.{shown}
 use Rattle.multi_scan.proofs.Agreeing.{all_of_one_state}
-use Rattle.store_tests.specs.declared.scan_tests.Watched.{Watched}
+use Rattle.store_tests.specs.declared.watched.Watched.{Watched}
 use Rattle.store_tests.proofs.scan_tests.scan_text.Goals as goal
 
 pub scan-requires-clause-agree : goal.scan-requires-clause-agree

@@ -2,7 +2,7 @@ use Rattle.std.proofs.Common.{◌<◌, length, sym, subst}
 use Rattle.std.specs.List.{All}
 use Rattle.std.proofs.lemmas.List.Elements.{All-push}
 use Rattle.db_store.specs.Parts.{AreOf}
-use Rattle.store_tests.specs.declared.scan_tests.Watched.{Watched}
+use Rattle.store_tests.specs.declared.watched.Watched.{Watched}
 use Rattle.store_tests.proofs.scan_tests.views_of.Goals as goal
 
 pub loop-position-preserved : goal.loop-position-preserved

@@ -38,13 +38,13 @@ returns-in_ok-lacking-in-Scan-clause-keeps g c = λ rows s k n.
 pub grant_over-requires : goal.grant_over-requires
 grant_over-requires g c =
     let d = dataset_of (g.St.Store.state c.args.store.now) in
-    let k = c.requires.needs in
+    let k = c.requires.may.needs in
     record { needs = record { kept = k.kept; granted = needed d k.kept.rows k.kept.session c.args.branch c.args.tx.now c.args.stmt.now _ k.kept.keeps c.requires.uncovered c.in-Scan.is k.granted } }
 
 pub grant_two-requires : goal.grant_two-requires
 grant_two-requires g c =
     let d = dataset_of (g.St.Store.state c.args.store.now) in
-    let k = c.requires.needs in
+    let k = c.requires.may.needs in
     record { needs = record { kept = k.kept; granted = needed d k.kept.rows k.kept.session c.args.branch c.args.tx.now c.args.stmt.now _ k.kept.keeps c.requires.uncovered c.in-Join.is k.granted } }
 
 pub returns-in_ok-lacking-in-Join-clause-keeps : goal.returns-in_ok-lacking-in-Join-clause-keeps
@@ -58,13 +58,13 @@ returns-in_ok-lacking-in-Join-clause-lacks g c =
     let b = c.args.branch in
     let tx : Granted = c.args.tx.now in
     let j = c.in-Join in
-    refused_as d b tx c.args.stmt.now (Join j.left j.right j.first j.second j.terms) (λ why. lacking_of d b (j.first ∷ j.second ∷ []) ≡ Some why) c.in_ok-lacking-in-Join.lacking c.requires.needs.kept.keeps.schema c.requires.uncovered j.is
+    refused_as d b tx c.args.stmt.now (Join j.left j.right j.first j.second j.terms) (λ why. lacking_of d b (j.first ∷ j.second ∷ []) ≡ Some why) c.in_ok-lacking-in-Join.lacking c.requires.may.needs.kept.keeps.schema c.requires.uncovered j.is
     (λ why early l. join_lacking d b (tx_in tx) j.left j.right j.first j.second j.terms why early l) c.in_ok-lacking-in-Join.ensures.lacks
 
 pub grant_two-requires-in-Minus : goal.grant_two-requires-in-Minus
 grant_two-requires-in-Minus g c =
     let d = dataset_of (g.St.Store.state c.args.store.now) in
-    let k = c.requires.needs in
+    let k = c.requires.may.needs in
     record { needs = record { kept = k.kept; granted = needed d k.kept.rows k.kept.session c.args.branch c.args.tx.now c.args.stmt.now _ k.kept.keeps c.requires.uncovered c.in-Minus.is k.granted } }
 
 pub returns-in_ok-lacking-in-Minus-clause-keeps : goal.returns-in_ok-lacking-in-Minus-clause-keeps
@@ -78,5 +78,5 @@ returns-in_ok-lacking-in-Minus-clause-lacks g c =
     let b = c.args.branch in
     let tx : Granted = c.args.tx.now in
     let m = c.in-Minus in
-    refused_as d b tx c.args.stmt.now (Minus m.relation m.first m.second) (λ why. lacking_of d b (m.first ∷ m.second ∷ []) ≡ Some why) c.in_ok-lacking-in-Minus.lacking c.requires.needs.kept.keeps.schema c.requires.uncovered m.is
+    refused_as d b tx c.args.stmt.now (Minus m.relation m.first m.second) (λ why. lacking_of d b (m.first ∷ m.second ∷ []) ≡ Some why) c.in_ok-lacking-in-Minus.lacking c.requires.may.needs.kept.keeps.schema c.requires.uncovered m.is
     (λ why early l. minus_lacking d b (tx_in tx) m.relation m.first m.second why early l) c.in_ok-lacking-in-Minus.ensures.lacks

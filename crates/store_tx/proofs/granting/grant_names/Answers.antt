@@ -43,8 +43,8 @@ loop-name-preserved g c =
     let same = has_same d k.kept.rows k.kept.session b after kept (g.met.St.Store.sound store) k.kept.there v one in
     record {
       keeps = λ rows s h n. c.in_ok-why.ensures.keeps rows s (inv.keeps rows s h n) (needed rows s n);
-      granted = list_all_more (has_version after) names i _ c.loop-name-test.true ∙ and_from (list_all (has_version after) (take i names)) _ (versions_stay tx after c.in_ok-why.ensures.more (take i names) inv.granted) (ap (has_version after) (sym c.name-item.is) ∙ one);
+      granted = list_all_more (has_version after) names i _ c.loop-name-test.true ∙ and_from (list_all (has_version after) (take i names)) _ (versions_stay tx after c.in_ok-why.ensures.more.more (take i names) inv.granted) (ap (has_version after) (sym c.name-item.is) ∙ one);
       there = lack_step (λ u. source_of b (found d u)) names _ i v _ c.loop-name-test.true (sym c.name-item.is) same.there inv.there;
-      shown = c.in_ok-why.ensures.shown;
-      more = more_more c.args.tx.now tx after inv.more c.in_ok-why.ensures.more;
+      shown = c.in_ok-why.ensures.more.shown;
+      more = more_more c.args.tx.now tx after inv.more c.in_ok-why.ensures.more.more;
     }

@@ -1,4 +1,4 @@
-use Rattle.std.proofs.Common.{◌≡◌, ℕ, List, true, take, drop}
+use Rattle.std.proofs.Common.{◌≡◌, true, take, drop}
 use Rattle.std.specs.List.{list_all}
 use Rattle.db_store.specs.State.{dataset_of}
 use Rattle.branch_tx.specs.Covers.{has_version}

@@ -9,11 +9,11 @@ hold-requires-clause-agree g c =
     let st = g.St.Store.state c.args.store.now in
     let tx : Granted = c.args.tx.now in
     let shows : Shown = parts_by (g.St.View.View.parts_of c.in_ok-view.view) in
-    one_state st (shows ∷ tx.shown) (of_front st shows tx.shown (view_of st (g.St.View.View.parts_of c.in_ok-view.view) c.in_ok-view.ensures.parts) (of_rest st tx.below tx.shown c.requires.shown))
+    one_state st (shows ∷ tx.shown) (of_front st shows tx.shown (view_of st (g.St.View.View.parts_of c.in_ok-view.view) c.in_ok-view.ensures.parts) (of_rest st tx.below tx.shown c.requires.on.shown))
 
 pub returns-clause-shown : goal.returns-clause-shown
 returns-clause-shown g c =
     let st = g.St.Store.state c.args.store.now in
     let tx : Granted = c.args.tx.now in
     let shows : Shown = parts_by (g.St.View.View.parts_of c.in_ok-view.view) in
-    subst (AreAllOf st) (sym c.hold.ensures) (of_front st shows tx.shown (view_of st (g.St.View.View.parts_of c.in_ok-view.view) c.in_ok-view.ensures.parts) (of_rest st tx.below tx.shown c.requires.shown))
+    subst (AreAllOf st) (sym c.hold.ensures) (of_front st shows tx.shown (view_of st (g.St.View.View.parts_of c.in_ok-view.view) c.in_ok-view.ensures.parts) (of_rest st tx.below tx.shown c.requires.on.shown))

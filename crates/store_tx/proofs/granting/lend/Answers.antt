@@ -6,9 +6,9 @@ use Rattle.branch_tx.specs.Granted.{Granted, views_of, AreAllOf}
 use Rattle.branch_tx.specs.Shown.{Shown, parts_by}
 use Rattle.branch_tx.proofs.ShownLemmas.{one_state, of_more, view_of}
 use Rattle.branch_tx.specs.Covers.{has_version}
-use Rattle.store_tx.specs.Keeps.{Keeps}
+use Rattle.store_tx.specs.Keeps.{Keeps, IsMore}
 use Rattle.store_tx.proofs.Lends.{other_source}
-use Rattle.store_tx.proofs.KeepsLemmas.{with_lent, lent_keeps, lent_has}
+use Rattle.store_tx.proofs.KeepsLemmas.{with_lent, lent_keeps, lent_has, more_lent}
 use Rattle.store_tx.proofs.granting.lend.Goals as goal
 
 pub returns-in_ok-lend-in-Ok-clause-keeps : goal.returns-in_ok-lend-in-Ok-clause-keeps
@@ -38,9 +38,12 @@ lend-requires-clause-agree g c =
     let shows : Shown = parts_by (g.St.View.View.parts_of c.in_ok-view-in-Ok.view) in
     one_state st (views_of tx ++ shows ∷ []) (of_more st (views_of tx) shows c.requires.kept.shown (view_of st (g.St.View.View.parts_of c.in_ok-view-in-Ok.view) c.in_ok-view-in-Ok.ensures.parts))
 
-pub returns-in_ok-lend-in-Ok-clause-shown : goal.returns-in_ok-lend-in-Ok-clause-shown
-returns-in_ok-lend-in-Ok-clause-shown g c =
+pub returns-in_ok-lend-in-Ok-clause-more : goal.returns-in_ok-lend-in-Ok-clause-more
+returns-in_ok-lend-in-Ok-clause-more g c =
     let st = g.St.Store.state c.args.store.now in
     let tx : Granted = c.args.tx.now in
     let shows : Shown = parts_by (g.St.View.View.parts_of c.in_ok-view-in-Ok.view) in
-    subst (AreAllOf st) (sym c.in_ok-lend-in-Ok.ensures.ok) (of_more st (views_of tx) shows c.requires.kept.shown (view_of st (g.St.View.View.parts_of c.in_ok-view-in-Ok.view) c.in_ok-view-in-Ok.ensures.parts))
+    record {
+      more = subst (IsMore tx) (sym c.in_ok-lend-in-Ok.ensures.ok) (more_lent tx c.args.version.now (g.St.View.View.table c.in_ok-view-in-Ok.view) shows);
+      shown = subst (AreAllOf st) (sym c.in_ok-lend-in-Ok.ensures.ok) (of_more st (views_of tx) shows c.requires.kept.shown (view_of st (g.St.View.View.parts_of c.in_ok-view-in-Ok.view) c.in_ok-view-in-Ok.ensures.parts));
+    }

@@ -13,20 +13,20 @@ pub returns-then-covers-clause-reply : goal.returns-then-covers-clause-reply
 returns-then-covers-clause-reply g c =
     let store = c.args.store.now in
     let d = dataset_of (g.St.Store.state store) in
-    let k = c.requires.needs in
-    c.in_ok-reply.ensures.reply ∙ ap (λ (o : Outcome (List Overlay)). o.reply) (covered_acts d k.kept.rows k.kept.session c.args.branch c.args.tx.now k.kept.keeps (g.met.St.Store.sound store) k.kept.there c.args.stmt.now c.requires.acts (sym c.covers.ensures ∙ c.if-covers.true))
+    let k = c.requires.may.needs in
+    c.in_ok-reply.ensures.reply ∙ ap (λ (o : Outcome (List Overlay)). o.reply) (covered_acts d k.kept.rows k.kept.session c.args.branch c.args.tx.now k.kept.keeps (g.met.St.Store.sound store) k.kept.there c.args.stmt.now c.requires.may.acts (sym c.covers.ensures ∙ c.if-covers.true))
 
 pub returns-then-covers-clause-tx : goal.returns-then-covers-clause-tx
 returns-then-covers-clause-tx g c =
     let store = c.args.store.now in
     let d = dataset_of (g.St.Store.state store) in
-    let k = c.requires.needs in
+    let k = c.requires.may.needs in
     record {
       tx = ap tx_in c.in_ok-reply.ensures.left ∙ left_is c.args.tx.now c.args.stmt.now
-          ∙ ap (λ (o : Outcome (List Overlay)). o.tx) (covered_acts d k.kept.rows k.kept.session c.args.branch c.args.tx.now k.kept.keeps (g.met.St.Store.sound store) k.kept.there c.args.stmt.now c.requires.acts (sym c.covers.ensures ∙ c.if-covers.true));
+          ∙ ap (λ (o : Outcome (List Overlay)). o.tx) (covered_acts d k.kept.rows k.kept.session c.args.branch c.args.tx.now k.kept.keeps (g.met.St.Store.sound store) k.kept.there c.args.stmt.now c.requires.may.acts (sym c.covers.ensures ∙ c.if-covers.true));
       keeps = λ rows s k n.
           let d = dataset_of (g.St.Store.state c.args.store.now) in
-          subst (Keeps d rows s c.args.branch) (sym c.in_ok-reply.ensures.left) (left_keeps d rows s c.args.branch c.args.tx.now c.args.stmt.now c.requires.acts (sym c.covers.ensures ∙ c.if-covers.true) k);
+          subst (Keeps d rows s c.args.branch) (sym c.in_ok-reply.ensures.left) (left_keeps d rows s c.args.branch c.args.tx.now c.args.stmt.now c.requires.may.acts (sym c.covers.ensures ∙ c.if-covers.true) k);
     }
 
 pub returns-then-covers-clause-long : goal.returns-then-covers-clause-long
@@ -40,10 +40,10 @@ returns-in_ok-reply-in-None-clause-reply g c =
     let d = dataset_of (g.St.Store.state store) in
     let b = c.args.branch in
     let x = c.args.stmt.now in
-    let k = c.requires.needs in
-    let more = c.in_ok-why.ensures.more in
+    let k = c.requires.may.needs in
+    let more = c.in_ok-why.ensures.more.more in
     c.in_ok-reply-in-None.ensures.reply
-    ∙ ap (λ (o : Outcome (List Overlay)). o.reply) (covered_acts d k.kept.rows k.kept.session b c.grant.new.tx (c.in_ok-why.ensures.keeps k.kept.rows k.kept.session k.kept.keeps k.granted) (g.met.St.Store.sound store) k.kept.there x c.requires.acts (c.in_ok-why.ensures.covered c.in-None.is))
+    ∙ ap (λ (o : Outcome (List Overlay)). o.reply) (covered_acts d k.kept.rows k.kept.session b c.grant.new.tx (c.in_ok-why.ensures.keeps k.kept.rows k.kept.session k.kept.keeps k.granted) (g.met.St.Store.sound store) k.kept.there x c.requires.may.acts (c.in_ok-why.ensures.covered c.in-None.is))
     ∙ ap (λ (t : Tx (List Overlay)). (act_over d b t x).reply) (more_tx c.args.tx.now c.grant.new.tx more)
 
 pub returns-in_ok-reply-in-None-clause-tx : goal.returns-in_ok-reply-in-None-clause-tx
@@ -52,18 +52,18 @@ returns-in_ok-reply-in-None-clause-tx g c =
     let d = dataset_of (g.St.Store.state store) in
     let b = c.args.branch in
     let x = c.args.stmt.now in
-    let k = c.requires.needs in
-    let more = c.in_ok-why.ensures.more in
+    let k = c.requires.may.needs in
+    let more = c.in_ok-why.ensures.more.more in
     record {
       tx = ap tx_in c.in_ok-reply-in-None.ensures.left ∙ left_is c.grant.new.tx x
-          ∙ ap (λ (o : Outcome (List Overlay)). o.tx) (covered_acts d k.kept.rows k.kept.session b c.grant.new.tx (c.in_ok-why.ensures.keeps k.kept.rows k.kept.session k.kept.keeps k.granted) (g.met.St.Store.sound store) k.kept.there x c.requires.acts (c.in_ok-why.ensures.covered c.in-None.is))
+          ∙ ap (λ (o : Outcome (List Overlay)). o.tx) (covered_acts d k.kept.rows k.kept.session b c.grant.new.tx (c.in_ok-why.ensures.keeps k.kept.rows k.kept.session k.kept.keeps k.granted) (g.met.St.Store.sound store) k.kept.there x c.requires.may.acts (c.in_ok-why.ensures.covered c.in-None.is))
           ∙ ap (λ (t : Tx (List Overlay)). (act_over d b t x).tx) (more_tx c.args.tx.now c.grant.new.tx more);
       keeps = λ rows s k n.
           let d = dataset_of (g.St.Store.state c.args.store.now) in
-          subst (Keeps d rows s c.args.branch) (sym c.in_ok-reply-in-None.ensures.left) (left_keeps d rows s c.args.branch c.grant.new.tx c.args.stmt.now c.requires.acts (c.in_ok-why.ensures.covered c.in-None.is) (c.in_ok-why.ensures.keeps rows s k n));
+          subst (Keeps d rows s c.args.branch) (sym c.in_ok-reply-in-None.ensures.left) (left_keeps d rows s c.args.branch c.grant.new.tx c.args.stmt.now c.requires.may.acts (c.in_ok-why.ensures.covered c.in-None.is) (c.in_ok-why.ensures.keeps rows s k n));
     }
 
 pub returns-in_ok-reply-in-None-clause-long : goal.returns-in_ok-reply-in-None-clause-long
 returns-in_ok-reply-in-None-clause-long g c = λ l.
     let tx : Granted = c.args.tx.now in
-    subst (IsMore tx) (sym c.in_ok-reply-in-None.ensures.left) (more_left tx c.grant.new.tx c.args.stmt.now c.in_ok-why.ensures.more (subst IsLong c.in_ok-reply-in-None.ensures.reply l))
+    subst (IsMore tx) (sym c.in_ok-reply-in-None.ensures.left) (more_left tx c.grant.new.tx c.args.stmt.now c.in_ok-why.ensures.more.more (subst IsLong c.in_ok-reply-in-None.ensures.reply l))

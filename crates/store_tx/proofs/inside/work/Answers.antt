@@ -5,7 +5,7 @@ use Rattle.store_tx.specs.Statements.{MayWork, GoesOn, acted_over}
 use Rattle.store_tx.proofs.inside.work.Goals as goal
 
 pub merge-requires : goal.merge-requires
-merge-requires g c = record { may = subst (λ (y : Stmt). MayWork (g.St.Store.state c.args.store.now) c.args.branch y c.args.tx.now) c.in-Merge.is c.requires.may }
+merge-requires g c = record { may = subst (λ (y : Stmt). MayWork (g.St.Store.state c.args.store.now) c.args.branch y c.args.tx.now) c.in-Merge.is c.requires.may.may }
 
 pub returns-in_ok-reply-in-Merge-clause-tx : goal.returns-in_ok-reply-in-Merge-clause-tx
 returns-in_ok-reply-in-Merge-clause-tx g c =

@@ -12,13 +12,18 @@ use Rattle.store_tx.proofs.Tagged.{tagged_new}
 use Rattle.store_tx.proofs.OwnLines.{own_told, own_stored, own_answered, own_none, done_is, not_done}
 use Rattle.store_tx.proofs.outside.alone.Goals as goal
 
-pub work_twice-requires-clause-may : goal.work_twice-requires-clause-may
-work_twice-requires-clause-may g c =
+pub work_twice-requires : goal.work_twice-requires
+work_twice-requires g c =
     let d = dataset_of (g.St.Store.state c.args.store.now) in
     let ns = needs d c.args.branch true (has_done c.in_ok-tx.tx) c.args.stmt.now in
     record {
-      needs = record { kept = record { there = c.requires.branch; rows = tagged 0 ns []; session = 0; keeps = c.in_ok-tx.ensures.keeps (tagged 0 ns []) 0; shown = c.in_ok-tx.ensures.shown }; granted = tagged_new 0 ns [] };
-      clean = λ e. ap (λ (t : Tx (List Overlay)). t.work) c.in_ok-tx.ensures.tx;
+      may = record {
+        works = c.requires.works;
+        may = record {
+          needs = record { kept = record { there = c.requires.branch; rows = tagged 0 ns []; session = 0; keeps = c.in_ok-tx.ensures.keeps (tagged 0 ns []) 0; shown = c.in_ok-tx.ensures.shown }; granted = tagged_new 0 ns [] };
+          clean = λ e. ap (λ (t : Tx (List Overlay)). t.work) c.in_ok-tx.ensures.tx;
+        };
+      };
     }
 
 pub returns : goal.returns

@@ -1,4 +1,4 @@
-use Rattle.std.proofs.Common.{◌∷◌, suc, length, map, subst, sym, List}
+use Rattle.std.proofs.Common.{◌∷◌, suc, length, map, subst, sym}
 use Rattle.branch_tx.specs.TxState.{AllWide}
 use Rattle.branch_tx.specs.Shown.{Shown, parts_by, ViewsAgree}
 use Rattle.branch_tx.specs.Lending.{Views}

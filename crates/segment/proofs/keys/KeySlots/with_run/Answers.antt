@@ -1,27 +1,26 @@
-use Rattle.std.proofs.Common.{◌≡◌, ◌+◌, ◌<◌, ◌++◌, ◌∷◌, [], ℕ, List, take, get_or, length, Some, ap, sym, subst, ◌∙◌, arith}
-use Rattle.std.proofs.lemmas.List.{get_or_default}
-use Rattle.std.specs.FinMap as finite
-use Rattle.db_value.specs.declared.record.Record.{Record}
-use Rattle.record_page.specs.Page.{record_at}
-use Rattle.key_index.specs.declared.changes.SpotChange.{SpotChange}
-use Rattle.key_index.specs.Places.{Places, with_changes}
-use Rattle.segment.specs.Keys.{AreSlots, noted}
-use Rattle.segment.proofs.KeyLemmas.{run_push}
+use Rattle.std.proofs.Common.{Global, ◌≡◌, ◌∷◌, ◌++◌, [], ℕ, List, map, take, ap, sym, ◌∙◌, subst}
+use Rattle.std.specs.Arc.{arc_value}
+use Rattle.std.specs.declared.sync.Arc.{Arc}
+use Rattle.std.proofs.lemmas.List.{map-append, take-append-drop}
+use Rattle.segment.specs.declared.run.Run.{Run}
+use Rattle.segment.specs.declared.keys.Runs.{Runs}
+use Rattle.segment.specs.Keys.{AreRuns, runs_of}
+use Rattle.segment.proofs.SlotLemmas.{slots_with_run}
 use Rattle.segment.proofs.keys.KeySlots.with_run.Goals as goal
 
-pub loop-at-preserved : goal.loop-at-preserved
-loop-at-preserved c = λ records e old.
-    let lasts : Places = c.args.self.now.lasts in
-    let befores : Places = c.args.self.now.befores in
-    let rows : List Record = c.args.rows.now in
-    let at : ℕ = c.loop-at.at in
-    let slot : ℕ = c.args.len + at in
-    let ls : List SpotChange = c.loop-at.lasts.items in
-    let bs : List SpotChange = c.loop-at.befores.items in
-    let lt : at < c.args.to = c.loop-at-test.true in
-    let row : get_or rows at c.index-rows-at.result ≡ record_at rows at = get_or_default rows at c.index-rows-at.result (record { key = 0; fields = [] }) (omega (arith, lt, c.requires.within)) in
-    let next = run_push lasts befores ls bs records rows c.args.len c.args.from at c.args.to c.requires.rises (c.loop-at.auto.at) lt c.requires.within e old (c.loop-at.invariant records e old) in
-    let new-ls : c.note.new.lasts.items ≡ ls ++ record { key = (record_at rows at).key; place = Some (0, slot) } ∷ [] = c.in_ok-note.ensures.last ∙ ap (λ (r : Record). ls ++ record { key = r.key; place = Some (0, slot) } ∷ []) row in
-    let new-bs : c.note.new.befores.items ≡ bs ++ noted slot (finite.get lasts (record_at rows at).key) = c.in_ok-note.ensures.before ∙ ap (λ (r : Record). bs ++ noted slot (finite.get lasts r.key)) row in
-    subst (λ (xs : List SpotChange). AreSlots (with_changes lasts xs) (with_changes befores c.note.new.befores.items) (records ++ take (at + 1) rows)) (sym new-ls)
-    (subst (λ (xs : List SpotChange). AreSlots (with_changes lasts (ls ++ record { key = (record_at rows at).key; place = Some (0, slot) } ∷ [])) (with_changes befores xs) (records ++ take (at + 1) rows)) (sym new-bs) next)
+pub returns : goal.returns
+returns c = λ records e is runs.
+    let s : List (Arc Run Global) = c.as_slice-runs.result.now in
+    let near : List (Arc Run Global) = c.split_at.result.0.now in
+    let far : List (Arc Run Global) = c.split_at.result.1.now in
+    let older : List Run = map arc_value far in
+    let from : ℕ = c.args.self.now.from in
+    let whole : near ++ far ≡ s = ap (λ (xs : List (Arc Run Global)). xs ++ far) c.split_at.ensures.front ∙ ap (λ (xs : List (Arc Run Global)). take c.count_to_join.result s ++ xs) c.split_at.ensures.back ∙ take-append-drop c.count_to_join.result s in
+    let own : runs_of c.args.self.now ≡ map arc_value near ++ older = ap (map arc_value) (sym (whole ∙ c.as_slice-runs.ensures.value ∙ ap (λ (r : Runs). r.items.items) c.deref.ensures)) ∙ map-append arc_value near far in
+    let run : Run = c.in_ok-run.run' in
+    let joined : AreRuns records (run ∷ older) c.args.to = c.in_ok-run.ensures records c.args.to older is (subst (λ (rs : List Run). AreRuns records rs from) own runs) in
+    let link : Arc Run Global = c.in_ok-new.field-0 in
+    let first : c.push.new.self.items ≡ link ∷ [] = c.in_ok-push.ensures.items ∙ ap (λ (xs : List (Arc Run Global)). xs ++ link ∷ []) c.in_ok-items.ensures.items in
+    let links : map arc_value c.share.new.to.items ≡ run ∷ older = c.in_ok-share.ensures ∙ ap (λ (xs : List (Arc Run Global)). map arc_value xs ++ older) first ∙ ap (λ (r : Run). r ∷ older) c.in_ok-new.ensures.ok in
+    let now : map arc_value (arc_value c.in_ok-new-2.field-0).items.items ≡ run ∷ older = ap (λ (r : Runs). map arc_value r.items.items) c.in_ok-new-2.ensures.ok ∙ links in
+    slots_with_run records (record { runs = c.in_ok-new-2.field-0; from = c.args.to; newest = c.new-3.result }) run older (sym e) c.new-3.ensures.items now (subst (AreRuns records (run ∷ older)) (sym e) joined)

@@ -1,4 +1,4 @@
-use Rattle.std.proofs.Common.{arith, ◌≡◌, ◌<◌, ◌≤◌, ◌++◌, [], ℕ, List, length, map, ap, sym, ◌∙◌, subst}
+use Rattle.std.proofs.Common.{arith, ◌≡◌, ◌++◌, [], List, length, map, ap, ◌∙◌, subst}
 use Rattle.std.specs.Arc.{arc_value}
 use Rattle.std.proofs.lemmas.List.{length-map, nil_from_length, append-nil}
 use Rattle.db_value.specs.declared.record.Record.{Record}
@@ -20,7 +20,7 @@ invariant_of-result c =
     let all : rows ++ t.last.records ≡ rows = ap (λ (xs : List Record). rows ++ xs) none ∙ append-nil rows in
     let few = t.few in
     let m = length-map t.pages.items arc_value in (
-      (c.requires.len ∙ ap length all, subst (AreSlots c.args.slots.lasts c.args.slots.befores) all c.requires.slots),
+      (c.requires.len ∙ ap length all, subst (AreSlots c.args.slots) all c.requires.slots),
       (
         c.capacity_of-most.ensures,
         laid_all t.fields blocks pages t.some t.most t.full t.whole (omega (arith, few, m)) (subst (AreWide t.fields) all c.requires.wide),

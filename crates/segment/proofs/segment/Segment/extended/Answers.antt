@@ -1,8 +1,7 @@
-use Rattle.std.proofs.Common.{arith, ◌≡◌, ◌<◌, ◌++◌, [], ℕ, List, length, get_or, ap, sym, ◌∙◌, subst}
+use Rattle.std.proofs.Common.{arith, ◌≡◌, ◌++◌, [], ℕ, List, length, get_or, ap, sym, ◌∙◌, subst}
 use Rattle.std.proofs.lemmas.List.{get_or_read, take_all}
 use Rattle.db_value.specs.declared.record.Record.{Record}
 use Rattle.record_page.specs.Page.{Rows}
-use Rattle.key_index.specs.Places.{Places}
 use Rattle.segment.specs.Keys.{AreSlots}
 use Rattle.segment.specs.Pages.{AreWide}
 use Rattle.segment.specs.Tails.{rows_in}
@@ -29,11 +28,9 @@ closed-requires-clause-wide c =
 pub closed-requires-clause-slots : goal.closed-requires-clause-slots
 closed-requires-clause-slots c =
     let inv = c.loop-row.invariant in
-    let lasts : Places = c.self.inside.slots.lasts in
-    let befores : Places = c.self.inside.slots.befores in
     let old : List Record = c.args.self.now.records in
-    let own : AreSlots lasts befores old = subst (λ (v : Rows). AreSlots lasts befores v.records) c.self.view_is c.self.invariant.0.1 in
+    let own : AreSlots c.self.inside.slots old = subst (λ (v : Rows). AreSlots c.self.inside.slots v.records) c.self.view_is c.self.invariant.0.1 in
     let rows : rows_in c.loop-row.tail ≡ old ++ c.args.rows.now = inv.0 ∙ ap (λ (xs : List Record). old ++ xs) (take_all c.loop-row.row-index c.as_slice-row-items.result.now c.loop-row-test.false ∙ c.as_slice-row-items.ensures) in
-    subst (AreSlots c.in_ok-slots.slots.lasts c.in_ok-slots.slots.befores)
+    subst (AreSlots c.in_ok-slots.slots)
     (ap (λ (xs : List Record). old ++ xs) c.as_slice.ensures ∙ sym rows)
     (c.in_ok-slots.ensures old (sym c.len-own.ensures.count) own)

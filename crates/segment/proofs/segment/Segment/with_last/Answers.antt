@@ -1,4 +1,4 @@
-use Rattle.std.proofs.Common.{arith, ◌≡◌, ◌<◌, ◌≤◌, ◌++◌, ◌∷◌, [], ℕ, List, length, map, ap, sym, ◌∙◌, subst}
+use Rattle.std.proofs.Common.{arith, ◌≤◌, ◌++◌, ◌∷◌, [], ℕ, List, length, map, ap, sym, ◌∙◌, subst}
 use Rattle.std.specs.Arc.{arc_value}
 use Rattle.std.proofs.lemmas.List.{length-map}
 use Rattle.record_page.specs.Page.{Rows, capacity}
@@ -18,7 +18,7 @@ invariant_of-result c =
     let fits : length t.last.records ≤ capacity t.fields = subst (λ (k : ℕ). length t.last.records ≤ capacity k) t.same c.len-count.ensures.paged.room in
     let laid : IsLaid t.fields blocks (pages ++ t.last ∷ []) = laid_last t.fields blocks pages t.last t.some t.most t.full t.whole (omega (arith, room, m)) t.same c.requires.some fits c.requires.wide in
     let rows = sym (rows_after (pages_of blocks) pages t.last) ∙ ap (λ (ps : List Rows). records_of (pages_of blocks ++ ps)) (sym put) in (
-      (c.requires.len ∙ ap length rows, subst (AreSlots c.args.slots.lasts c.args.slots.befores) rows c.requires.slots),
+      (c.requires.len ∙ ap length rows, subst (AreSlots c.args.slots) rows c.requires.slots),
       (
         c.capacity_of-most.ensures,
         subst (λ (ps : List Rows). IsLaid t.fields blocks ps) (sym put) laid,
