@@ -107,7 +107,7 @@ module _ (schema : List Relation) (lanes : List KeptLane) (order : List VersionP
       ∙ ap Some (shows.front ∙ sym (records_of_slots 0 p.rows.records (bit_of p.bits)))
 
   -- the rows of a branch are of segments that are there
-  rows_there : (b r : ℕ) → b < length lanes → r < length schema → IsLaid (kept_layout schema lanes order segments) → (i : ℕ) → i < length (kept_rows (get_or lanes b no_kept) r) → (kept_row_at (kept_rows (get_or lanes b no_kept) r) i).segment < length (map segment_of (list_at segments r))
+  pub rows_there : (b r : ℕ) → b < length lanes → r < length schema → IsLaid (kept_layout schema lanes order segments) → (i : ℕ) → i < length (kept_rows (get_or lanes b no_kept) r) → (kept_row_at (kept_rows (get_or lanes b no_kept) r) i).segment < length (map segment_of (list_at segments r))
   rows_there b r h g laid i lt =
       let rows : List KeptRow = kept_rows (get_or lanes b no_kept) r in
       let m = length-map rows laid_row in
