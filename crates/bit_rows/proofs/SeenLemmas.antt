@@ -1,5 +1,5 @@
 -- The bits of a row by its history are those that the layout tells, and no longer than the records.
-use Rattle.std.proofs.Common.{◌≡◌, ◌⊎◌, inl, inr, ℕ, zero, suc, ◌+◌, ◌-◌, ◌<◌, ◌≤◌, ◌==◌, ◌||◌, Bool, true, false, List, [], ◌∷◌, length, map, take, get_or, refl, arith, ap, sym, ◌∙◌, subst}
+use Rattle.std.proofs.Common.{◌≡◌, ◌⊎◌, inl, inr, ℕ, zero, suc, ◌+◌, ◌-◌, ◌<◌, ◌≤◌, ◌==◌, ◌||◌, Bool, true, false, cond, List, [], ◌∷◌, ◌++◌, length, map, take, get_or, refl, arith, ap, sym, ◌∙◌, subst}
 use Rattle.std.proofs.Math.Nat.{max-le}
 use Rattle.std.proofs.lemmas.Bool.{cases_lt, cases_Bool, eq-eqb, false≢true}
 use Rattle.std.proofs.lemmas.List.{length-map, get_or-map, get_or_past, take_more, take-map}
@@ -14,7 +14,9 @@ use Rattle.db_store.proofs.BitLemmas.{has_where, has_past, combined_push}
 use Rattle.hybrid_view.specs.Deltas.{slots_of}
 use Rattle.bit_rows.specs.Short.{end_of, shortest}
 use Rattle.bit_rows.specs.Rows.{KeptRow, laid_row}
-use Rattle.bit_rows.specs.Seen.{deltas_until, piece_seen}
+use Rattle.hybrid_view.specs.Live.{Piece}
+use Rattle.bit_rows.specs.Segments.{KeptRecords}
+use Rattle.bit_rows.specs.Seen.{deltas_until, piece_seen, piece_of_row, is_begun, begun_by, pieces_seen}
 use Rattle.bit_rows.proofs.ChangedLemmas.{same_differ}
 
 -- ---- bits
@@ -99,3 +101,19 @@ covered_seen own n row most short within = combined_within (deltas_until n row) 
         delta_within (get_or row.deltas j []) most
         (ap shortest (sym slots) ∙ sym (get_or-map shortest (map slots_of row.deltas) j [] [] (omega (arith, n, h))) ∙ ap (λ (ds : List (List Bool)). get_or ds j []) short)
         (λ s t. turned_within (map slots_of row.deltas) most at j s (omega (arith, n, h)) (ap (λ (xs : List ℕ). has xs s) slots ∙ t))
+
+-- ---- which rows have begun
+
+-- one row more, which has begun or not
+pub begun_push : (ks : List KeptRecords) (n : ℕ) (rows : List KeptRow) (x : KeptRow) → pieces_seen ks n (rows ++ x ∷ []) ≡ pieces_seen ks n rows ++ cond (is_begun n x) (piece_of_row ks n x ∷ []) []
+begun_push ks n [] x = by (is_begun n x)
+  where
+    by : (b : Bool) → map (piece_of_row ks n) (cond b (x ∷ []) []) ≡ cond b (piece_of_row ks n x ∷ []) []
+    by true = refl
+    by false = refl
+begun_push ks n (y ∷ ys) x = by (is_begun n y) (begun_push ks n ys x)
+  where
+    by : (b : Bool) → pieces_seen ks n (ys ++ x ∷ []) ≡ pieces_seen ks n ys ++ cond (is_begun n x) (piece_of_row ks n x ∷ []) []
+        → map (piece_of_row ks n) (cond b (y ∷ begun_by n (ys ++ x ∷ [])) (begun_by n (ys ++ x ∷ []))) ≡ map (piece_of_row ks n) (cond b (y ∷ begun_by n ys) (begun_by n ys)) ++ cond (is_begun n x) (piece_of_row ks n x ∷ []) []
+    by true e = ap (λ (ps : List Piece). piece_of_row ks n y ∷ ps) e
+    by false e = e

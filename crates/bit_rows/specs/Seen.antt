@@ -1,5 +1,5 @@
 -- What a version of a branch has of a relation: the bits of its rows by their histories, and the places of the live records.
-use Rattle.std.specs.Prelude.{ℕ, suc, ◌-◌, ◌<◌, ◌≤◌, ◌^◌, List, length, map, take}
+use Rattle.std.specs.Prelude.{ℕ, suc, ◌-◌, ◌<◌, ◌≤◌, ◌^◌, nat_le, filter, Bool, List, length, map, take}
 use Rattle.record_page.specs.Page.{Rows}
 use Rattle.commit_history.specs.Combined.{combined}
 use Rattle.hybrid_view.specs.Live.{Piece, Lived, piece_at}
@@ -19,9 +19,17 @@ piece_seen own n row = record { segment = row.segment; rows = own; bits = combin
 abbrev pub piece_of_row : List KeptRecords → ℕ → KeptRow → Piece
 piece_of_row ks n row = piece_seen (kept_at ks row.segment).rows n row
 
--- the pieces of rows
+-- the row begins at a position or before it
+abbrev pub is_begun : ℕ → KeptRow → Bool
+is_begun n row = nat_le row.from n
+
+-- the rows that do
+abbrev pub begun_by : ℕ → List KeptRow → List KeptRow
+begun_by n rows = filter (is_begun n) rows
+
+-- their pieces
 abbrev pub pieces_seen : List KeptRecords → ℕ → List KeptRow → List Piece
-pieces_seen ks n rows = map (piece_of_row ks n) rows
+pieces_seen ks n rows = map (piece_of_row ks n) (begun_by n rows)
 
 -- what a version has of a relation
 abbrev pub lived_seen : List KeptRecords → ℕ → List KeptRow → Lived

@@ -1,10 +1,10 @@
 //! What a version of a branch has of a relation, by the histories of its rows.
-ghost use Rattle.std.specs.Prelude.{◌≡◌, ℕ, ◌<◌, ◌^◌, ◌-◌, length, IfOk};
+ghost use Rattle.std.specs.Prelude.{◌≡◌, ℕ, ◌<◌, ◌^◌, ◌-◌, ◌++◌, ◌∷◌, [], cond, length, IfOk, OnOk};
 ghost use Rattle.hybrid_view.specs.Live.{IsLived};
 ghost use Rattle.std.specs.List.{All};
 ghost use Rattle.bit_rows.specs.Rows.{kept_row_at};
 ghost use Rattle.hybrid_view.specs.Spots.{spots_of_pieces};
-ghost use Rattle.bit_rows.specs.Seen.{piece_of_row, pieces_seen, lived_seen, AreCovered, IsThere, IsSmall};
+ghost use Rattle.bit_rows.specs.Seen.{is_begun, piece_of_row, pieces_seen, lived_seen, AreCovered, IsThere, IsSmall};
 
 use crate::kept::KeptSegments;
 use crate::rows::BitRows;
@@ -35,7 +35,31 @@ fn part_seen(
     Ok(LivePart::of(row.segment(), records, bits))
 }
 
-// The parts of rows at a position.
+// Puts the part of a row at a position behind others, if the row has begun by then.
+fn push_seen(
+    alloc: Global,
+    rows: &BitRows,
+    kept: &KeptSegments,
+    position: u32,
+    index: usize,
+    parts: &mut Vec<LivePart>,
+) -> Result<(), AllocError>
+    requires few { position < 2 ^ 32 - 1 }
+    requires index { index < length rows.now }
+    requires there { IsThere kept.now.all position (kept_row_at rows.now index) }
+    ensures parts { OnOk result (parts.new.items ≡ parts.old.items
+        ++ cond (is_begun position (kept_row_at rows.now index))
+        (piece_of_row kept.now.all position (kept_row_at rows.now index) ∷ []) []) }
+    ensures small { OnOk result (All IsSmall parts.old.items → All IsSmall parts.new.items) }
+{
+    if rows.row(index).from() <= position {
+        let part = part_seen(alloc, rows, kept, position, index)?;
+        parts.push(part)?;
+    }
+    Ok(())
+}
+
+// The parts of the rows that have begun by a position.
 fn parts_seen(
     alloc: Global,
     rows: &BitRows,
@@ -50,8 +74,7 @@ fn parts_seen(
 {
     let mut parts = Vec::new(alloc);
     for index in 0..rows.len() {
-        let part = part_seen(alloc, rows, kept, position, index)?;
-        parts.push(part)?;
+        push_seen(alloc, rows, kept, position, index, &mut parts)?;
     }
     Ok(parts)
 }
@@ -70,8 +93,8 @@ fn live_count(parts: &[LivePart]) -> u32
     count
 }
 
-/// What the version at a position has of a relation, by the rows of its branch. All records of the segments
-/// are shared, and no index is made.
+/// What the version at a position has of a relation, by those rows of its branch that have begun by then. All
+/// records of the segments are shared, and no index is made.
 pub fn relation_seen(
     alloc: Global,
     rows: &BitRows,

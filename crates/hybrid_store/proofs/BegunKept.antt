@@ -8,7 +8,7 @@ use Rattle.db_value.specs.declared.record.Record.{Record}
 use Rattle.plain_bits.specs.Truth.{bit_of}
 use Rattle.db_store.specs.Layout.{Segment, Row, combined, bit, records_at, contents_of, head_row}
 use Rattle.db_store.specs.LayoutGrowth.{is_head_of, segments_with, new_head, rows_begun}
-use Rattle.db_store.specs.LaidOut.{AreRowsOf, head_at, row_at, no_row, times, rises as row_rises}
+use Rattle.db_store.specs.LaidOut.{AreRows, AreRowsOf, head_at, row_at, no_row, times, rises as row_rises}
 use Rattle.db_store.proofs.LayoutLaw.{with_same, first_new, head_new}
 use Rattle.db_store.proofs.LaidLemmas.{own_gone, other_head, older_head, own_new, begun_new, which}
 use Rattle.std.specs.FinMap as finite
@@ -59,7 +59,7 @@ module _ (q : Bool) (b c n count columns : ℕ) (ss : List Segment) (apart : b �
   -- ---- the new branch
 
   module _ (free : (s : ℕ) → s < length ss → is_head_of c (head_at ss s) ≡ false) (few : length (segments_with q b c ss) < 2 ^ 32 - 1) (rows : List Row) (l : Lived) (below : n < count)
-      (before : AreRowsOf ss b count rows) (behind : AreRowsOf (segments_with q b c ss) c 1 (rows_begun q n ss rows)) (lived : IsLived l) (show : Show ss n rows l.pieces)
+      (before : AreRows ss count rows) (behind : AreRowsOf (segments_with q b c ss) c 1 (rows_begun q n ss rows)) (lived : IsLived l) (show : Show ss n rows l.pieces)
       (small : AreSmall l) (fields : (i : ℕ) → i < length l.pieces → (piece_at l.pieces i).rows.fields ≡ columns) where
     abbrev head : Piece
     head = empty_head (new_head q ss) columns
@@ -74,7 +74,7 @@ module _ (q : Bool) (b c n count columns : ℕ) (ss : List Segment) (apart : b �
     begun_rows = begun_all q ss n columns rows l.pieces all lived.covered
 
     begun_show : AllShow (segments_with q b c ss) 0 (rows_begun q n ss rows) (begun_pieces l.pieces (empty_head (new_head q ss) columns))
-    begun_show = pieces_begun q b c n count ss has_live rows l.pieces head before.are all (all_tell l.pieces lived.covered) refl refl refl
+    begun_show = pieces_begun q b c n count ss has_live rows l.pieces head before all (all_tell l.pieces lived.covered) refl refl refl
 
     covered : AreCovered (begun_pieces l.pieces (empty_head (new_head q ss) columns))
     covered = kept_all (λ p. length p.bits ≤ length p.rows.records) has_live l.pieces head lived.covered (omega arith)

@@ -22,3 +22,4 @@ pub mod PrepareLemmas
 pub mod SeenRows
 pub mod ViewLemmas
 pub mod ReportLemmas
+pub mod WholeLemmas

@@ -1,6 +1,6 @@
 -- What is made ready for a new branch is ready for it.
 use Rattle.std.proofs.Common.{◌≡◌, ◌≢◌, ℕ, suc, ◌+◌, ◌-◌, ◌*◌, ◌^◌, ◌<◌, ◌≤◌, ◌==◌, cond, Bool, true, false, List, [], ◌∷◌, ◌++◌, length, map, set, get_or, Option, Some, None, refl, arith, ap, sym, ◌∙◌, subst}
-use Rattle.std.proofs.lemmas.List.{length-map, length-set, length_push, get_or_push}
+use Rattle.std.proofs.lemmas.List.{length-map, length-set, length_push, get_or_push, get_or-map}
 use Rattle.std.proofs.lemmas.Bool.{eqb-true}
 use Rattle.db_value.specs.Relations.{columns_at}
 use Rattle.db_value.specs.declared.schema.Relation.{Relation}
@@ -11,13 +11,15 @@ use Rattle.db_store.specs.Dataset.{branch_at}
 use Rattle.db_store.specs.Fits.{fits}
 use Rattle.db_store.specs.Layout.{Segment, Row, Lane, Layout, no_lane, lane_at, segments_at, rows_at}
 use Rattle.db_store.specs.LayoutGrowth.{is_head_of, segments_with, new_head, rows_begun, is_last, last_in, made_at, with_branch, lane_with, lane_begun}
-use Rattle.db_store.specs.LaidOut.{IsLaid, AreRowsOf, head_at, row_at}
+use Rattle.db_store.specs.LaidOut.{IsLaid, AreRows, AreRowsOf, head_at, no_row, row_at}
 use Rattle.db_store.proofs.LayoutLaw.{made_there}
 use Rattle.db_store.proofs.LaidLemmas.{laid_stays}
 use Rattle.db_store.proofs.SegmentLemmas.{at_relation}
 use Rattle.db_store.proofs.SoundLemmas.{branch_parts}
 use Rattle.hybrid_view.specs.Live.{Lived, lived_at, piece_at, begun_pieces, IsLived}
-use Rattle.bit_rows.specs.Rows.{KeptRow, laid_row, begun_row, MoreRow}
+use Rattle.bit_rows.specs.Rows.{KeptRow, no_kept_row, kept_row_at, laid_row, begun_row, MoreRow}
+use Rattle.bit_rows.specs.Seen.{begun_by}
+use Rattle.bit_rows.proofs.BegunRowsLemmas.{are_begun, begun_carried, begun_whole}
 use Rattle.bit_rows.specs.Kept.{KeptLane, no_kept, kept_rows}
 use Rattle.hybrid_store.specs.Lanes.{segment_of, lane_of, kept_layout}
 use Rattle.bit_rows.specs.Segments.{KeptList, list_at}
@@ -104,6 +106,21 @@ module _ (schema : List Relation) (lanes : List KeptLane) (order : List VersionP
       (subst (λ (xs : List Row). AreRowsOf (segments_at w.segments r) (length lanes) 1 xs) rows one)
 
   module _ (view : List Lived) (seen : IsSeen schema segments (get_or lanes origin.branch no_kept) origin.position view) where
+    -- the rows of the origin that have begun, and what a new branch carries over of them
+    abbrev begun : ℕ → List KeptRow
+    begun r = begun_by origin.position (kept_rows (get_or lanes origin.branch no_kept) r)
+
+    are : (r : ℕ) → r < length schema → AreRows (map segment_of (list_at segments r)) (length (get_or lanes origin.branch no_kept).seconds) (map laid_row (begun_by origin.position (kept_rows (get_or lanes origin.branch no_kept) r)))
+    are r g = are_begun (ss r) (length k.seconds) origin.position (kept_rows k r) (before r g).are
+
+    carried : (r : ℕ) → rows_begun q origin.position (map segment_of (list_at segments r)) (map laid_row (begun_by origin.position (kept_rows (get_or lanes origin.branch no_kept) r)))
+        ≡ rows_begun q origin.position (map segment_of (list_at segments r)) (map laid_row (kept_rows (get_or lanes origin.branch no_kept) r))
+    carried r = begun_carried q (ss r) origin.position (kept_rows k r)
+
+    after_rows : (r : ℕ) → r < length schema → AreRowsOf (segments_with q origin.branch (length lanes) (map segment_of (list_at segments r))) (length lanes) 1
+        (rows_begun q origin.position (map segment_of (list_at segments r)) (map laid_row (begun_by origin.position (kept_rows (get_or lanes origin.branch no_kept) r))))
+    after_rows r g = subst (λ (xs : List Row). AreRowsOf (segments_with q origin.branch (length lanes) (ss r)) (length lanes) 1 xs) (sym (carried r)) (behind r g)
+
     begun_is : (r : ℕ) → r < length schema → begun_in segments (cond q 1 0) owns view r ≡ lived_begun (lived_at view r) (empty_head (new_head q (map segment_of (list_at segments r))) (length (columns_at schema r)))
     begun_is r g = λ i. lived_begun (lived_at view r) (head_piece (head_number q (ss r) (length (list_at segments r)) (sym (length-map (list_at segments r) segment_of)) i) (empty r g i))
 
@@ -112,7 +129,7 @@ module _ (schema : List Relation) (lanes : List KeptLane) (order : List VersionP
     begun_ready r g =
         let s = seen.at r g in
         subst IsLived (sym (begun_is r g))
-        (begun_is_lived q origin.branch (length lanes) origin.position (length k.seconds) (length (columns_at schema r)) (ss r) apart (free r g) (few_segments r g) (map laid_row (kept_rows k r)) (lived_at view r) made (before r g) (behind r g) s.lived s.shown s.small s.fields)
+        (begun_is_lived q origin.branch (length lanes) origin.position (length k.seconds) (length (columns_at schema r)) (ss r) apart (free r g) (few_segments r g) (map laid_row (begun r)) (lived_at view r) made (are r g) (after_rows r g) s.lived s.shown s.small s.fields)
 
     -- it is ready for the new branch
     pub begun_at : (r : ℕ) → r < length schema → (news : List KeptRow) (lv : Lived) → lv ≡ begun_in segments (cond q 1 0) owns view r → news ≡ map begun_row (begun_in segments (cond q 1 0) owns view r).pieces
@@ -126,10 +143,10 @@ module _ (schema : List Relation) (lanes : List KeptLane) (order : List VersionP
         let lived : lv ≡ lived_begun (lived_at view r) head = e ∙ begun_is r g in
         let rows : news ≡ map begun_row (begun_pieces (lived_at view r).pieces head) = f ∙ ap (λ (x : Lived). map begun_row x.pieces) (begun_is r g) in
         let at : IsBegunAt (ss r) q columns b (length lanes) n (map laid_row (kept_rows k r)) news lv (get_or owns r no_own) = record {
-          begun = ap (map laid_row) rows ∙ begun_rows q b (length lanes) n (length k.seconds) columns (ss r) apart (free r g) (few_segments r g) (map laid_row (kept_rows k r)) (lived_at view r) made (before r g) (behind r g) s.lived s.shown s.small s.fields;
+          begun = ap (map laid_row) rows ∙ begun_rows q b (length lanes) n (length k.seconds) columns (ss r) apart (free r g) (few_segments r g) (map laid_row (begun r)) (lived_at view r) made (are r g) (after_rows r g) s.lived s.shown s.small s.fields ∙ carried r;
           kept = subst (λ (x : Lived). IsKeptAt (segments_with q b (length lanes) (ss r)) columns (length lanes) 0 news x) (sym lived)
               (subst (λ (xs : List KeptRow). IsKeptAt (segments_with q b (length lanes) (ss r)) columns (length lanes) 0 xs (lived_begun (lived_at view r) head)) (sym rows)
-              (begun_kept q b (length lanes) n (length k.seconds) columns (ss r) apart (free r g) (few_segments r g) (map laid_row (kept_rows k r)) (lived_at view r) made (before r g) (behind r g) s.lived s.shown s.small s.fields));
+              (begun_kept q b (length lanes) n (length k.seconds) columns (ss r) apart (free r g) (few_segments r g) (map laid_row (begun r)) (lived_at view r) made (are r g) (after_rows r g) s.lived s.shown s.small s.fields));
           empty = empty r g;
         } in
         subst (λ c. IsBegunAt (segments_at l.segments r) q columns b c n (rows_at (lane_at l b) r) news lv (get_or owns r no_own)) (sym count)
@@ -200,10 +217,29 @@ module _ (schema : List Relation) (lanes : List KeptLane) (order : List VersionP
   pub fit_base : cond (origin.position == 0) (branch_at (kept_dataset schema lanes order segments) origin.branch).base origin ≡ made_at (kept_layout schema lanes order segments) origin
   fit_base = ap (λ b. cond (origin.position == 0) b origin) (sym (kept_base schema lanes order segments origin.branch fit_there) ∙ sym (ap (λ (x : Lane). x.base) (lane_kept schema lanes order segments origin.branch fit_there)))
 
--- what the last version of a branch has is seen at its last position
-pub head_seen : (schema : List Relation) (lanes : List KeptLane) (segments : List KeptList) (b n : ℕ) → IsStored schema lanes segments → b < length lanes → n ≡ length (get_or lanes b no_kept).seconds - 1 → IsSeen schema segments (get_or lanes b no_kept) n (get_or lanes b no_kept).head
-head_seen schema lanes segments b n is h e =
+-- what the last version of a branch has is seen at its last position, by which all its rows have begun
+pub head_seen : (schema : List Relation) (lanes : List KeptLane) (order : List VersionPlace) (segments : List KeptList) (b n : ℕ) → IsStored schema lanes segments → IsLaid (kept_layout schema lanes order segments)
+    → b < length lanes → n ≡ length (get_or lanes b no_kept).seconds - 1 → IsSeen schema segments (get_or lanes b no_kept) n (get_or lanes b no_kept).head
+head_seen schema lanes order segments b n is laid h e =
     let k : KeptLane = get_or lanes b no_kept in
     let kept = is.each b h in
     subst (λ m. IsSeen schema segments k m k.head) (sym e)
-    (record { wide = kept.head; at = λ r g. let at = kept.at r g in record { shown = at.shown; lived = at.lived; small = at.small; fields = at.fields } })
+    (record {
+      wide = kept.head;
+      at = λ r g.
+          let at = kept.at r g in
+          record {
+            shown = subst (λ (rows : List KeptRow). Show (map segment_of (list_at segments r)) (length k.seconds - 1) (map laid_row rows) (lived_at k.head r).pieces) (sym (begun_whole (length k.seconds - 1) (kept_rows k r) (last r g))) at.shown;
+            lived = at.lived;
+            small = at.small;
+            fields = at.fields;
+          };
+    })
+  where
+    last : (r : ℕ) → r < length schema → (i : ℕ) → i < length (kept_rows (get_or lanes b no_kept) r) → (kept_row_at (kept_rows (get_or lanes b no_kept) r) i).from ≤ length (get_or lanes b no_kept).seconds - 1
+    last r g i lt =
+        let rows : List KeptRow = kept_rows (get_or lanes b no_kept) r in
+        let m = length-map rows laid_row in
+        let from : (row_at (map laid_row rows) i).from ≡ (kept_row_at rows i).from = ap (λ (x : Row). x.from) (get_or-map laid_row rows i no_kept_row no_row lt) in
+        let t = ((rows_of_lane schema lanes order segments laid b h r g).are i (omega (arith, lt, m))).begun in
+        omega (arith, from, t)

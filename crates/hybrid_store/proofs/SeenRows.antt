@@ -19,7 +19,9 @@ use Rattle.hybrid_view.proofs.NextLemmas.{show_all}
 use Rattle.bit_rows.specs.Rows.{KeptRow, no_kept_row, kept_row_at, laid_row}
 use Rattle.bit_rows.specs.Kept.{KeptLane, no_kept, kept_rows}
 use Rattle.bit_rows.specs.Segments.{KeptRecords, KeptList, no_rows, kept_at, list_at}
-use Rattle.bit_rows.specs.Seen.{deltas_until, piece_of_row, pieces_seen, lived_seen, IsThere}
+use Rattle.bit_rows.specs.Short.{shortest}
+use Rattle.bit_rows.specs.Seen.{deltas_until, piece_of_row, begun_by, pieces_seen, lived_seen, IsThere}
+use Rattle.bit_rows.proofs.BegunRowsLemmas.{each_begun, begun_few, begun_rise, begun_live}
 use Rattle.bit_rows.proofs.SeenLemmas.{bits_seen, covered_seen}
 use Rattle.bit_rows.proofs.SpotsLemmas.{spots_lived}
 use Rattle.hybrid_store.specs.Lanes.{segment_of, lane_of, kept_layout}
@@ -29,7 +31,7 @@ use Rattle.hybrid_store.proofs.BegunRows.{AreCovered}
 use Rattle.hybrid_store.proofs.BranchStored.{rows_of_lane}
 
 -- pieces of rows ascend as the rows do
-pieces_rise : (ks : List KeptRecords) (n low : ℕ) (rows : List KeptRow) → rises low (pieces_seen ks n rows) ≡ row_rises low (map laid_row rows)
+pieces_rise : (ks : List KeptRecords) (n low : ℕ) (rows : List KeptRow) → rises low (map (piece_of_row ks n) rows) ≡ row_rises low (map laid_row rows)
 pieces_rise ks n low [] = refl
 pieces_rise ks n low (row ∷ rows) = ap (λ b. nat_le low row.segment && b) (pieces_rise ks n (suc row.segment) rows)
 
@@ -49,16 +51,19 @@ module _ (schema : List Relation) (lanes : List KeptLane) (order : List VersionP
   abbrev pub ss : List Segment
   ss = map segment_of ks
 
+  abbrev pub all_rows : List KeptRow
+  all_rows = kept_rows k r
+
   abbrev pub rows : List KeptRow
-  rows = kept_rows k r
+  rows = begun_by n (kept_rows k r)
 
   abbrev pub seen : List Piece
-  seen = pieces_seen ks n rows
+  seen = pieces_seen ks n all_rows
 
-  at : IsKeptAt ss (length (columns_at schema r)) b (length k.seconds - 1) rows (lived_at k.head r)
+  at : IsKeptAt ss (length (columns_at schema r)) b (length k.seconds - 1) all_rows (lived_at k.head r)
   at = (stored.each b h).at r g
 
-  of : AreRowsOf ss b (length k.seconds) (map laid_row rows)
+  of : AreRowsOf ss b (length k.seconds) (map laid_row all_rows)
   of = rows_of_lane schema lanes order segments laid b h r g
 
   count : length seen ≡ length rows
@@ -70,36 +75,52 @@ module _ (schema : List Relation) (lanes : List KeptLane) (order : List VersionP
   piece_is : (i : ℕ) → i < length rows → piece_at seen i ≡ piece_of_row ks n (kept_row_at rows i)
   piece_is i l = get_or-map (piece_of_row ks n) rows i no_kept_row no_piece l
 
-  there : (i : ℕ) → i < length rows → (kept_row_at rows i).segment < length ks
-  there i l =
-      let m = length-map rows laid_row in
+  all_is : (i : ℕ) → i < length all_rows → row_at (map laid_row all_rows) i ≡ laid_row (kept_row_at all_rows i)
+  all_is i l = get_or-map laid_row all_rows i no_kept_row no_row l
+
+  there_all : (i : ℕ) → i < length all_rows → (kept_row_at all_rows i).segment < length ks
+  there_all i l =
+      let m = length-map all_rows laid_row in
       let s = length-map ks segment_of in
-      let e = ap (λ (x : Row). x.segment) (row_is i l) in
+      let e = ap (λ (x : Row). x.segment) (all_is i l) in
       let t = (of.are i (omega (arith, l, m))).there in
       omega (arith, s, e, t)
 
-  full : (i : ℕ) → i < length rows → (kept_row_at rows i).from + length (kept_row_at rows i).deltas ≡ length k.seconds
+  full : (i : ℕ) → i < length all_rows → (kept_row_at all_rows i).from + length (kept_row_at all_rows i).deltas ≡ length k.seconds
   full i l =
-      let m = length-map rows laid_row in
-      let e = ap (λ (x : Row). x.from) (row_is i l) in
-      let d = ap (λ (x : Row). length x.deltas) (row_is i l) in
-      let q = length-map (kept_row_at rows i).deltas slots_of in
+      let m = length-map all_rows laid_row in
+      let e = ap (λ (x : Row). x.from) (all_is i l) in
+      let d = ap (λ (x : Row). length x.deltas) (all_is i l) in
+      let q = length-map (kept_row_at all_rows i).deltas slots_of in
       let f = (of.are i (omega (arith, l, m))).full in
       omega (arith, e, d, q, f)
 
-  within : (i : ℕ) → i < length rows → (m slot : ℕ) → bit (laid_row (kept_row_at rows i)) m slot ≡ true → slot < length (kept_at ks (kept_row_at rows i).segment).rows.records
-  within i l m slot t =
-      let c = length-map rows laid_row in
+  within_all : (i : ℕ) → i < length all_rows → (m slot : ℕ) → bit (laid_row (kept_row_at all_rows i)) m slot ≡ true → slot < length (kept_at ks (kept_row_at all_rows i).segment).rows.records
+  within_all i l m slot t =
+      let c = length-map all_rows laid_row in
       let is = (of.are i (omega (arith, l, c))).within in
-      subst (λ (xs : List Record). slot < length xs) (records_is (kept_row_at rows i).segment (there i l))
-      (subst (λ (x : Row). bit x m slot ≡ true → slot < length (records_at ss x.segment)) (row_is i l) (is m slot) t)
+      subst (λ (xs : List Record). slot < length xs) (records_is (kept_row_at all_rows i).segment (there_all i l))
+      (subst (λ (x : Row). bit x m slot ≡ true → slot < length (records_at ss x.segment)) (all_is i l) (is m slot) t)
     where
       records_is : (s : ℕ) → s < length ks → records_at ss s ≡ (kept_at ks s).rows.records
       records_is s j = ap (λ (x : Segment). x.records) (get_or-map segment_of ks s no_rows no_segment j)
 
   -- what is asked of the rows
   pub seen_there : (i : ℕ) → i < length (kept_rows (get_or lanes b no_kept) r) → IsThere (list_at segments r) n (kept_row_at (kept_rows (get_or lanes b no_kept) r) i)
-  seen_there i l = let f = full i l in record { segment = there i l; deltas = omega (arith, f, p) }
+  seen_there i l = let f = full i l in record { segment = there_all i l; deltas = omega (arith, f, p) }
+
+  there : (i : ℕ) → i < length rows → (kept_row_at rows i).segment < length ks
+  there = each_begun (λ (x : KeptRow). x.segment < length ks) n all_rows there_all
+
+  within : (i : ℕ) → i < length rows → (m slot : ℕ) → bit (laid_row (kept_row_at rows i)) m slot ≡ true → slot < length (kept_at ks (kept_row_at rows i).segment).rows.records
+  within = each_begun (λ (x : KeptRow). (m slot : ℕ) → bit (laid_row x) m slot ≡ true → slot < length (kept_at ks x.segment).rows.records) n all_rows within_all
+
+  short : (i : ℕ) → i < length rows → map shortest (map slots_of (kept_row_at rows i).deltas) ≡ (kept_row_at rows i).deltas
+  short = each_begun (λ (x : KeptRow). map shortest (map slots_of x.deltas) ≡ x.deltas) n all_rows at.short
+
+  -- the others have nothing live
+  live : live_in ss n (map laid_row rows) ≡ live_in ss n (map laid_row all_rows)
+  live = begun_live ss n all_rows
 
   shows : (i : ℕ) → i < length rows → Shows ss n (laid_row (kept_row_at rows i)) (piece_of_row ks n (kept_row_at rows i))
   shows i l =
@@ -133,22 +154,23 @@ module _ (schema : List Relation) (lanes : List KeptLane) (order : List VersionP
       let j : i < length rows = omega (arith, l, c) in
       let row : KeptRow = kept_row_at rows i in
       subst (λ (x : Piece). length x.bits ≤ length x.rows.records) (sym (piece_is i j))
-      (covered_seen (kept_at ks row.segment).rows n row (length (kept_at ks row.segment).rows.records) (at.short i j) (within i j))
+      (covered_seen (kept_at ks row.segment).rows n row (length (kept_at ks row.segment).rows.records) (short i j) (within i j))
 
   -- it is what a version can have
   pub seen_lived : IsLived (lived_seen (list_at segments r) n (kept_rows (get_or lanes b no_kept) r))
   seen_lived =
-      let m = length-map rows laid_row in
+      let m = length-map all_rows laid_row in
       let c = count in
+      let w = begun_few n all_rows in
       let s = at.shown.count in
       let f = at.lived.few in
-      spots_lived seen (pieces_rise ks n 0 rows ∙ of.ascend)
-      (λ key. let t = of.apart n key p in subst (λ (xs : List Record). times key xs ≤ 1) (sym (shown_rows ss n (map laid_row rows) seen all)) t)
-      (omega (arith, m, c, s, f)) covered
+      spots_lived seen (pieces_rise ks n 0 rows ∙ begun_rise n 0 all_rows of.ascend)
+      (λ key. let t = of.apart n key p in subst (λ (xs : List Record). times key xs ≤ 1) (sym (shown_rows ss n (map laid_row rows) seen all ∙ live)) t)
+      (omega (arith, m, c, w, s, f)) covered
 
   -- the version at the place has it
   pub seen_at : AreSmall (lived_seen (list_at segments r) n (kept_rows (get_or lanes b no_kept) r))
-      → IsSeenAt (map segment_of (list_at segments r)) (length (columns_at schema r)) n (map laid_row (kept_rows (get_or lanes b no_kept) r)) (lived_seen (list_at segments r) n (kept_rows (get_or lanes b no_kept) r))
+      → IsSeenAt (map segment_of (list_at segments r)) (length (columns_at schema r)) n (map laid_row (begun_by n (kept_rows (get_or lanes b no_kept) r))) (lived_seen (list_at segments r) n (kept_rows (get_or lanes b no_kept) r))
   seen_at small = record {
     shown = show;
     lived = seen_lived;
@@ -162,8 +184,8 @@ module _ (schema : List Relation) (lanes : List KeptLane) (order : List VersionP
   -- and no other contents
   pub seen_contents : contents_in (lived_seen (list_at segments r) n (kept_rows (get_or lanes b no_kept) r)) ≡ relation_at (table_in schema (kept_layout schema lanes order segments).segments (lane_of schema (get_or lanes b no_kept)) n) r
   seen_contents =
-      let laid_rows : contents_of (live_in (segments_at (kept_layout schema lanes order segments).segments r) n (rows_at (lane_of schema k) r)) ≡ contents_of (live_in ss n (map laid_row rows)) =
+      let laid_rows : contents_of (live_in (segments_at (kept_layout schema lanes order segments).segments r) n (rows_at (lane_of schema k) r)) ≡ contents_of (live_in ss n (map laid_row all_rows)) =
       (λ i. contents_of (live_in (segments_kept schema lanes order segments r g i) n (rows_kept schema k r g i))) in
-      ap contents_of (shown_rows ss n (map laid_row rows) seen all)
+      ap contents_of (shown_rows ss n (map laid_row rows) seen all ∙ live)
       ∙ sym laid_rows
       ∙ sym (at_relation schema (λ q. contents_of (live_in (segments_at (kept_layout schema lanes order segments).segments q) n (rows_at (lane_of schema k) q))) r finite.empty g)

@@ -13,8 +13,8 @@ use Rattle.db_store.specs.Counted.{IsCounted}
 use Rattle.db_store.specs.Dataset.{table_at, IsMade}
 use Rattle.db_store.specs.Parts.{Part, part_at, no_part, records_in, IsViewable, AreOf}
 use Rattle.db_store.specs.State.{laid, segment_records}
-use Rattle.db_store.specs.Layout.{Row, Lane, Layout, contents_of, live_in, table_in, lane_at, segments_at, rows_at, records_at}
-use Rattle.db_store.specs.LaidOut.{IsLaid, row_at}
+use Rattle.db_store.specs.Layout.{Segment, Row, Lane, Layout, contents_of, live_in, table_in, lane_at, segments_at, rows_at, records_at}
+use Rattle.db_store.specs.LaidOut.{IsLaid, row_at, no_row}
 use Rattle.db_store.proofs.LayoutLaw.{table_is, table_at_is}
 use Rattle.db_value.specs.Relations.{columns_at}
 use Rattle.db_value.specs.declared.entry.Entry.{Entry}
@@ -27,11 +27,13 @@ use Rattle.plain_bits.specs.Truth.{bit_of}
 use Rattle.hybrid_view.specs.RowPlaces.{Shows}
 use Rattle.hybrid_view.proofs.PlaceLemmas.{shown_rows, shown_shorter}
 use Rattle.hybrid_view.proofs.NextLemmas.{show_all}
-use Rattle.bit_rows.specs.Rows.{laid_row}
+use Rattle.bit_rows.specs.Rows.{KeptRow, no_kept_row, kept_row_at, laid_row}
 use Rattle.bit_rows.specs.Kept.{KeptLane, no_kept, kept_rows}
 use Rattle.hybrid_store.specs.Lanes.{segment_of, lane_of, kept_layout}
 use Rattle.bit_rows.specs.Segments.{KeptList, list_at}
-use Rattle.bit_rows.specs.Seen.{lived_seen}
+use Rattle.bit_rows.specs.Seen.{begun_by, lived_seen}
+use Rattle.bit_rows.proofs.BegunRowsLemmas.{each_begun, begun_live}
+use Rattle.hybrid_store.proofs.BranchStored.{rows_of_lane}
 use Rattle.hybrid_store.specs.Stored.{kept_dataset, IsSeenAt, IsSeen, IsStored}
 use Rattle.hybrid_store.proofs.LayoutLemmas.{lane_kept, segments_kept, rows_kept}
 use Rattle.hybrid_store.proofs.StoredLemmas.{kept_count, kept_versions}
@@ -69,7 +71,8 @@ module _ (schema : List Relation) (lanes : List KeptLane) (order : List VersionP
       (λ r h.
       let at = is.at r h in
       (λ i. contents_of (live_in (segments_kept schema lanes order segments r h i) n (rows_kept schema k r h i)))
-      ∙ ap contents_of (sym (shown_rows (map segment_of (list_at segments r)) n (map laid_row (kept_rows k r)) (lived_at view r).pieces (show_all (map segment_of (list_at segments r)) n (map laid_row (kept_rows k r)) (lived_at view r).pieces at.shown.count at.shown.each)))
+      ∙ ap contents_of (sym (begun_live (map segment_of (list_at segments r)) n (kept_rows k r)))
+      ∙ ap contents_of (sym (shown_rows (map segment_of (list_at segments r)) n (map laid_row (begun_by n (kept_rows k r))) (lived_at view r).pieces (show_all (map segment_of (list_at segments r)) n (map laid_row (begun_by n (kept_rows k r))) (lived_at view r).pieces at.shown.count at.shown.each)))
       ∙ sym (get_or-map contents_in view r no_lived finite.empty (omega (arith, h, w)))))
 
   -- what is kept of a place
@@ -103,6 +106,13 @@ module _ (schema : List Relation) (lanes : List KeptLane) (order : List VersionP
       (and_from _ _ (and_from _ _ (lt-ltb r (length schema) h) (lt-ltb row.segment (length (segments_at l.segments r)) there)) (le-leb (length p.rows.records) (length (records_at (segments_at l.segments r) row.segment)) (shown_shorter (segments_at l.segments r) n row p shows)))
       ∙ ap Some (shows.front ∙ sym (records_of_slots 0 p.rows.records (bit_of p.bits)))
 
+  -- the rows of a branch are of segments that are there
+  pub rows_there : (b r : ℕ) → b < length lanes → r < length schema → IsLaid (kept_layout schema lanes order segments) → (i : ℕ) → i < length (kept_rows (get_or lanes b no_kept) r) → (kept_row_at (kept_rows (get_or lanes b no_kept) r) i).segment < length (map segment_of (list_at segments r))
+  rows_there b r h g laid i lt =
+      let rows : List KeptRow = kept_rows (get_or lanes b no_kept) r in
+      let m = length-map rows laid_row in
+      subst (λ (x : Row). x.segment < length (map segment_of (list_at segments r))) (get_or-map laid_row rows i no_kept_row no_row lt) ((rows_of_lane schema lanes order segments laid b h r g).are i (omega (arith, lt, m))).there
+
   pub seen_parts : (b n : ℕ) (view : List Lived) → b < length lanes → IsSeen schema segments (get_or lanes b no_kept) n view → IsLaid (kept_layout schema lanes order segments) → AreOf (laid (kept_layout schema lanes order segments)) (λ r. parts_in (lived_at view r))
   seen_parts b n view h is laid r i below = by (cases_lt r (length schema))
     where
@@ -119,16 +129,19 @@ module _ (schema : List Relation) (lanes : List KeptLane) (order : List VersionP
       by (inl g) =
           let at = is.at r g in
           let ps : List Piece = (lived_at view r).pieces in
-          let mine : List Row = map laid_row (kept_rows (get_or lanes b no_kept) r) in
+          let all : List KeptRow = kept_rows (get_or lanes b no_kept) r in
+          let rows : List KeptRow = begun_by n all in
+          let mine : List Row = map laid_row rows in
           let m = length-map ps part_of in
           let c = at.shown.count in
           let lt : i < length ps = omega (arith, m, below) in
           let lr : i < length mine = omega (arith, c, lt) in
-          let rows_eq : rows_at (lane_at (kept_layout schema lanes order segments) b) r ≡ mine = ap (λ (x : Lane). rows_at x r) (lane_kept schema lanes order segments b h) ∙ rows_kept schema (get_or lanes b no_kept) r g in
-          let ln = length-map lanes (lane_of schema) in
-          let re = ap (λ (rows : List Row). length rows) rows_eq in
+          let own = length-map rows laid_row in
+          let it : i < length rows = omega (arith, own, lr) in
           let there : (row_at mine i).segment < length (segments_at l.segments r) =
-          subst (λ (rows : List Row). (row_at rows i).segment < length (segments_at l.segments r)) rows_eq ((((laid.lanes b (omega (arith, ln, h))).rows r g).are i (omega (arith, re, lr))).there) in
+          subst (λ (ss : List Segment). (row_at mine i).segment < length ss) (sym (segments_kept schema lanes order segments r g))
+          (subst (λ (x : Row). x.segment < length (map segment_of (list_at segments r))) (sym (get_or-map laid_row rows i no_kept_row no_row it))
+          (each_begun (λ (x : KeptRow). x.segment < length (map segment_of (list_at segments r))) n all (rows_there b r h g laid) i it)) in
           subst (λ (x : Part). segment_records l r (x.id / 2 ^ 32) (x.id % 2 ^ 32) ≡ Some (records_in x)) (sym (get_or-map part_of ps i no_piece no_part lt))
           (part_known r (piece_at ps i) (row_at mine i) n g there (subst (λ ss. Shows ss n (row_at mine i) (piece_at ps i)) (sym (segments_kept schema lanes order segments r g)) (at.shown.each i lr)) (at.small i lt))
 
@@ -164,8 +177,8 @@ module _ (schema : List Relation) (lanes : List KeptLane) (order : List VersionP
 
 -- the version at a position of a branch has this of the first relations
 abbrev pub AreSeen : List Relation → List KeptList → KeptLane → ℕ → ℕ → List Lived → Type 0
-AreSeen schema segments k n m view = (r : ℕ) → r < m → IsSeenAt (map segment_of (list_at segments r)) (length (columns_at schema r)) n (map laid_row (kept_rows k r)) (lived_at view r)
+AreSeen schema segments k n m view = (r : ℕ) → r < m → IsSeenAt (map segment_of (list_at segments r)) (length (columns_at schema r)) n (map laid_row (begun_by n (kept_rows k r))) (lived_at view r)
 
 pub seen_more : (schema : List Relation) (segments : List KeptList) (k : KeptLane) (n m : ℕ) (view : List Lived) (l : Lived) → length view ≡ m → AreSeen schema segments k n m view
-    → IsSeenAt (map segment_of (list_at segments m)) (length (columns_at schema m)) n (map laid_row (kept_rows k m)) l → AreSeen schema segments k n (m + 1) (view ++ l ∷ [])
-seen_more schema segments k n m view l w f x = each_more (λ r (y : Lived). IsSeenAt (map segment_of (list_at segments r)) (length (columns_at schema r)) n (map laid_row (kept_rows k r)) y) view l no_lived m w f x
+    → IsSeenAt (map segment_of (list_at segments m)) (length (columns_at schema m)) n (map laid_row (begun_by n (kept_rows k m))) l → AreSeen schema segments k n (m + 1) (view ++ l ∷ [])
+seen_more schema segments k n m view l w f x = each_more (λ r (y : Lived). IsSeenAt (map segment_of (list_at segments r)) (length (columns_at schema r)) n (map laid_row (begun_by n (kept_rows k r))) y) view l no_lived m w f x

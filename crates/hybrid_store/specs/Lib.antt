@@ -7,5 +7,6 @@ pub mod Begun
 pub mod ReadyBranch
 pub mod Prepared
 pub mod Sees
+pub mod Whole
 pub mod ReadyRules
 pub mod LastsRules

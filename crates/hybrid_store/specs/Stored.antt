@@ -18,6 +18,7 @@ use Rattle.bit_rows.specs.Short.{shortest}
 use Rattle.bit_rows.specs.Differences.{AreDifferences}
 use Rattle.bit_rows.specs.Rows.{KeptRow, kept_row_at, laid_row}
 use Rattle.bit_rows.specs.Kept.{KeptLane, no_kept, kept_rows, nexts_at}
+use Rattle.bit_rows.specs.Seen.{begun_by}
 use Rattle.hybrid_store.specs.Lanes.{segment_of, kept_layout}
 use Rattle.bit_rows.specs.Segments.{KeptList, no_list, list_at, kept_at, most_segments}
 
@@ -94,14 +95,14 @@ AllDifferences k nexts n ls = (r : ℕ) → r < n → AreDifferences (kept_rows 
 abbrev pub roomless : KeptLane → KeptLane
 roomless k = record k { room = 0 }
 
--- what a version has of a relation: pieces that show the rows of its branch at its position
+-- what a version has of a relation: pieces that show rows at its position
 pub record IsSeenAt (ss : List Segment) (columns n : ℕ) (rows : List Row) (l : Lived) : Type 0 where
   pub shown : Show ss n rows l.pieces
   pub lived : IsLived l
   pub small : AreSmall l
   pub fields : (i : ℕ) → i < length l.pieces → (piece_at l.pieces i).rows.fields ≡ columns
 
--- what the version at a position of a branch has of all relations
+-- what the version at a position of a branch has of all relations: the rows that have begun by then
 pub record IsSeen (schema : List Relation) (segments : List KeptList) (k : KeptLane) (n : ℕ) (view : List Lived) : Type 0 where
   pub wide : length view ≡ length schema
-  pub at : (r : ℕ) → r < length schema → IsSeenAt (map segment_of (list_at segments r)) (length (columns_at schema r)) n (map laid_row (kept_rows k r)) (lived_at view r)
+  pub at : (r : ℕ) → r < length schema → IsSeenAt (map segment_of (list_at segments r)) (length (columns_at schema r)) n (map laid_row (begun_by n (kept_rows k r))) (lived_at view r)

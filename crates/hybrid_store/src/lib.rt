@@ -12,7 +12,8 @@
 //! | `specs/Ready.antt`, `src/commit.rt`, `src/install.rt` | a commit that is made ready, and the room that it needs |
 //! | `specs/ReadyRules.antt`, `specs/LastsRules.antt` | it serves on after commits on other branches |
 //! | `specs/Begun.antt`, `specs/ReadyBranch.antt`, `src/prepare_branch.rt`, `src/install_branch.rt` | a new branch that is made ready |
-//! | `specs/Sees.antt`, `src/view.rt` | the views of versions |
+//! | `specs/Sees.antt`, `src/view.rt` | the views of versions, and the parts that they show |
+//! | `specs/Whole.antt`, `src/whole.rt` | views with all records that their segments have |
 //! | `src/same.rt` | the branches of a second store of the same state |
 #![tactic(auto)]
 
@@ -25,6 +26,7 @@ mod prepare_branch;
 mod same;
 mod store;
 mod view;
+mod whole;
 
 pub use commit::HybridPrepared;
 pub use install_branch::HybridPreparedBranch;

@@ -387,7 +387,7 @@ impl Store for HybridStore {
     fn prepare_branch(&mut self, entry: &Entry) -> Result<HybridPreparedBranch, AllocError> {
         let name = name_of(entry);
         let origin = origin_of(entry);
-        let view = self.view_at(origin)?;
+        let view = self.seen_at(origin)?;
         let at_head = self.is_last(origin);
         let prepared = self.begin_of(name, origin, &view, at_head)?;
         Ok(prepared)

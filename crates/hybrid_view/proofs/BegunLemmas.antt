@@ -116,7 +116,7 @@ shown_rises ss n low (row ∷ rows) (p ∷ ps) s =
     (λ i. nat_le low (s.0.segment i) && rises (suc (s.0.segment i)) ps)
     ∙ ap (λ b. nat_le low row.segment && b) (shown_rises ss n (suc row.segment) rows ps s.1)
 
-pub lived_begun : (q : Bool) (b c n count : ℕ) (ss : List Segment) (rows : List Row) (l : Lived) (head : Piece) → n < count → AreRowsOf ss b count rows → AreRowsOf (segments_with q b c ss) c 1 (rows_begun q n ss rows)
+pub lived_begun : (q : Bool) (b c n count : ℕ) (ss : List Segment) (rows : List Row) (l : Lived) (head : Piece) → n < count → AreRows ss count rows → AreRowsOf (segments_with q b c ss) c 1 (rows_begun q n ss rows)
     → IsLived l → AllShow ss n rows l.pieces → AllTell has_live l.pieces → head.segment ≡ new_head q ss → head.rows.records ≡ [] → head.bits ≡ []
     → length (begun_pieces l.pieces head) < 2 ^ 32 - 1
     → ((i : ℕ) → i < length (begun_pieces l.pieces head) → length (piece_at (begun_pieces l.pieces head) i).bits ≤ length (piece_at (begun_pieces l.pieces head) i).rows.records)
@@ -127,20 +127,20 @@ lived_begun q b c n count ss rows l head below before after lived shown tell s r
   placed = λ key.
       lived.placed key
       ∙ shown_place ss n rows l.pieces key shown
-      ∙ sym (index_begun q b c n count ss rows key before.are)
+      ∙ sym (index_begun q b c n count ss rows key before)
       ∙ sym (shown_place (segments_with q b c ss) 0 (rows_begun q n ss rows) (begun_pieces l.pieces head) key shows);
   counted =
       lived.counted
       ∙ ap (λ xs. finite.len (contents_of xs))
       (shown_rows ss n rows l.pieces shown
-      ∙ sym (rows_begun_keep q b c n count ss rows before.are)
+      ∙ sym (rows_begun_keep q b c n count ss rows before)
       ∙ sym (shown_rows (segments_with q b c ss) 0 (rows_begun q n ss rows) (begun_pieces l.pieces head) shows));
   few = few;
   covered = covered;
 }
   where
     shows : AllShow (segments_with q b c ss) 0 (rows_begun q n ss rows) (begun_pieces l.pieces head)
-    shows = pieces_begun q b c n count ss has_live rows l.pieces head before.are shown tell s r e
+    shows = pieces_begun q b c n count ss has_live rows l.pieces head before shown tell s r e
 
 -- ---- the test of a piece tells
 

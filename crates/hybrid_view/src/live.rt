@@ -277,6 +277,19 @@ impl LiveRelation {
         Ok(LiveRelation::of(parts, index, self.count))
     }
 
+    /// The same with these parts in place of its own, in which the same records are live. The index is shared.
+    pub fn with_parts(
+        &self,
+        alloc: Global,
+        parts: Vec<LivePart>,
+    ) -> Result<LiveRelation, AllocError>
+        requires { IsLived (record self.now { pieces = parts.items }) }
+        ensures { IfOk result (λ l. l ≡ record self.now { pieces = parts.items }) }
+    {
+        let index = self.index_of(alloc)?;
+        Ok(LiveRelation::of(parts, index, self.count))
+    }
+
     /// What a branch has that gets another head: one part more.
     pub fn with_head(&self, alloc: Global, head: LivePart) -> Result<LiveRelation, AllocError>
         requires { IsLived (record self.now { pieces = self.now.pieces ++ head ∷ [] }) }
@@ -284,8 +297,7 @@ impl LiveRelation {
     {
         let mut parts = copies(alloc, &self.parts)?;
         parts.push(head)?;
-        let index = self.index_of(alloc)?;
-        Ok(LiveRelation::of(parts, index, self.count))
+        self.with_parts(alloc, parts)
     }
 }
 

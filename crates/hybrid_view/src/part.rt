@@ -138,6 +138,17 @@ impl LivePart {
             bits: Arc::try_clone(&self.bits)?,
         })
     }
+
+    /// The part with these records in place of its own.
+    pub fn with_records(&self, records: Arc<Segment>) -> Result<LivePart, AllocError>
+        ensures { IfOk result (λ p. p ≡ record self.now { rows = arc_value records }) }
+    {
+        Ok(LivePart {
+            segment: self.segment,
+            records,
+            bits: Arc::try_clone(&self.bits)?,
+        })
+    }
 }
 
 impl LivePart {

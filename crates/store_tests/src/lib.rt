@@ -12,6 +12,8 @@ mod join_tests;
 #[cfg(test)]
 mod merge_tests;
 #[cfg(test)]
+mod part_tests;
+#[cfg(test)]
 mod scan_tests;
 #[cfg(test)]
 mod watched;

@@ -1,33 +1,26 @@
-use Rattle.std.proofs.Common.{◌≡◌, ◌∙◌, ap, sym, subst, get_or, true, List}
+use Rattle.std.proofs.Common.{◌≡◌, ◌<◌, ◌∙◌, ap, sym, subst, length, ℕ, List}
 use Rattle.std.specs.Arc.{arc_value}
-use Rattle.db_store.specs.LayoutGrowth.{is_last}
-use Rattle.hybrid_view.specs.Live.{Lived}
-use Rattle.bit_rows.specs.Kept.{KeptLane, no_kept}
+use Rattle.hybrid_view.specs.Live.{Lived, lived_at, parts_in}
+use Rattle.bit_rows.specs.Segments.{list_at}
 use Rattle.hybrid_store.specs.Store.{layout_of}
-use Rattle.hybrid_store.specs.Stored.{IsSeen}
-use Rattle.hybrid_store.proofs.PrepareLemmas.{head_seen}
-use Rattle.hybrid_store.proofs.ViewLemmas.{made_kept, last_kept}
+use Rattle.hybrid_store.specs.Sees.{parts_at}
+use Rattle.hybrid_store.specs.Whole.{AreWhole}
+use Rattle.hybrid_store.proofs.ViewLemmas.{made_kept}
+use Rattle.hybrid_store.proofs.WholeLemmas.{parts_seen}
 use Rattle.hybrid_store.proofs.store.HybridStore.view_at.Goals as goal
 
-pub lane-requires : goal.lane-requires
-lane-requires c =
-    let s = c.args.self.now in
-    let place = made_kept s.schema s.lanes.items s.order.items s.segments.items c.args.at c.requires in
-    place.0
-
-pub returns-then-is_last : goal.returns-then-is_last
-returns-then-is_last c =
+pub returns-then-shows_whole-clause-parts : goal.returns-then-shows_whole-clause-parts
+returns-then-shows_whole-clause-parts c =
     let s = c.args.self.now in
     let o = c.args.at in
-    let k : KeptLane = get_or s.lanes.items o.branch no_kept in
     let place = made_kept s.schema s.lanes.items s.order.items s.segments.items o c.requires in
-    let last : is_last (layout_of s) o ≡ true = sym c.is_last.ensures ∙ c.if-is_last.true in
-    subst (λ (ls : List Lived). IsSeen s.schema s.segments.items k o.position ls) (sym (c.in_ok-view.ensures ∙ c.view.ensures ∙ ap (λ (x : KeptLane). x.head) c.lane.ensures.lane))
-    (head_seen s.schema s.lanes.items s.segments.items o.branch o.position s.stored place.0 (last_kept s.schema s.lanes.items s.order.items s.segments.items o place.0 last))
+    λ r g. parts_seen s.schema s.lanes.items s.order.items s.segments.items s.laid o place.0 (arc_value c.in_ok-view.view.table) c.in_ok-view.ensures r g
+    (subst (λ (ls : List Lived). AreWhole (list_at s.segments.items r) (lived_at ls r).pieces) c.table.ensures (c.shows_whole.ensures c.if-shows_whole.true r g))
 
-pub returns : goal.returns
-returns c =
+pub returns-clause-parts : goal.returns-clause-parts
+returns-clause-parts c =
     let s = c.args.self.now in
     let o = c.args.at in
-    let k : KeptLane = get_or s.lanes.items o.branch no_kept in
-    subst (λ (ls : List Lived). IsSeen s.schema s.segments.items k o.position ls) (sym (ap arc_value c.of.ensures ∙ c.in_ok-shared.ensures.ok)) c.in_ok-table.ensures
+    let place = made_kept s.schema s.lanes.items s.order.items s.segments.items o c.requires in
+    λ r g. subst (λ (ls : List Lived). parts_in (lived_at ls r) ≡ parts_at (layout_of s) o r) (sym (ap arc_value c.of.ensures ∙ c.in_ok-shared.ensures.ok))
+    (parts_seen s.schema s.lanes.items s.order.items s.segments.items s.laid o place.0 c.in_ok-table.table c.in_ok-table.ensures.seen r g (c.in_ok-table.ensures.whole r g))

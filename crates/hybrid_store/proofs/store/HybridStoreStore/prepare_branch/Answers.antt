@@ -10,8 +10,8 @@ use Rattle.hybrid_store.specs.ReadyBranch.{IsReadyBranch}
 use Rattle.hybrid_store.proofs.ViewLemmas.{branch_is}
 use Rattle.hybrid_store.proofs.store.HybridStoreStore.prepare_branch.Goals as goal
 
-pub view_at-requires : goal.view_at-requires
-view_at-requires c =
+pub seen_at-requires : goal.seen_at-requires
+seen_at-requires c =
     let s = c.args.self.now in
     let is : NewBranch c.name_of-name.result c.origin_of-origin.result ≡ c.args.entry.now = (λ i. NewBranch (c.name_of-name.ensures i) (c.origin_of-origin.ensures i)) ∙ branch_is c.args.entry.now c.requires.branch in
     (branch_parts (dataset_in s) c.name_of-name.result c.origin_of-origin.result (subst (λ (e : Entry). fits (dataset_in s) e ≡ true) (sym is) c.requires.fits)).made

@@ -9,18 +9,18 @@ pub returns-clause-table : goal.returns-clause-table
 returns-clause-table c =
     let s = c.args.self.now in
     let place = made_kept s.schema s.lanes.items s.order.items s.segments.items c.args.at c.requires in
-    seen_is s.schema s.lanes.items s.order.items s.segments.items c.args.at (arc_value c.in_ok-view.view.table) place.0 place.1 c.in_ok-view.ensures
+    seen_is s.schema s.lanes.items s.order.items s.segments.items c.args.at (arc_value c.in_ok-view.view.table) place.0 place.1 c.in_ok-view.ensures.seen
 
 pub returns-clause-wide : goal.returns-clause-wide
-returns-clause-wide c = length-map (arc_value c.in_ok-view.view.table) contents_in ∙ c.in_ok-view.ensures.wide
+returns-clause-wide c = length-map (arc_value c.in_ok-view.view.table) contents_in ∙ c.in_ok-view.ensures.seen.wide
 
 pub returns-clause-viewable : goal.returns-clause-viewable
 returns-clause-viewable c =
     let s = c.args.self.now in
-    seen_viewable s.schema s.lanes.items s.order.items s.segments.items c.args.at (arc_value c.in_ok-view.view.table) c.requires c.in_ok-view.ensures s.few_relations s.counted
+    seen_viewable s.schema s.lanes.items s.order.items s.segments.items c.args.at (arc_value c.in_ok-view.view.table) c.requires c.in_ok-view.ensures.seen s.few_relations s.counted
 
 pub returns-clause-parts : goal.returns-clause-parts
 returns-clause-parts c =
     let s = c.args.self.now in
     let place = made_kept s.schema s.lanes.items s.order.items s.segments.items c.args.at c.requires in
-    seen_parts s.schema s.lanes.items s.order.items s.segments.items c.args.at.branch c.args.at.position (arc_value c.in_ok-view.view.table) place.0 c.in_ok-view.ensures s.laid
+    seen_parts s.schema s.lanes.items s.order.items s.segments.items c.args.at.branch c.args.at.position (arc_value c.in_ok-view.view.table) place.0 c.in_ok-view.ensures.seen s.laid

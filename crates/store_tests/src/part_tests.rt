@@ -1,0 +1,142 @@
+//! The parts that a version of a store of segments shows. The expected ones are written by hand.
+ghost use Rattle.std.specs.Prelude.{◌≡◌, ◌<◌, length, IfOk};
+
+use crate::graph_tests::{begin, place};
+use db_store::{Spot, Store, View};
+use db_value::{Change, Entry, Fields, ListOf, Schema, VersionPlace};
+use hybrid_store::HybridStore;
+use std::alloc::Global;
+use std::process::Abort;
+use std::test::Fail;
+
+// A version of a branch more, in which a record of the first relation is put.
+fn put<St: Store>(
+    alloc: Global,
+    store: &mut St,
+    branch: u32,
+    key: u64,
+    fields: [i64; 2],
+) -> Result<(), Fail> {
+    let mut changes = Vec::new(alloc);
+    changes.push(Change {
+        relation: 0,
+        key,
+        fields: Fields::of(&fields),
+    })?;
+    let entry = Entry::Commit {
+        branch,
+        second: None,
+        changes: ListOf::of(changes),
+    };
+    if !store.fits(&entry) {
+        return Err("doesn't fit".into());
+    }
+    let prepared = store.prepare(&entry)?;
+    store.install(prepared);
+    Ok(())
+}
+
+// A version, with a first relation.
+fn version<St: Store>(store: &St, at: VersionPlace) -> Result<St::View, Fail>
+    ensures { IfOk result (λ v. 0 < length (St.View.table v)) }
+{
+    let made = at.branch < store.branches() && at.position <= store.last(at.branch);
+    if !made || store.schema().relations().is_empty() {
+        return Err("no version".into());
+    }
+    let view = store.view(at)?;
+    Ok(view)
+}
+
+// A branch of the first record. Then both branches get equal records, and the first record is changed there
+// and back on the new one.
+fn two_branches(alloc: Global) -> Result<HybridStore, Fail> {
+    let (schema, _) = Schema::read(alloc, b"relation items a b\nend\n")?;
+    let mut store = HybridStore::new(alloc, schema)?;
+    put(alloc, &mut store, 0, 7, [1, 1])?;
+    begin(&mut store, "dev", place((0, 1)))?;
+    put(alloc, &mut store, 0, 8, [5, 5])?;
+    put(alloc, &mut store, 1, 8, [5, 5])?;
+    put(alloc, &mut store, 1, 7, [2, 1])?;
+    put(alloc, &mut store, 1, 7, [1, 1])?;
+    Ok(store)
+}
+
+// A part's id, and a letter for each slot: `x` if its record is live.
+fn part_text<V: View>(alloc: Global, view: &V, index: u32) -> Result<String, Fail>
+    requires relation { 0 < length (V.table view.now) }
+    requires index { index < length (V.parts_of view.now 0) }
+{
+    let info = view.part(0, index);
+    let mut text = String::new(alloc);
+    write!(text, "{}:", info.id)?;
+    for slot in 0..info.slots {
+        text.push(if view.live(0, index, slot) { 'x' } else { '.' })?;
+    }
+    text.push(' ')?;
+    Ok(text)
+}
+
+// All parts of the first relation.
+fn parts_text<V: View>(alloc: Global, view: &V) -> Result<String, Fail>
+    requires { 0 < length (V.table view.now) }
+{
+    let mut text = String::new(alloc);
+    for index in 0..view.parts(0) {
+        let part = part_text(alloc, view, index)?;
+        text.push_str(part.as_str())?;
+    }
+    Ok(text)
+}
+
+fn tells(
+    rt: &impl Abort,
+    alloc: Global,
+    store: &HybridStore,
+    at: (u32, u32),
+    expected: &str,
+) -> Result<(), Fail> {
+    let view = version(store, place(at))?;
+    let text = parts_text(alloc, &view)?;
+    assert_eq!(rt; text.as_str(), expected);
+    Ok(())
+}
+
+#[test]
+#[rattlefmt::skip]
+fn shows_segments_as_parts(rt: HostRuntime) -> Result<(), Fail> {
+    let store = two_branches(rt.alloc())?;
+    let cases = [
+        // version       parts: segment * 2^32 + records, and its slots
+        ((0, 0), "1:. "),
+        ((0, 1), "1:x 4294967297:. "),
+        ((0, 2), "1:x 4294967297:x "),
+        ((1, 0), "1:x 8589934595:... "),
+        ((1, 1), "1:x 8589934595:x.. "),
+        ((1, 2), "1:. 8589934595:xx. "),
+        ((1, 3), "1:. 8589934595:x.x "),
+    ];
+    for (at, expected) in cases {
+        tells(&rt, rt.alloc(), &store, at, expected)?;
+    }
+    Ok(())
+}
+
+#[test]
+#[rattlefmt::skip]
+fn finds_keys_in_parts(rt: HostRuntime) -> Result<(), Fail> {
+    let store = two_branches(rt.alloc())?;
+    let cases = [
+        ((0, 2), 7, Some(Spot { part: 0, slot: 0 })),
+        ((1, 2), 7, Some(Spot { part: 1, slot: 1 })),
+        ((1, 3), 7, Some(Spot { part: 1, slot: 2 })),
+        ((1, 3), 8, Some(Spot { part: 1, slot: 0 })),
+        ((1, 0), 8, None),
+        ((0, 0), 7, None),
+    ];
+    for (at, key, spot) in cases {
+        let view = version(&store, place(at))?;
+        assert_eq!(rt; view.find(0, key), spot);
+    }
+    Ok(())
+}
