@@ -1,4 +1,4 @@
-"""The program on real files: `create`, `script` and `check`, with files spoilt, missing, swapped, full, and left by a program that was killed.
+"""The program on real files: `create`, `script`, `export` and `check`, with files spoilt, missing, swapped, full, and left by a program that was killed.
 
 What the files have is compared with what tests/files.py reads and writes by docs/FORMATS.md alone. A new dataset is made anew for each check.
 """
@@ -84,6 +84,24 @@ def stored(base):
         (b"1 branch dev of master@0", b"ok dev@0"), (b"1 on dev", b"ok"), (b"1 insert items 2 2 2", b"ok dev@1"),
         (b"1 scan items in heads", b"row 1 1 1 in master\nrow 2 2 2 in dev\nrows 2")), b"")
     yield "check of two branches", base.run("check"), (0, b"ok generation 1 branches 2 versions 3 entries 3\n", b"")
+
+
+def exported(base):
+    """The rows of a relation in a version as CSV. No input is read, and the files stay."""
+    for words in (("items", "master"), ("items", "master@0")):
+        yield "export %s %s of no files" % words, base.run("export", b"", words), (3, b"", b"decibel: not a dataset\n")
+    base.made(b"1 insert items 1 10 20\n1 branch dev of master\n1 insert items 3 -9223372036854775808 9223372036854775807\n"
+              b"1 on dev\n1 insert items 2 -5 0\n1 insert items 18446744073709551615 0 0\n1 delete items 1\n")
+    before = base.read(0), base.read(1)
+    ends = b"3,-9223372036854775808,9223372036854775807\n"
+    for version, rows in (("master", b"1,10,20\n" + ends), ("master@2", b"1,10,20\n" + ends), ("master@1", b"1,10,20\n"), ("master@0", b""), ("dev@0", b"1,10,20\n"),
+                          ("dev@1", b"1,10,20\n2,-5,0\n"), ("dev@2", b"1,10,20\n2,-5,0\n18446744073709551615,0,0\n"), ("dev", b"2,-5,0\n18446744073709551615,0,0\n")):
+        yield "export items %s" % version, base.run("export", b"not read", ("items", version)), (0, rows, b"")
+    for words in (("notes", "master"), ("items", "dev@4"), ("items", "master@3"), ("items", "master@18446744073709551615"), ("items", "nobody"), ("items", "nobody@0"), ("notes", "nobody")):
+        yield "export %s %s" % words, base.run("export", b"", words), (11, b"", b"decibel: bad line 0\n")
+    yield "export leaves the files", (base.read(0), base.read(1)), before
+    base.write(0, before[0][:150])
+    yield "export of a damaged file", base.run("export", b"", ("items", "master")), (4, b"", b"decibel: damaged file 0 at 124\n")
 
 
 def empty_ones(base):
@@ -241,7 +259,7 @@ def examples(base, folder):
 
 def checks(program, top):
     """Names with what was found and what should be."""
-    for part in (new_ones, bad_schemas, last_comments, stored, empty_ones, one_insert, again, not_there, full_disk, no_permission, killed, examples):
+    for part in (new_ones, bad_schemas, last_comments, stored, exported, empty_ones, one_insert, again, not_there, full_disk, no_permission, killed, examples):
         with tempfile.TemporaryDirectory() as folder:
             base = Base(program, folder)
             yield from part(base, os.path.join(top, "examples")) if part is examples else part(base)

@@ -1,17 +1,21 @@
 -- A call without a fault, of words, input and files that break no rule.
-use Rattle.std.proofs.Common.{◌≡◌, ◌⊎◌, inl, inr, ◌∙◌, ◌-◌, ◌^◌, ◌<◌, List, ℕ, length, refl, sym, ap, arith, Option, Some}
+use Rattle.std.proofs.Common.{◌≡◌, ◌⊎◌, inl, inr, ◌∙◌, ◌-◌, ◌^◌, ◌<◌, List, ℕ, length, refl, sym, ap, arith, Option, Some, None}
+use Rattle.db_value.specs.declared.entry.Entry.{Entry}
+use Rattle.db_value.specs.declared.version.VersionName.{VersionName}
+use Rattle.db_store.specs.State.{State, dataset_of}
 use Rattle.db_outside.specs.Device.{Rose}
 use Rattle.db_outside.specs.declared.disk.Disk.{Ghosts}
 use Rattle.gate_journal.specs.declared.cause.Cause.{Cause}
 use Rattle.generations.specs.declared.pair.Pair.{Pair}
 use Rattle.generations.specs.Created.{AreEmpty, IsOneThere}
-use Rattle.generations.specs.Files.{counts, no_header, damaged, reads}
+use Rattle.generations.specs.Files.{counts, no_header, damaged, opened, reads}
 use Rattle.generations.specs.Pairs.{RoseInOne}
 use Rattle.decibel_main.specs.Ends.{Completes}
+use Rattle.decibel_main.specs.Exports.{export_text}
 use Rattle.decibel_main.specs.Scripts.{Scripts}
-use Rattle.decibel_main.specs.Top.{Did, ReadsInput, TellsFaults, IsGoodFor, IsShortInput, NoFault, GiveState}
+use Rattle.decibel_main.specs.Top.{Did, ReadsInput, TellsFaults, IsGoodFor, IsShortInput, NoFault, GiveState, HaveRows}
 use Rattle.decibel_main.specs.declared.command.Command.{Command}
-use Rattle.decibel_main.specs.declared.command.Command.TheVariants.{Try, Create, Script, Check}
+use Rattle.decibel_main.specs.declared.command.Command.TheVariants.{Try, Create, Script, Check, Load, Export}
 use Rattle.decibel_main.specs.declared.status.Status.{Status}
 use Rattle.decibel_main.specs.declared.status.Status.TheVariants.{Done, Usage, NotDataset, Damaged, ReadFault, WriteFault, DiskFault, TooLong, Memory, AlreadyThere, BadLine}
 
@@ -37,6 +41,17 @@ module _ (c d : List ℕ) (good : GiveState c d) where
   is_whole : {P : Type 0} (file n at : ℕ) (cause : Cause) → reads c d ≡ counts file n (damaged at cause) → P
   is_whole file n at cause is = absurd (cc (sym good.5 ∙ is))
 
+-- files in which a version has a relation give a state
+give_rows : (relation : List ℕ) (version : VersionName) (c d : List ℕ) → HaveRows relation version c d → GiveState c d
+give_rows relation version c d h = (h.0, h.1, h.2, h.3, h.4, h.5)
+
+-- and what is written of it is there
+has_rows : {P : Type 0} (relation : List ℕ) (version : VersionName) (c d : List ℕ) → HaveRows relation version c d → (file g : ℕ) (s : State) (es : List Entry) (at : ℕ) → reads c d ≡ counts file g (opened s es at)
+    → export_text (dataset_of s) relation version ≡ None → P
+has_rows relation version c d h file g s es at is none =
+    let same : h.2 ≡ s = cc (sym h.5 ∙ is) in
+    absurd (cc (sym h.7 ∙ ap (λ (x : State). export_text (dataset_of x) relation version) same ∙ none))
+
 module _ {D : Type 0} (g : Ghosts D) (left left' before after : Option (List ℕ)) (disks disks' : Pair D) where
   -- of words that are a form another status than that of usage is told
   pub not_usage : (c : Command) → Did g (Some c) left left' before after disks disks' Usage → ⊥
@@ -44,6 +59,8 @@ module _ {D : Type 0} (g : Ghosts D) (left left' before after : Option (List ℕ
   not_usage Create d = neither d.1.ends
   not_usage Script d = neither d.1.ends
   not_usage Check d = d.ends
+  not_usage (Load lines) d = d.ends
+  not_usage (Export relation version) d = d.ends
 
 module _ {D : Type 0} (g : Ghosts D) (left left' before after : Option (List ℕ)) (disks disks' : Pair D) (s s' k k' : ℕ) (n : NoFault g s s' k k' disks disks') where
   no_fault : {P : Type 0} → RoseInOne g disks disks' → P
@@ -110,8 +127,41 @@ module _ {D : Type 0} (g : Ghosts D) (left left' before after : Option (List ℕ
   checks AlreadyThere d t good = absurd d.ends
   checks (BadLine m) d t good = absurd d.ends
 
+  loads : (lines : ℕ) (status : Status) → Did g (Some (Load lines)) left left' before after disks disks' status → TellsFaults g s s' k k' disks disks' status → Completes status
+  loads lines Done d t = tt
+  loads lines Memory d t = tt
+  loads lines WriteFault d t = no_rise k k' (t.write_fault refl) n.sink_same n.sink_counts
+  loads lines NotDataset d t = absurd d.ends
+  loads lines (Damaged file at) d t = absurd d.ends
+  loads lines DiskFault d t = absurd d.ends
+  loads lines ReadFault d t = absurd d.ends
+  loads lines TooLong d t = absurd d.ends
+  loads lines Usage d t = absurd d.ends
+  loads lines AlreadyThere d t = absurd d.ends
+  loads lines (BadLine m) d t = absurd d.ends
+
+  exports : (relation : List ℕ) (version : VersionName) (status : Status) → Did g (Some (Export relation version)) left left' before after disks disks' status → TellsFaults g s s' k k' disks disks' status → IsGoodFor g (Export relation version) left disks → Completes status
+  exports relation version Done d t good = tt
+  exports relation version Memory d t good = tt
+  exports relation version WriteFault d t good = no_rise k k' (t.write_fault refl) n.sink_same n.sink_counts
+  exports relation version DiskFault d t good = no_fault (t.disk_fault refl)
+  exports relation version NotDataset d t good =
+      has_header good.first good.second (give_rows relation version good.first good.second good.good) (d.tells good.first good.second good.first_told good.second_told).0
+  exports relation version (Damaged file at) d t good =
+      let is = d.tells good.first good.second good.first_told good.second_told in
+      is_whole good.first good.second (give_rows relation version good.first good.second good.good) file is.0 at is.1 is.2
+  exports relation version (BadLine m) d t good =
+      let is = d.tells good.first good.second good.first_told good.second_told in
+      has_rows relation version good.first good.second good.good is.0 is.1 is.2 is.3 is.4 is.5 is.6.1
+  exports relation version ReadFault d t good = absurd d.ends
+  exports relation version TooLong d t good = absurd d.ends
+  exports relation version Usage d t good = absurd d.ends
+  exports relation version AlreadyThere d t good = absurd d.ends
+
   pub completes : (c : Command) (status : Status) → Did g (Some c) left left' before after disks disks' status → TellsFaults g s s' k k' disks disks' status → IsGoodFor g c left disks → Completes status
   completes Try status d t good = tries status d t good
   completes Create status d t good = creates status d t good
   completes Script status d t good = scripts status d t good
   completes Check status d t good = checks status d t good
+  completes (Load lines) status d t good = loads lines status d t
+  completes (Export relation version) status d t good = exports relation version status d t good

@@ -1,5 +1,5 @@
 -- What a command does, by whether its input was read.
-use Rattle.std.proofs.Common.{◌≡◌, inl, inr, ◌∙◌, ◌≤◌, [], List, ℕ, length, refl, sym, ap, subst, arith, Option, Some}
+use Rattle.std.proofs.Common.{◌≡◌, inl, inr, ◌∙◌, ◌≤◌, [], List, ℕ, true, false, length, refl, sym, ap, subst, arith, Option, Some}
 use Rattle.std.specs.Prelude.{Err}
 use Rattle.std.proofs.lemmas.List.{append-nil}
 use Rattle.db_value.specs.Text.{lines}
@@ -14,9 +14,10 @@ use Rattle.decibel_main.specs.Ends.{BreaksOffIn, IsBadLineOrBefore, IsUnread, Is
 use Rattle.decibel_main.specs.Creates.{schema_alone, CreatesFiles, FindsFiles, WritesCreated}
 use Rattle.decibel_main.specs.Scripts.{Scripts, Stops}
 use Rattle.decibel_main.specs.Top.{Did, ReadsInput, TellsFaults, Tries, Creates, RunsLines}
+use Rattle.decibel_main.specs.Words.{has_input}
 use Rattle.decibel_main.specs.Inputs.{CarriesOut, IsWhyUnread, TriesInput, CreatesInput, RunsInput}
 use Rattle.decibel_main.specs.declared.command.Command.{Command}
-use Rattle.decibel_main.specs.declared.command.Command.TheVariants.{Try, Create, Script, Check}
+use Rattle.decibel_main.specs.declared.command.Command.TheVariants.{Try, Create, Script, Check, Load, Export}
 use Rattle.decibel_main.specs.declared.status.Status.{Status}
 use Rattle.decibel_main.specs.declared.status.Status.TheVariants.{Done, Usage, NotDataset, Damaged, ReadFault, WriteFault, DiskFault, TooLong, Memory, AlreadyThere, BadLine}
 
@@ -149,11 +150,13 @@ module _ {D : Type 0} (g : Ghosts D) (left before : Option (List ℕ)) (disks : 
   runs_unread : (status : Status) → IsUnread status → RunsLines g left before before disks disks status
   runs_unread status u = record { ends = inl u; lines = λ opens input told c d hc hd. inr (scripts_unread status u opens c d) }
 
-  pub did_unread : (c : Command) (left' : Option (List ℕ)) (a b : ℕ) (status : Status) → (c ≡ Check → ⊥) → IsWhyUnread left a b status → Did g (Some c) left left' before before disks disks status
-  did_unread Try left' a b status other why = (reads_unread left left' a b status why, tries_unread status (why_unread left a b status why))
-  did_unread Create left' a b status other why = (reads_unread left left' a b status why, creates_unread status (why_unread left a b status why))
-  did_unread Script left' a b status other why = (reads_unread left left' a b status why, runs_unread status (why_unread left a b status why))
-  did_unread Check left' a b status other why = absurd (other refl)
+  pub did_unread : (c : Command) (left' : Option (List ℕ)) (a b : ℕ) (status : Status) → has_input c ≡ true → IsWhyUnread left a b status → Did g (Some c) left left' before before disks disks status
+  did_unread Try left' a b status asks why = (reads_unread left left' a b status why, tries_unread status (why_unread left a b status why))
+  did_unread Create left' a b status asks why = (reads_unread left left' a b status why, creates_unread status (why_unread left a b status why))
+  did_unread Script left' a b status asks why = (reads_unread left left' a b status why, runs_unread status (why_unread left a b status why))
+  did_unread Check left' a b status asks why = absurd (cc asks)
+  did_unread (Load n) left' a b status asks why = absurd (cc asks)
+  did_unread (Export relation version) left' a b status asks why = absurd (cc asks)
 
 -- ---- the input was read
 
@@ -192,8 +195,21 @@ module _ {D : Type 0} (g : Ghosts D) (left left' before after : Option (List ℕ
     lines = λ opens input told. subst (λ (x : List ℕ). IfTold g disks (Scripts g disks disks' (lines_run (lines x)) status before after)) (all input told).1 t.lines;
   }
 
-  pub did_taken : (c : Command) → (c ≡ Check → ⊥) → CarriesOut g c taken before after disks disks' status → Did g (Some c) left left' before after disks disks' status
-  did_taken Try other t = (reads_taken left left' taken status all short (λ is. subst IsRunStatus is t.ends), tries_taken t)
-  did_taken Create other t = (reads_taken left left' taken status all short (λ is. subst IsCreateStatus is t.ends), creates_taken t)
-  did_taken Script other t = (reads_taken left left' taken status all short (λ is. subst IsOpenStatus is t.ends), runs_taken t)
-  did_taken Check other t = absurd (other refl)
+  pub did_taken : (c : Command) → has_input c ≡ true → CarriesOut g c taken before after disks disks' status → Did g (Some c) left left' before after disks disks' status
+  did_taken Try asks t = (reads_taken left left' taken status all short (λ is. subst IsRunStatus is t.ends), tries_taken t)
+  did_taken Create asks t = (reads_taken left left' taken status all short (λ is. subst IsCreateStatus is t.ends), creates_taken t)
+  did_taken Script asks t = (reads_taken left left' taken status all short (λ is. subst IsOpenStatus is t.ends), runs_taken t)
+  did_taken Check asks t = absurd (cc asks)
+  did_taken (Load n) asks t = absurd (cc asks)
+  did_taken (Export relation version) asks t = absurd (cc asks)
+
+-- ---- there is no input
+
+pub did_alone : {D : Type 0} (g : Ghosts D) (c : Command) (left left' : Option (List ℕ)) (input : List ℕ) (before after : Option (List ℕ)) (disks disks' : Pair D) (status : Status) → has_input c ≡ false → CarriesOut g c input before after disks disks' status
+    → Did g (Some c) left left' before after disks disks' status
+did_alone g Check left left' input before after disks disks' status asks t = t
+did_alone g (Load n) left left' input before after disks disks' status asks t = t
+did_alone g (Export relation version) left left' input before after disks disks' status asks t = t
+did_alone g Try left left' input before after disks disks' status asks t = absurd (cc asks)
+did_alone g Create left left' input before after disks disks' status asks t = absurd (cc asks)
+did_alone g Script left left' input before after disks disks' status asks t = absurd (cc asks)

@@ -1,39 +1,17 @@
 -- A run over a log that never fails.
-use Rattle.std.proofs.Common.{◌≡◌, ◌∙◌, ◌++◌, ◌∷◌, ◌+◌, ◌≤◌, [], List, ℕ, suc, Bool, true, false, cond, map, refl, sym, ap, arith, subst, inl, inr, Option, append_assoc}
+use Rattle.std.proofs.Common.{◌≡◌, ◌∙◌, ◌++◌, ◌∷◌, [], List, ℕ, map, refl, sym, ap, subst, inl, inr, Option, append_assoc}
 use Rattle.std.specs.Prelude.{Result, Ok, Err, OnOk, IsErrOf}
-use Rattle.std.proofs.lemmas.List.{map-append, append-nil}
+use Rattle.std.proofs.lemmas.List.{append-nil}
 use Rattle.db_core.specs.Order.{World, next}
 use Rattle.db_core.specs.Kept.{Kept, Stands, world_of}
 use Rattle.script_run.specs.Device.{Appends, AppendsFront, AppendsShort}
-use Rattle.script_run.specs.Output.{Marked, marked_as, unmarked, lines_of, failures, said, world_after, answer_of, out}
+use Rattle.script_run.specs.Output.{Marked, unmarked, lines_of, failures, said, world_after, answer_of, out}
 use Rattle.script_run.specs.Runs.{IsOneMore}
 use Rattle.script_run.specs.declared.run.RunStop.{RunStop}
 use Rattle.script_run.specs.declared.run.RunStop.TheVariants.{Fault, Memory as NoMemory}
 use Rattle.script_run.proofs.OutputLemmas.{out-append, out_front, front_here}
+use Rattle.load_run.proofs.Unmarked.{all_unmarked}
 use Rattle.decibel_main.specs.Output.{IsCut}
-
-not_failed : (b : Bool) (n : ℕ) → cond b (suc n) n ≡ 0 → b ≡ false
-not_failed true n e = absurd (omega (arith, e))
-not_failed false n e = refl
-
-none_left : (b : Bool) (n : ℕ) → cond b (suc n) n ≡ 0 → n ≡ 0
-none_left true n e = absurd (omega (arith, e))
-none_left false n e = e
-
--- lines of which none has the mark
-pub no_marks : (ran : List Marked) → failures ran ≡ 0 → ran ≡ map unmarked (lines_of ran)
-no_marks [] e = refl
-no_marks (m ∷ more) e =
-    ap (λ (b : Bool). marked_as m.line b ∷ more) (not_failed m.failed (failures more) e)
-    ∙ ap (λ (t : List Marked). unmarked m.line ∷ t) (no_marks more (none_left m.failed (failures more) e))
-
-pub no_failures : (n : ℕ) → n + 0 ≤ 0 → n ≡ 0
-no_failures n le = omega (arith, le)
-
--- all lines, of which those that were run have no mark
-pub all_unmarked : (all : List (List ℕ)) (ran : List Marked) (rest : List (List ℕ)) → all ≡ lines_of ran ++ rest → failures ran ≡ 0 → map unmarked all ≡ ran ++ map unmarked rest
-all_unmarked all ran rest e none =
-    ap (λ (t : List (List ℕ)). map unmarked t) e ∙ map-append unmarked (lines_of ran) rest ∙ ap (λ (t : List Marked). t ++ map unmarked rest) (sym (no_marks ran none))
 
 -- lines that were all answered
 pub appends_all : (all : List (List ℕ)) (ran : List Marked) (w : World) (before written : Option (List ℕ)) → all ≡ lines_of ran ++ [] → failures ran ≡ 0 → Appends before written (out w ran) → Appends before written (out w (map unmarked all))

@@ -3,10 +3,16 @@ ghost use Rattle.std.specs.Prelude.{◌≡◌, ◌∷◌, [], map};
 ghost use Rattle.std.specs.String.{string_bytes};
 ghost use Rattle.std.specs.List.{list_all};
 ghost use Rattle.db_value.specs.Text.{same};
-ghost use Rattle.decibel_main.specs.Words.{is_printable, begins_with_dash, is_base, verb_of, command_of};
+ghost use Rattle.decibel_main.specs.Words.{is_printable, begins_with_dash, is_base, verb_of, load_if, export_of, command_of, has_input};
+
+use db_value::{Name, VersionName};
+use stmt_text::{read_key, read_name, read_version};
+
+/// The most lines that `load` runs before its scan.
+const MOST_LINES: u64 = 20_000;
 
 /// What the program is asked for.
-#[derive(Clone, Copy, Debug, PartialEq, Eq)]
+#[derive(Clone, Copy)]
 pub enum Command {
     /// A script on a new dataset in memory.
     Try,
@@ -16,6 +22,32 @@ pub enum Command {
     Script,
     /// What two files have.
     Check,
+    /// A script of so many lines that is made from their number, in memory.
+    Load {
+        lines: u32,
+    },
+    /// The rows of a relation in a version of two files, as CSV.
+    Export {
+        relation: Name,
+        version: VersionName,
+    },
+}
+
+/// Does the command read an input?
+pub fn has_input(command: &Command) -> bool
+    ensures { result ≡ has_input command.now }
+{
+    match command {
+        Command::Try => true,
+        Command::Create => true,
+        Command::Script => true,
+        Command::Check => false,
+        Command::Load { lines: _ } => false,
+        Command::Export {
+            relation: _,
+            version: _,
+        } => false,
+    }
 }
 
 fn is_word(word: &[u8], text: &[u8]) -> bool
@@ -77,11 +109,50 @@ fn alone(word: &[u8]) -> Option<Command>
     None
 }
 
-fn with_base(word: &[u8], base: &[u8]) -> Option<Command>
-    ensures { result ≡ command_of (word.now ∷ base.now ∷ []) }
+// So many lines, if there can be so many.
+fn load_if(lines: Option<u64>) -> Option<Command>
+    ensures { result ≡ load_if lines }
 {
-    if is_base(base) {
+    match lines {
+        None => None,
+        Some(n) => {
+            if 1 <= n && n <= MOST_LINES {
+                return Some(Command::Load { lines: n as u32 });
+            }
+            None
+        }
+    }
+}
+
+fn with_one(word: &[u8], next: &[u8]) -> Option<Command>
+    ensures { result ≡ command_of (word.now ∷ next.now ∷ []) }
+{
+    if is_word(word, b"load") {
+        return load_if(read_key(next));
+    }
+    if is_base(next) {
         return verb_of(word);
+    }
+    None
+}
+
+fn export_of(relation: &[u8], version: &[u8]) -> Option<Command>
+    ensures { result ≡ export_of relation.now version.now }
+{
+    match read_name(relation) {
+        None => None,
+        Some(relation) => match read_version(version) {
+            None => None,
+            Some(version) => Some(Command::Export { relation, version }),
+        },
+    }
+}
+
+fn with_three(word: &[u8], base: &[u8], relation: &[u8], version: &[u8]) -> Option<Command>
+    ensures { result ≡ command_of (word.now ∷ base.now ∷ relation.now ∷ version.now ∷ []) }
+{
+    if is_word(word, b"export") && is_base(base) {
+        return export_of(relation, version);
     }
     None
 }
@@ -92,7 +163,13 @@ pub fn command_of(words: &[String]) -> Option<Command>
 {
     match words {
         [word] => alone(word.as_bytes()),
-        [word, base] => with_base(word.as_bytes(), base.as_bytes()),
+        [word, next] => with_one(word.as_bytes(), next.as_bytes()),
+        [word, base, relation, version] => with_three(
+            word.as_bytes(),
+            base.as_bytes(),
+            relation.as_bytes(),
+            version.as_bytes(),
+        ),
         _ => None,
     }
 }

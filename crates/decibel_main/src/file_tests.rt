@@ -8,14 +8,14 @@ use std::alloc::Global;
 use std::process::Abort;
 use std::test::Fail;
 
-const SCHEMA: &str = "relation items a b\nend\n";
+pub const SCHEMA: &str = "relation items a b\nend\n";
 
 /// How a call ended, what it wrote, and the files then.
 #[derive(Drop)]
-struct Ran {
-    status: Status,
-    output: Vec<u8>,
-    disks: Pair<MemDisk>,
+pub struct Ran {
+    pub status: Status,
+    pub output: Vec<u8>,
+    pub disks: Pair<MemDisk>,
 }
 
 // A file in memory with these bytes, of which some calls fail.
@@ -23,17 +23,23 @@ fn file_of(alloc: Global, bytes: &[u8], failing: &[u64]) -> Result<MemDisk, Fail
     Ok(MemDisk::of(alloc, bytes, failing, MORE_THAN_ANY, MORE_THAN_ANY)?)
 }
 
-fn files_of(alloc: Global, first: &[u8], second: &[u8]) -> Result<Pair<MemDisk>, Fail> {
+pub fn files_of(alloc: Global, first: &[u8], second: &[u8]) -> Result<Pair<MemDisk>, Fail> {
     Ok(Pair {
         first: file_of(alloc, first, &[])?,
         second: file_of(alloc, second, &[])?,
     })
 }
 
-fn run(alloc: Global, word: &str, input: &str, disks: Pair<MemDisk>) -> Result<Ran, Fail> {
+/// A call of the program with these words.
+pub fn run_words(
+    alloc: Global,
+    words: &[&str],
+    input: &str,
+    disks: Pair<MemDisk>,
+) -> Result<Ran, Fail> {
     let mut source = MemSource::of(alloc, input.as_bytes(), &[])?;
     let mut sink = MemSink::of(alloc, &[], MORE_THAN_ANY)?;
-    let words = words_of(alloc, &[word, "base"])?;
+    let words = words_of(alloc, words)?;
     let Finish { status, disks } = decibel(alloc, &words, &mut source, &mut sink, disks);
     let output = Vec::from_slice(alloc, sink.bytes())?;
     Ok(Ran {
@@ -43,7 +49,11 @@ fn run(alloc: Global, word: &str, input: &str, disks: Pair<MemDisk>) -> Result<R
     })
 }
 
-fn runs(
+fn run(alloc: Global, word: &str, input: &str, disks: Pair<MemDisk>) -> Result<Ran, Fail> {
+    run_words(alloc, &[word, "base"], input, disks)
+}
+
+pub fn runs(
     rt: &impl Abort,
     alloc: Global,
     word: &str,

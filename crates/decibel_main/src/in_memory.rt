@@ -1,11 +1,12 @@
 //! The command `try`: a script on a new dataset in memory.
-ghost use Rattle.std.specs.Prelude.{◌≡◌, Err, IfOk, OnOk, IsErrOf};
+ghost use Rattle.std.specs.Prelude.{◌≡◌, [], Err, IfOk, OnOk, IsErrOf};
 ghost use Rattle.db_value.specs.Text.{lines};
 ghost use Rattle.db_value.specs.Schema.{schema_of};
 ghost use Rattle.db_outside.specs.Device.{Faulted};
 ghost use Rattle.script_run.specs.Device.{Appends, AppendsFront};
 ghost use Rattle.script_run.specs.Output.{out};
 ghost use Rattle.db_core.specs.Kept.{world_of};
+ghost use Rattle.generations.specs.NewState.{new_state};
 ghost use Rattle.decibel_main.specs.Output.{output_of, new_world, unmarked_run, IsCut};
 ghost use Rattle.decibel_main.specs.Ends.{IsQuiet, IsRunStatus, BreaksOffIn, TellsBadLine};
 
@@ -18,9 +19,11 @@ use generations::DatasetStore;
 use script_run::{RunStop, run_script};
 use std::alloc::{AllocError, Global};
 
-// A core over a new dataset in memory.
-fn new_core(alloc: Global, schema: Schema) -> Result<Core<DatasetStore, NoLog>, AllocError>
-    ensures { IfOk result (λ c. world_of c.kept ≡ new_world schema) }
+/// A core over a new dataset in memory.
+pub fn new_core(alloc: Global, schema: Schema) -> Result<Core<DatasetStore, NoLog>, AllocError>
+    ensures world { IfOk result (λ c. world_of c.kept ≡ new_world schema) }
+    ensures opening { IfOk result (λ c. c.kept.opening ≡ new_state schema) }
+    ensures fresh { IfOk result (λ c. c.kept.steps ≡ []) }
 {
     let store = DatasetStore::new(alloc, schema)?;
     match Core::new(alloc, store, NoLog) {

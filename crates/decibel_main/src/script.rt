@@ -17,7 +17,8 @@ use generations::{OpenStop, Pair, reopen};
 use script_run::{RunStop, run_script};
 use std::alloc::Global;
 
-fn status_of(stop: OpenStop) -> Status
+/// How a call ends whose files aren't opened.
+pub fn status_of(stop: OpenStop) -> Status
     ensures { result ≡ open_status stop }
 {
     match stop {

@@ -1,4 +1,5 @@
-use Rattle.std.proofs.Common.{◌∙◌, refl, sym, subst, Option, Some}
+use Rattle.std.proofs.Common.{◌∙◌, ◌≡◌, refl, sym, ap, subst, Option, Some}
+use Rattle.decibel_main.specs.Words.{has_input}
 use Rattle.decibel_main.specs.Top.{Did}
 use Rattle.decibel_main.specs.declared.command.Command.{Command}
 use Rattle.decibel_main.specs.declared.status.Status.{Status}
@@ -16,7 +17,7 @@ returns-in-None-clause-usage g c = (λ is. sym c.command_of.ensures ∙ c.in-Non
 pub returns-in-None-clause-not_called : goal.returns-in-None-clause-not_called
 returns-in-None-clause-not_called g c = record {
   none = λ none. (refl, refl, c.not_asked.ensures.not_called);
-  check = λ is. absurd (cc (sym c.in-None.is ∙ c.command_of.ensures ∙ is));
+  unread = λ k is alone. absurd (cc (sym c.in-None.is ∙ c.command_of.ensures ∙ is));
 }
 
 pub returns-in-None-clause-spared : goal.returns-in-None-clause-spared
@@ -40,7 +41,9 @@ returns-in-Some-clause-usage g c = (
 pub returns-in-Some-clause-not_called : goal.returns-in-Some-clause-not_called
 returns-in-Some-clause-not_called g c = record {
   none = λ none. absurd (cc (sym c.in-Some.is ∙ c.command_of.ensures ∙ none));
-  check = λ is. c.carried.ensures.unread (cc (sym c.in-Some.is ∙ c.command_of.ensures ∙ is));
+  unread = λ k is alone.
+      let same : c.in-Some.command ≡ k = cc (sym c.in-Some.is ∙ c.command_of.ensures ∙ is) in
+      c.carried.ensures.unread (ap (λ (x : Command). has_input x) same ∙ alone);
 }
 
 pub returns-in-Some-clause-spared : goal.returns-in-Some-clause-spared
