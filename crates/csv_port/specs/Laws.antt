@@ -1,8 +1,10 @@
 -- Rows that were written read back.
-use Rattle.std.specs.Prelude.{◌≡◌, ◌<◌, ◌≤◌, ◌^◌, ℕ, pos, negsuc, List, length, Ok}
+use Rattle.std.specs.Prelude.{◌≡◌, ◌<◌, ◌≤◌, ◌^◌, ℕ, pos, negsuc, true, List, [], length, Ok}
 use Rattle.std.specs.List.{AllByRecursion}
+use Rattle.db_value.specs.Text.{is_name}
 use Rattle.db_value.specs.Value.{Value}
 use Rattle.db_value.specs.declared.record.Record.{Record}
+use Rattle.db_value.specs.declared.step.Step.{Step}
 use Rattle.csv_port.specs.Rows.{most_rows, rows_in}
 use Rattle.csv_port.specs.Written.{rows_text}
 
@@ -24,6 +26,12 @@ pub record AreRowsOfSome (rows : List Record) : Type 0 where
   pub few : columns ≤ 15
   pub rows_are : AllByRecursion (IsRow columns) rows
   pub short : length rows ≤ most_rows
+
+-- a core without lines can import rows into a relation with this name
+pub record CanImport (steps : List Step) (relation : List ℕ) (xs : List Record) : Type 0 where
+  pub fresh : steps ≡ []
+  pub rows : AreRowsOfSome xs
+  pub named : is_name relation ≡ true
 
 -- what was written of rows, no more than a text may have, gives these rows
 abbrev pub ReadsBack : Type 0

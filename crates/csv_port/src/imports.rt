@@ -6,7 +6,7 @@ ghost use Rattle.db_core.specs.Kept.{Stands};
 ghost use Rattle.csv_port.specs.Lines.{import_lines, ReadsAs};
 ghost use Rattle.csv_port.specs.Import.{count_named, import_told, lines_told, stop_by, told_by, told_of, Tells};
 ghost use Rattle.csv_port.specs.Ran.{RanStmt, RunsToEnd, RunsFirst};
-ghost use Rattle.csv_port.specs.Laws.{AreRowsOfSome};
+ghost use Rattle.csv_port.specs.Laws.{CanImport};
 
 use crate::rows::{MOST_ROWS, read_rows};
 use crate::stop::ImportStop;
@@ -92,15 +92,13 @@ fn import_rows<St: Store, J: Log<St>>(
     relation: &Name,
     rows: &[Record],
 ) -> Result<Imported, ImportStop>
-    requires fresh { core.old.kept.steps ≡ [] }
+    requires can { CanImport core.old.kept.steps relation.now rows.now }
     requires some { 0 < length rows.now }
-    requires rows { AreRowsOfSome rows.now }
-    requires named { is_name relation.now ≡ true }
     ensures told { Tells (told_of core.old.kept.now relation.now rows.now) result }
     ensures first { RunsFirst J.faults J.Keeps J.generation J.moment J.opens_since J.Quiet
         core.old core.new (import_lines relation.now rows.now) }
-    ensures all { OnOk result (RunsToEnd J.faults J.Keeps J.generation J.moment J.opens_since J.Quiet
-        core.old core.new (import_lines relation.now rows.now)) }
+    ensures all { OnOk result (RunsToEnd J.faults J.Keeps J.generation J.moment J.opens_since
+        J.Quiet core.old core.new (import_lines relation.now rows.now)) }
     ensures stays { OnErr result (core.new.kept.now ≡ core.old.kept.now) }
     ensures fault { IsErrOf result ImportStop.DiskFault
         → Rose (J.faults core.old.log) (J.faults core.new.log) }
@@ -151,8 +149,8 @@ pub fn import<St: Store, J: Log<St>>(
     ensures told { Tells (import_told core.old.kept.now relation.now text.now) result }
     ensures first { RunsFirst J.faults J.Keeps J.generation J.moment J.opens_since J.Quiet
         core.old core.new (lines_told core.old.kept.now relation.now text.now) }
-    ensures all { OnOk result (RunsToEnd J.faults J.Keeps J.generation J.moment J.opens_since J.Quiet
-        core.old core.new (lines_told core.old.kept.now relation.now text.now)) }
+    ensures all { OnOk result (RunsToEnd J.faults J.Keeps J.generation J.moment J.opens_since
+        J.Quiet core.old core.new (lines_told core.old.kept.now relation.now text.now)) }
 
     // After each refusal and fault the dataset is as before.
     ensures stays { OnErr result (core.new.kept.now ≡ core.old.kept.now) }

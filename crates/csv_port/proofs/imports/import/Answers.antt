@@ -22,8 +22,12 @@ returns-then-is_empty-clause-all g c =
     let lines : lines_told c.args.core.now.kept.now c.args.relation.now c.args.text.now ≡ [] = lines_rows c.args.core.now.kept.now c.args.relation.now c.args.text.now c.in-Some.columns there c.in-Ok.rows c.in-Ok.ensures ∙ ap (λ (rs : List Record). import_lines c.args.relation.now rs) none in
     none_to_run g.J.Log.faults g.J.Log.Keeps g.J.Log.generation g.J.Log.moment g.J.Log.opens_since g.J.Log.Quiet c.args.core.now (lines_told c.args.core.now.kept.now c.args.relation.now c.args.text.now) lines c.stands.ensures
 
-pub import_rows-requires-clause-rows : goal.import_rows-requires-clause-rows
-import_rows-requires-clause-rows g c = subst AreRowsOfSome (sym c.as_slice-in-Ok.ensures) (are_rows c.in-Some.columns c.args.text.now c.in-Ok.rows c.in-Some.ensures.within.0 c.in-Some.ensures.within.1 c.in-Ok.ensures)
+pub import_rows-requires-clause-can : goal.import_rows-requires-clause-can
+import_rows-requires-clause-can g c = record {
+  fresh = c.requires.fresh;
+  rows = subst AreRowsOfSome (sym c.as_slice-in-Ok.ensures) (are_rows c.in-Some.columns c.args.text.now c.in-Ok.rows c.in-Some.ensures.within.0 c.in-Some.ensures.within.1 c.in-Ok.ensures);
+  named = c.requires.named;
+}
 
 pub returns-in-Err-clause-first : goal.returns-in-Err-clause-first
 returns-in-Err-clause-first g c = none_ran g.J.Log.faults g.J.Log.Keeps g.J.Log.generation g.J.Log.moment g.J.Log.opens_since g.J.Log.Quiet c.args.core.now (lines_told c.args.core.now.kept.now c.args.relation.now c.args.text.now) c.stands.ensures

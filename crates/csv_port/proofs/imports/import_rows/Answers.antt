@@ -19,7 +19,7 @@ run_stmt-requires g c = begin_back
 
 pub returns-in_err-run_stmt-clause-first : goal.returns-in_err-run_stmt-clause-first
 returns-in_err-run_stmt-clause-first g c = subst (λ (k : Logged g.row.J.Denot). RunsFirst g.J.Log.faults g.J.Log.Keeps g.J.Log.generation g.J.Log.moment g.J.Log.opens_since g.J.Log.Quiet c.args.core.now k (import_lines c.args.relation.now c.args.rows.now)) (sym c.in_err-run_stmt.ensures.err)
-    (first_none g.J.Log.faults g.J.Log.Keeps g.J.Log.generation g.J.Log.moment g.J.Log.opens_since g.J.Log.Quiet c.args.core.now c.args.relation.now c.args.rows.now c.stands.ensures c.requires.fresh c.requires.some)
+    (first_none g.J.Log.faults g.J.Log.Keeps g.J.Log.generation g.J.Log.moment g.J.Log.opens_since g.J.Log.Quiet c.args.core.now c.args.relation.now c.args.rows.now c.stands.ensures c.requires.can.fresh c.requires.some)
 
 pub loop-row-init : goal.loop-row-init
 loop-row-init g c = record {
@@ -28,8 +28,8 @@ loop-row-init g c = record {
     [],
     refl,
     refl,
-    inserted_none g.J.Log.faults g.J.Log.Keeps g.J.Log.generation g.J.Log.moment g.J.Log.opens_since g.J.Log.Quiet c.args.core.now c.args.relation.now c.args.rows.now c.stands.ensures c.requires.fresh c.requires.some c.run_stmt.new.core c.in_ok-run_stmt.field-0 c.run_stmt.ensures.stands c.in_ok-run_stmt.ensures.ran,
-    told_none g.J.Log.faults g.J.Log.Keeps g.J.Log.generation g.J.Log.moment g.J.Log.opens_since g.J.Log.Quiet c.args.core.now c.args.relation.now c.args.rows.now c.stands.ensures c.requires.fresh c.requires.some c.run_stmt.new.core c.in_ok-run_stmt.field-0 c.run_stmt.ensures.stands c.in_ok-run_stmt.ensures.ran,
+    inserted_none g.J.Log.faults g.J.Log.Keeps g.J.Log.generation g.J.Log.moment g.J.Log.opens_since g.J.Log.Quiet c.args.core.now c.args.relation.now c.args.rows.now c.stands.ensures c.requires.can.fresh c.requires.some c.run_stmt.new.core c.in_ok-run_stmt.field-0 c.run_stmt.ensures.stands c.in_ok-run_stmt.ensures.ran,
+    told_none g.J.Log.faults g.J.Log.Keeps g.J.Log.generation g.J.Log.moment g.J.Log.opens_since g.J.Log.Quiet c.args.core.now c.args.relation.now c.args.rows.now c.stands.ensures c.requires.can.fresh c.requires.some c.run_stmt.new.core c.in_ok-run_stmt.field-0 c.run_stmt.ensures.stands c.in_ok-run_stmt.ensures.ran,
   );
 }
 
@@ -42,7 +42,7 @@ run_stmt-requires-in-loop-row g c =
     let left = drop (i + 1) rows in
     let next : drop i rows ≡ row ∷ left = next_row rows i row c.loop-row-test.true c.row-item.is in
     let parts : rows ≡ d.0 ++ row ∷ left = d.1 ∙ ap (λ (t : List Record). d.0 ++ t) next in
-    let reads : ReadsAs (insert_row c.args.relation.now row) = insert_back c.args.relation.now c.requires.rows.columns row c.requires.named c.requires.rows.some c.requires.rows.few (all_at (IsRow c.requires.rows.columns) d.0 left row (subst (AllByRecursion (IsRow c.requires.rows.columns)) parts c.requires.rows.rows_are)) in
+    let reads : ReadsAs (insert_row c.args.relation.now row) = insert_back c.args.relation.now c.requires.can.rows.columns row c.requires.can.named c.requires.can.rows.some c.requires.can.rows.few (all_at (IsRow c.requires.can.rows.columns) d.0 left row (subst (AllByRecursion (IsRow c.requires.can.rows.columns)) parts c.requires.can.rows.rows_are)) in
     reads
 
 pub returns-in_err-reply-clause-first : goal.returns-in_err-reply-clause-first
@@ -50,7 +50,7 @@ returns-in_err-reply-clause-first g c =
     let d = c.loop-row.invariant.done in
     let i = c.loop-row.row-index in
     let rows = c.args.rows.now in
-    subst (λ (k : Logged g.row.J.Denot). RunsFirst g.J.Log.faults g.J.Log.Keeps g.J.Log.generation g.J.Log.moment g.J.Log.opens_since g.J.Log.Quiet c.args.core.now k (import_lines c.args.relation.now c.args.rows.now)) (sym c.in_err-reply.ensures.err) (first_some g.J.Log.faults g.J.Log.Keeps g.J.Log.generation g.J.Log.moment g.J.Log.opens_since g.J.Log.Quiet c.args.core.now c.args.relation.now c.args.rows.now c.stands.ensures c.requires.fresh c.requires.some c.loop-row.core d.0 (drop i rows) d.1 d.3)
+    subst (λ (k : Logged g.row.J.Denot). RunsFirst g.J.Log.faults g.J.Log.Keeps g.J.Log.generation g.J.Log.moment g.J.Log.opens_since g.J.Log.Quiet c.args.core.now k (import_lines c.args.relation.now c.args.rows.now)) (sym c.in_err-reply.ensures.err) (first_some g.J.Log.faults g.J.Log.Keeps g.J.Log.generation g.J.Log.moment g.J.Log.opens_since g.J.Log.Quiet c.args.core.now c.args.relation.now c.args.rows.now c.stands.ensures c.requires.can.fresh c.requires.some c.loop-row.core d.0 (drop i rows) d.1 d.3)
 
 pub returns-in_err-reply-clause-stays : goal.returns-in_err-reply-clause-stays
 returns-in_err-reply-clause-stays g c = on_err c.from_residual-in_err-reply.result _ (ap (λ (k : Logged g.row.J.Denot). k.kept.now) c.in_err-reply.ensures.err ∙ c.loop-row.invariant.done.3.still)
@@ -64,9 +64,9 @@ returns-in-Some-clause-told g c =
     let left = drop (i + 1) rows in
     let next : drop i rows ≡ row ∷ left = next_row rows i row c.loop-row-test.true c.row-item.is in
     let parts : rows ≡ d.0 ++ row ∷ left = d.1 ∙ ap (λ (t : List Record). d.0 ++ t) next in
-    let reads : ReadsAs (insert_row c.args.relation.now row) = insert_back c.args.relation.now c.requires.rows.columns row c.requires.named c.requires.rows.some c.requires.rows.few (all_at (IsRow c.requires.rows.columns) d.0 left row (subst (AllByRecursion (IsRow c.requires.rows.columns)) parts c.requires.rows.rows_are)) in
+    let reads : ReadsAs (insert_row c.args.relation.now row) = insert_back c.args.relation.now c.requires.can.rows.columns row c.requires.can.named c.requires.can.rows.some c.requires.can.rows.few (all_at (IsRow c.requires.can.rows.columns) d.0 left row (subst (AllByRecursion (IsRow c.requires.can.rows.columns)) parts c.requires.can.rows.rows_are)) in
     let stop : stop_by (i + 1) c.in_ok-reply.reply ≡ Some c.in-Some.stop = ap (λ (n : ℕ). stop_by (n + 1) c.in_ok-reply.reply) (sym c.loop-row.invariant.number) ∙ sym c.stop_by.ensures ∙ c.in-Some.is in
-    tells_stop (i + 1) c.in_ok-reply.reply c.in-Some.stop _ stop (d.4 ∙ ap (λ (rs : List Record). told_from (world_of c.loop-row.core.kept) c.args.relation.now i rs) next ∙ told_stop g.J.Log.faults g.J.Log.Keeps g.J.Log.generation g.J.Log.moment g.J.Log.opens_since g.J.Log.Quiet c.args.core.now c.args.relation.now c.args.rows.now c.stands.ensures c.requires.fresh c.requires.some c.loop-row.core c.run_stmt-in-loop-row.new.core d.0 left row c.in_ok-reply.reply d.3 reads c.run_stmt-in-loop-row.ensures.stands c.in_ok-reply.ensures.ran i c.in-Some.stop stop)
+    tells_stop (i + 1) c.in_ok-reply.reply c.in-Some.stop _ stop (d.4 ∙ ap (λ (rs : List Record). told_from (world_of c.loop-row.core.kept) c.args.relation.now i rs) next ∙ told_stop g.J.Log.faults g.J.Log.Keeps g.J.Log.generation g.J.Log.moment g.J.Log.opens_since g.J.Log.Quiet c.args.core.now c.args.relation.now c.args.rows.now c.stands.ensures c.requires.can.fresh c.requires.some c.loop-row.core c.run_stmt-in-loop-row.new.core d.0 left row c.in_ok-reply.reply d.3 reads c.run_stmt-in-loop-row.ensures.stands c.in_ok-reply.ensures.ran i c.in-Some.stop stop)
 
 pub returns-in-Some-clause-first : goal.returns-in-Some-clause-first
 returns-in-Some-clause-first g c =
@@ -77,10 +77,10 @@ returns-in-Some-clause-first g c =
     let left = drop (i + 1) rows in
     let next : drop i rows ≡ row ∷ left = next_row rows i row c.loop-row-test.true c.row-item.is in
     let parts : rows ≡ d.0 ++ row ∷ left = d.1 ∙ ap (λ (t : List Record). d.0 ++ t) next in
-    let reads : ReadsAs (insert_row c.args.relation.now row) = insert_back c.args.relation.now c.requires.rows.columns row c.requires.named c.requires.rows.some c.requires.rows.few (all_at (IsRow c.requires.rows.columns) d.0 left row (subst (AllByRecursion (IsRow c.requires.rows.columns)) parts c.requires.rows.rows_are)) in
+    let reads : ReadsAs (insert_row c.args.relation.now row) = insert_back c.args.relation.now c.requires.can.rows.columns row c.requires.can.named c.requires.can.rows.some c.requires.can.rows.few (all_at (IsRow c.requires.can.rows.columns) d.0 left row (subst (AllByRecursion (IsRow c.requires.can.rows.columns)) parts c.requires.can.rows.rows_are)) in
     let parts2 : rows ≡ (d.0 ++ row ∷ []) ++ left = parts ∙ sym (append_assoc d.0 (row ∷ []) left) in
-    let ins = inserted_more g.J.Log.faults g.J.Log.Keeps g.J.Log.generation g.J.Log.moment g.J.Log.opens_since g.J.Log.Quiet c.args.core.now c.args.relation.now c.args.rows.now c.stands.ensures c.requires.fresh c.requires.some c.loop-row.core c.run_stmt-in-loop-row.new.core d.0 left row c.in_ok-reply.reply d.3 reads c.run_stmt-in-loop-row.ensures.stands c.in_ok-reply.ensures.ran in
-    first_some g.J.Log.faults g.J.Log.Keeps g.J.Log.generation g.J.Log.moment g.J.Log.opens_since g.J.Log.Quiet c.args.core.now c.args.relation.now c.args.rows.now c.stands.ensures c.requires.fresh c.requires.some c.run_stmt-in-loop-row.new.core (d.0 ++ row ∷ []) left parts2 ins
+    let ins = inserted_more g.J.Log.faults g.J.Log.Keeps g.J.Log.generation g.J.Log.moment g.J.Log.opens_since g.J.Log.Quiet c.args.core.now c.args.relation.now c.args.rows.now c.stands.ensures c.requires.can.fresh c.requires.some c.loop-row.core c.run_stmt-in-loop-row.new.core d.0 left row c.in_ok-reply.reply d.3 reads c.run_stmt-in-loop-row.ensures.stands c.in_ok-reply.ensures.ran in
+    first_some g.J.Log.faults g.J.Log.Keeps g.J.Log.generation g.J.Log.moment g.J.Log.opens_since g.J.Log.Quiet c.args.core.now c.args.relation.now c.args.rows.now c.stands.ensures c.requires.can.fresh c.requires.some c.run_stmt-in-loop-row.new.core (d.0 ++ row ∷ []) left parts2 ins
 
 pub returns-in-Some-clause-stays : goal.returns-in-Some-clause-stays
 returns-in-Some-clause-stays g c =
@@ -91,8 +91,8 @@ returns-in-Some-clause-stays g c =
     let left = drop (i + 1) rows in
     let next : drop i rows ≡ row ∷ left = next_row rows i row c.loop-row-test.true c.row-item.is in
     let parts : rows ≡ d.0 ++ row ∷ left = d.1 ∙ ap (λ (t : List Record). d.0 ++ t) next in
-    let reads : ReadsAs (insert_row c.args.relation.now row) = insert_back c.args.relation.now c.requires.rows.columns row c.requires.named c.requires.rows.some c.requires.rows.few (all_at (IsRow c.requires.rows.columns) d.0 left row (subst (AllByRecursion (IsRow c.requires.rows.columns)) parts c.requires.rows.rows_are)) in
-    let ins = inserted_more g.J.Log.faults g.J.Log.Keeps g.J.Log.generation g.J.Log.moment g.J.Log.opens_since g.J.Log.Quiet c.args.core.now c.args.relation.now c.args.rows.now c.stands.ensures c.requires.fresh c.requires.some c.loop-row.core c.run_stmt-in-loop-row.new.core d.0 left row c.in_ok-reply.reply d.3 reads c.run_stmt-in-loop-row.ensures.stands c.in_ok-reply.ensures.ran in
+    let reads : ReadsAs (insert_row c.args.relation.now row) = insert_back c.args.relation.now c.requires.can.rows.columns row c.requires.can.named c.requires.can.rows.some c.requires.can.rows.few (all_at (IsRow c.requires.can.rows.columns) d.0 left row (subst (AllByRecursion (IsRow c.requires.can.rows.columns)) parts c.requires.can.rows.rows_are)) in
+    let ins = inserted_more g.J.Log.faults g.J.Log.Keeps g.J.Log.generation g.J.Log.moment g.J.Log.opens_since g.J.Log.Quiet c.args.core.now c.args.relation.now c.args.rows.now c.stands.ensures c.requires.can.fresh c.requires.some c.loop-row.core c.run_stmt-in-loop-row.new.core d.0 left row c.in_ok-reply.reply d.3 reads c.run_stmt-in-loop-row.ensures.stands c.in_ok-reply.ensures.ran in
     ins.still
 
 pub loop-row-preserved : goal.loop-row-preserved
@@ -104,9 +104,9 @@ loop-row-preserved g c =
     let left = drop (i + 1) rows in
     let next : drop i rows ≡ row ∷ left = next_row rows i row c.loop-row-test.true c.row-item.is in
     let parts : rows ≡ d.0 ++ row ∷ left = d.1 ∙ ap (λ (t : List Record). d.0 ++ t) next in
-    let reads : ReadsAs (insert_row c.args.relation.now row) = insert_back c.args.relation.now c.requires.rows.columns row c.requires.named c.requires.rows.some c.requires.rows.few (all_at (IsRow c.requires.rows.columns) d.0 left row (subst (AllByRecursion (IsRow c.requires.rows.columns)) parts c.requires.rows.rows_are)) in
+    let reads : ReadsAs (insert_row c.args.relation.now row) = insert_back c.args.relation.now c.requires.can.rows.columns row c.requires.can.named c.requires.can.rows.some c.requires.can.rows.few (all_at (IsRow c.requires.can.rows.columns) d.0 left row (subst (AllByRecursion (IsRow c.requires.can.rows.columns)) parts c.requires.can.rows.rows_are)) in
     let parts2 : rows ≡ (d.0 ++ row ∷ []) ++ left = parts ∙ sym (append_assoc d.0 (row ∷ []) left) in
-    let ins = inserted_more g.J.Log.faults g.J.Log.Keeps g.J.Log.generation g.J.Log.moment g.J.Log.opens_since g.J.Log.Quiet c.args.core.now c.args.relation.now c.args.rows.now c.stands.ensures c.requires.fresh c.requires.some c.loop-row.core c.run_stmt-in-loop-row.new.core d.0 left row c.in_ok-reply.reply d.3 reads c.run_stmt-in-loop-row.ensures.stands c.in_ok-reply.ensures.ran in
+    let ins = inserted_more g.J.Log.faults g.J.Log.Keeps g.J.Log.generation g.J.Log.moment g.J.Log.opens_since g.J.Log.Quiet c.args.core.now c.args.relation.now c.args.rows.now c.stands.ensures c.requires.can.fresh c.requires.some c.loop-row.core c.run_stmt-in-loop-row.new.core d.0 left row c.in_ok-reply.reply d.3 reads c.run_stmt-in-loop-row.ensures.stands c.in_ok-reply.ensures.ran in
     let none : stop_by (i + 1) c.in_ok-reply.reply ≡ None = ap (λ (n : ℕ). stop_by (n + 1) c.in_ok-reply.reply) (sym c.loop-row.invariant.number) ∙ sym c.stop_by.ensures ∙ c.in-None.is in
     record {
       number = ap (λ (n : ℕ). n + 1) c.loop-row.invariant.number;
@@ -115,7 +115,7 @@ loop-row-preserved g c =
         parts2,
         length_push d.0 row ∙ ap (λ (n : ℕ). n + 1) d.2,
         ins,
-        d.4 ∙ ap (λ (rs : List Record). told_from (world_of c.loop-row.core.kept) c.args.relation.now i rs) next ∙ told_more g.J.Log.faults g.J.Log.Keeps g.J.Log.generation g.J.Log.moment g.J.Log.opens_since g.J.Log.Quiet c.args.core.now c.args.relation.now c.args.rows.now c.stands.ensures c.requires.fresh c.requires.some c.loop-row.core c.run_stmt-in-loop-row.new.core d.0 left row c.in_ok-reply.reply d.3 reads c.run_stmt-in-loop-row.ensures.stands c.in_ok-reply.ensures.ran i none,
+        d.4 ∙ ap (λ (rs : List Record). told_from (world_of c.loop-row.core.kept) c.args.relation.now i rs) next ∙ told_more g.J.Log.faults g.J.Log.Keeps g.J.Log.generation g.J.Log.moment g.J.Log.opens_since g.J.Log.Quiet c.args.core.now c.args.relation.now c.args.rows.now c.stands.ensures c.requires.can.fresh c.requires.some c.loop-row.core c.run_stmt-in-loop-row.new.core d.0 left row c.in_ok-reply.reply d.3 reads c.run_stmt-in-loop-row.ensures.stands c.in_ok-reply.ensures.ran i none,
       );
     }
 
@@ -127,7 +127,7 @@ returns-in_err-reply-2-clause-first g c =
     let d = c.loop-row.invariant.done in
     let i = c.loop-row.row-index in
     let rows = c.args.rows.now in
-    subst (λ (k : Logged g.row.J.Denot). RunsFirst g.J.Log.faults g.J.Log.Keeps g.J.Log.generation g.J.Log.moment g.J.Log.opens_since g.J.Log.Quiet c.args.core.now k (import_lines c.args.relation.now c.args.rows.now)) (sym c.in_err-reply-2.ensures.err) (first_some g.J.Log.faults g.J.Log.Keeps g.J.Log.generation g.J.Log.moment g.J.Log.opens_since g.J.Log.Quiet c.args.core.now c.args.relation.now c.args.rows.now c.stands.ensures c.requires.fresh c.requires.some c.loop-row.core d.0 (drop i rows) d.1 d.3)
+    subst (λ (k : Logged g.row.J.Denot). RunsFirst g.J.Log.faults g.J.Log.Keeps g.J.Log.generation g.J.Log.moment g.J.Log.opens_since g.J.Log.Quiet c.args.core.now k (import_lines c.args.relation.now c.args.rows.now)) (sym c.in_err-reply-2.ensures.err) (first_some g.J.Log.faults g.J.Log.Keeps g.J.Log.generation g.J.Log.moment g.J.Log.opens_since g.J.Log.Quiet c.args.core.now c.args.relation.now c.args.rows.now c.stands.ensures c.requires.can.fresh c.requires.some c.loop-row.core d.0 (drop i rows) d.1 d.3)
 
 pub returns-in_err-reply-2-clause-stays : goal.returns-in_err-reply-2-clause-stays
 returns-in_err-reply-2-clause-stays g c = on_err c.from_residual-in_err-reply-2.result _ (ap (λ (k : Logged g.row.J.Denot). k.kept.now) c.in_err-reply-2.ensures.err ∙ c.loop-row.invariant.done.3.still)
@@ -142,8 +142,8 @@ returns-clause-told g c =
     let ins = subst (λ (rs : List Record). Inserted g.J.Log.faults g.J.Log.Keeps g.J.Log.generation g.J.Log.moment g.J.Log.opens_since g.J.Log.Quiet c.args.core.now c.loop-row.core c.args.relation.now rs) all d.3 in
     let count : i ≡ length rows = sym d.2 ∙ ap length all in
     let told : told_of c.args.core.now.kept.now c.args.relation.now rows ≡ told_by (length rows) (reply_to (world_of c.loop-row.core.kept) Commit) = d.4 ∙ ap (λ (rs : List Record). told_from (world_of c.loop-row.core.kept) c.args.relation.now i rs) (drop_of_length-le rows short) ∙ ap (λ (n : ℕ). told_by n (reply_to (world_of c.loop-row.core.kept) Commit)) count in
-    let is : c.told_by.result ≡ told_by (length rows) c.in_ok-reply-2.reply = c.told_by.ensures ∙ ap (λ (n : ℕ). told_by n c.in_ok-reply-2.reply) (let e = c.loop-row.invariant.number in let s = c.requires.rows.short in omega (arith, e, count, s)) in
-    let ends = ends_by g.J.Log.faults g.J.Log.Keeps g.J.Log.generation g.J.Log.moment g.J.Log.opens_since g.J.Log.Quiet c.args.core.now c.args.relation.now c.args.rows.now c.stands.ensures c.requires.fresh c.requires.some c.loop-row.core c.run_stmt-2.new.core c.in_ok-reply-2.reply ins c.run_stmt-2.ensures.stands c.in_ok-reply-2.ensures.ran c.told_by.result told is in
+    let is : c.told_by.result ≡ told_by (length rows) c.in_ok-reply-2.reply = c.told_by.ensures ∙ ap (λ (n : ℕ). told_by n c.in_ok-reply-2.reply) (let e = c.loop-row.invariant.number in let s = c.requires.can.rows.short in omega (arith, e, count, s)) in
+    let ends = ends_by g.J.Log.faults g.J.Log.Keeps g.J.Log.generation g.J.Log.moment g.J.Log.opens_since g.J.Log.Quiet c.args.core.now c.args.relation.now c.args.rows.now c.stands.ensures c.requires.can.fresh c.requires.some c.loop-row.core c.run_stmt-2.new.core c.in_ok-reply-2.reply ins c.run_stmt-2.ensures.stands c.in_ok-reply-2.ensures.ran c.told_by.result told is in
     ends.tells
 
 pub returns-clause-first : goal.returns-clause-first
@@ -156,9 +156,9 @@ returns-clause-first g c =
     let ins = subst (λ (rs : List Record). Inserted g.J.Log.faults g.J.Log.Keeps g.J.Log.generation g.J.Log.moment g.J.Log.opens_since g.J.Log.Quiet c.args.core.now c.loop-row.core c.args.relation.now rs) all d.3 in
     let count : i ≡ length rows = sym d.2 ∙ ap length all in
     let told : told_of c.args.core.now.kept.now c.args.relation.now rows ≡ told_by (length rows) (reply_to (world_of c.loop-row.core.kept) Commit) = d.4 ∙ ap (λ (rs : List Record). told_from (world_of c.loop-row.core.kept) c.args.relation.now i rs) (drop_of_length-le rows short) ∙ ap (λ (n : ℕ). told_by n (reply_to (world_of c.loop-row.core.kept) Commit)) count in
-    let is : c.told_by.result ≡ told_by (length rows) c.in_ok-reply-2.reply = c.told_by.ensures ∙ ap (λ (n : ℕ). told_by n c.in_ok-reply-2.reply) (let e = c.loop-row.invariant.number in let s = c.requires.rows.short in omega (arith, e, count, s)) in
-    let ends = ends_by g.J.Log.faults g.J.Log.Keeps g.J.Log.generation g.J.Log.moment g.J.Log.opens_since g.J.Log.Quiet c.args.core.now c.args.relation.now c.args.rows.now c.stands.ensures c.requires.fresh c.requires.some c.loop-row.core c.run_stmt-2.new.core c.in_ok-reply-2.reply ins c.run_stmt-2.ensures.stands c.in_ok-reply-2.ensures.ran c.told_by.result told is in
-    first_all g.J.Log.faults g.J.Log.Keeps g.J.Log.generation g.J.Log.moment g.J.Log.opens_since g.J.Log.Quiet c.args.core.now c.args.relation.now c.args.rows.now c.stands.ensures c.requires.fresh c.requires.some c.loop-row.core c.run_stmt-2.new.core c.in_ok-reply-2.reply ins c.run_stmt-2.ensures.stands c.in_ok-reply-2.ensures.ran
+    let is : c.told_by.result ≡ told_by (length rows) c.in_ok-reply-2.reply = c.told_by.ensures ∙ ap (λ (n : ℕ). told_by n c.in_ok-reply-2.reply) (let e = c.loop-row.invariant.number in let s = c.requires.can.rows.short in omega (arith, e, count, s)) in
+    let ends = ends_by g.J.Log.faults g.J.Log.Keeps g.J.Log.generation g.J.Log.moment g.J.Log.opens_since g.J.Log.Quiet c.args.core.now c.args.relation.now c.args.rows.now c.stands.ensures c.requires.can.fresh c.requires.some c.loop-row.core c.run_stmt-2.new.core c.in_ok-reply-2.reply ins c.run_stmt-2.ensures.stands c.in_ok-reply-2.ensures.ran c.told_by.result told is in
+    first_all g.J.Log.faults g.J.Log.Keeps g.J.Log.generation g.J.Log.moment g.J.Log.opens_since g.J.Log.Quiet c.args.core.now c.args.relation.now c.args.rows.now c.stands.ensures c.requires.can.fresh c.requires.some c.loop-row.core c.run_stmt-2.new.core c.in_ok-reply-2.reply ins c.run_stmt-2.ensures.stands c.in_ok-reply-2.ensures.ran
 
 pub returns-clause-all : goal.returns-clause-all
 returns-clause-all g c =
@@ -170,8 +170,8 @@ returns-clause-all g c =
     let ins = subst (λ (rs : List Record). Inserted g.J.Log.faults g.J.Log.Keeps g.J.Log.generation g.J.Log.moment g.J.Log.opens_since g.J.Log.Quiet c.args.core.now c.loop-row.core c.args.relation.now rs) all d.3 in
     let count : i ≡ length rows = sym d.2 ∙ ap length all in
     let told : told_of c.args.core.now.kept.now c.args.relation.now rows ≡ told_by (length rows) (reply_to (world_of c.loop-row.core.kept) Commit) = d.4 ∙ ap (λ (rs : List Record). told_from (world_of c.loop-row.core.kept) c.args.relation.now i rs) (drop_of_length-le rows short) ∙ ap (λ (n : ℕ). told_by n (reply_to (world_of c.loop-row.core.kept) Commit)) count in
-    let is : c.told_by.result ≡ told_by (length rows) c.in_ok-reply-2.reply = c.told_by.ensures ∙ ap (λ (n : ℕ). told_by n c.in_ok-reply-2.reply) (let e = c.loop-row.invariant.number in let s = c.requires.rows.short in omega (arith, e, count, s)) in
-    let ends = ends_by g.J.Log.faults g.J.Log.Keeps g.J.Log.generation g.J.Log.moment g.J.Log.opens_since g.J.Log.Quiet c.args.core.now c.args.relation.now c.args.rows.now c.stands.ensures c.requires.fresh c.requires.some c.loop-row.core c.run_stmt-2.new.core c.in_ok-reply-2.reply ins c.run_stmt-2.ensures.stands c.in_ok-reply-2.ensures.ran c.told_by.result told is in
+    let is : c.told_by.result ≡ told_by (length rows) c.in_ok-reply-2.reply = c.told_by.ensures ∙ ap (λ (n : ℕ). told_by n c.in_ok-reply-2.reply) (let e = c.loop-row.invariant.number in let s = c.requires.can.rows.short in omega (arith, e, count, s)) in
+    let ends = ends_by g.J.Log.faults g.J.Log.Keeps g.J.Log.generation g.J.Log.moment g.J.Log.opens_since g.J.Log.Quiet c.args.core.now c.args.relation.now c.args.rows.now c.stands.ensures c.requires.can.fresh c.requires.some c.loop-row.core c.run_stmt-2.new.core c.in_ok-reply-2.reply ins c.run_stmt-2.ensures.stands c.in_ok-reply-2.ensures.ran c.told_by.result told is in
     ends.all
 
 pub returns-clause-stays : goal.returns-clause-stays
@@ -184,8 +184,8 @@ returns-clause-stays g c =
     let ins = subst (λ (rs : List Record). Inserted g.J.Log.faults g.J.Log.Keeps g.J.Log.generation g.J.Log.moment g.J.Log.opens_since g.J.Log.Quiet c.args.core.now c.loop-row.core c.args.relation.now rs) all d.3 in
     let count : i ≡ length rows = sym d.2 ∙ ap length all in
     let told : told_of c.args.core.now.kept.now c.args.relation.now rows ≡ told_by (length rows) (reply_to (world_of c.loop-row.core.kept) Commit) = d.4 ∙ ap (λ (rs : List Record). told_from (world_of c.loop-row.core.kept) c.args.relation.now i rs) (drop_of_length-le rows short) ∙ ap (λ (n : ℕ). told_by n (reply_to (world_of c.loop-row.core.kept) Commit)) count in
-    let is : c.told_by.result ≡ told_by (length rows) c.in_ok-reply-2.reply = c.told_by.ensures ∙ ap (λ (n : ℕ). told_by n c.in_ok-reply-2.reply) (let e = c.loop-row.invariant.number in let s = c.requires.rows.short in omega (arith, e, count, s)) in
-    let ends = ends_by g.J.Log.faults g.J.Log.Keeps g.J.Log.generation g.J.Log.moment g.J.Log.opens_since g.J.Log.Quiet c.args.core.now c.args.relation.now c.args.rows.now c.stands.ensures c.requires.fresh c.requires.some c.loop-row.core c.run_stmt-2.new.core c.in_ok-reply-2.reply ins c.run_stmt-2.ensures.stands c.in_ok-reply-2.ensures.ran c.told_by.result told is in
+    let is : c.told_by.result ≡ told_by (length rows) c.in_ok-reply-2.reply = c.told_by.ensures ∙ ap (λ (n : ℕ). told_by n c.in_ok-reply-2.reply) (let e = c.loop-row.invariant.number in let s = c.requires.can.rows.short in omega (arith, e, count, s)) in
+    let ends = ends_by g.J.Log.faults g.J.Log.Keeps g.J.Log.generation g.J.Log.moment g.J.Log.opens_since g.J.Log.Quiet c.args.core.now c.args.relation.now c.args.rows.now c.stands.ensures c.requires.can.fresh c.requires.some c.loop-row.core c.run_stmt-2.new.core c.in_ok-reply-2.reply ins c.run_stmt-2.ensures.stands c.in_ok-reply-2.ensures.ran c.told_by.result told is in
     ends.stays
 
 pub returns-clause-fault : goal.returns-clause-fault
@@ -198,6 +198,6 @@ returns-clause-fault g c =
     let ins = subst (λ (rs : List Record). Inserted g.J.Log.faults g.J.Log.Keeps g.J.Log.generation g.J.Log.moment g.J.Log.opens_since g.J.Log.Quiet c.args.core.now c.loop-row.core c.args.relation.now rs) all d.3 in
     let count : i ≡ length rows = sym d.2 ∙ ap length all in
     let told : told_of c.args.core.now.kept.now c.args.relation.now rows ≡ told_by (length rows) (reply_to (world_of c.loop-row.core.kept) Commit) = d.4 ∙ ap (λ (rs : List Record). told_from (world_of c.loop-row.core.kept) c.args.relation.now i rs) (drop_of_length-le rows short) ∙ ap (λ (n : ℕ). told_by n (reply_to (world_of c.loop-row.core.kept) Commit)) count in
-    let is : c.told_by.result ≡ told_by (length rows) c.in_ok-reply-2.reply = c.told_by.ensures ∙ ap (λ (n : ℕ). told_by n c.in_ok-reply-2.reply) (let e = c.loop-row.invariant.number in let s = c.requires.rows.short in omega (arith, e, count, s)) in
-    let ends = ends_by g.J.Log.faults g.J.Log.Keeps g.J.Log.generation g.J.Log.moment g.J.Log.opens_since g.J.Log.Quiet c.args.core.now c.args.relation.now c.args.rows.now c.stands.ensures c.requires.fresh c.requires.some c.loop-row.core c.run_stmt-2.new.core c.in_ok-reply-2.reply ins c.run_stmt-2.ensures.stands c.in_ok-reply-2.ensures.ran c.told_by.result told is in
+    let is : c.told_by.result ≡ told_by (length rows) c.in_ok-reply-2.reply = c.told_by.ensures ∙ ap (λ (n : ℕ). told_by n c.in_ok-reply-2.reply) (let e = c.loop-row.invariant.number in let s = c.requires.can.rows.short in omega (arith, e, count, s)) in
+    let ends = ends_by g.J.Log.faults g.J.Log.Keeps g.J.Log.generation g.J.Log.moment g.J.Log.opens_since g.J.Log.Quiet c.args.core.now c.args.relation.now c.args.rows.now c.stands.ensures c.requires.can.fresh c.requires.some c.loop-row.core c.run_stmt-2.new.core c.in_ok-reply-2.reply ins c.run_stmt-2.ensures.stands c.in_ok-reply-2.ensures.ran c.told_by.result told is in
     ends.fault
