@@ -38,6 +38,7 @@ module _ {L : Type 0} (faults : L → ℕ) (Keeps : L → State → List Entry �
 
   pub record Plain (old new : Logged L) (x : Stmt) (r : Reply) : Type 0 where
     pub line : Line1 old new x false
+    pub spared : new.log ≡ old.log
     pub reply : r ≡ reply_to (world_of old.kept) x
     pub world : world_of new.kept ≡ world_with (world_of old.kept) x
 
@@ -48,6 +49,7 @@ module _ {L : Type 0} (faults : L → ℕ) (Keeps : L → State → List Entry �
       let line : Line1 old new x false = subst (Line1 old new x) f ran.1 in
       record {
         line = line;
+        spared = line.stores.spared (ap (λ (y : Said). entry_with (world_of old.kept) y.session y.stmt) (says x false reads) ∙ none);
         reply = ran.2 ∙ ap (λ (q : Bool). reply_in (world_of old.kept) (marked importer x q) []) f;
         world = heard_world old.kept new.kept (marked_as (text_by x) false ∷ []) line.heard ∙ ap (next (world_of old.kept)) (says x false reads);
       }

@@ -1,6 +1,6 @@
 -- An import of rows, line by line.
 use Rattle.std.proofs.Common.{◌≡◌, ◌∙◌, ◌+◌, ◌<◌, ◌≤◌, ◌++◌, ◌∷◌, [], List, ℕ, suc, cond, Bool, true, false, Option, Some, None, is_some, length, map, refl, sym, ap, subst, append-nil, append_assoc, arith, add-one, drop}
-use Rattle.std.specs.Prelude.{Result, Ok, Err, OnOk, OnErr, slice_index_or}
+use Rattle.std.specs.Prelude.{Result, Ok, Err, OnOk, IfErr, slice_index_or}
 use Rattle.std.specs.List.{AllByRecursion}
 use Rattle.std.proofs.Math.Seq.{drop-cons}
 use Rattle.std.proofs.Math.ListN.{drop_of_length-le}
@@ -33,7 +33,7 @@ use Rattle.csv_port.specs.declared.stop.ImportStop.TheVariants.{BadRow, DiskFaul
 use Rattle.csv_port.specs.declared.imports.Imported.{Imported}
 use Rattle.csv_port.specs.Lines.{importer, begin_all, insert_row, statements, import_lines, text_by, ReadsAs}
 use Rattle.csv_port.specs.Import.{is_fault, made_by, reply_to, world_with, stop_by, stop_or, told_by, told_from, told_of, Tells}
-use Rattle.csv_port.specs.Ran.{RanStmt, RunsFirst, RunsToEnd}
+use Rattle.csv_port.specs.Ran.{RanStmt, RunsFirst, RunsToEnd, StopsAs}
 use Rattle.csv_port.proofs.LineLemmas.{begin_back, commit_back}
 use Rattle.csv_port.proofs.OpenLemmas.{IsAlone, begun_alone, begun_entry, begun_state, goes_on, no_entry, same_state, commit_tells}
 use Rattle.csv_port.proofs.RanLemmas.{Plain, plain, says}
@@ -115,6 +115,15 @@ module _ {L : Type 0} (faults : L → ℕ) (Keeps : L → State → List Entry �
   abbrev All1 : Logged L → List Marked → Logged L → Type 0
   All1 old ran new = StoresAll faults Keeps generation moment opens_since Quiet (world_of old.kept) ran old.log new.log
 
+  -- a row stops the import
+  pub stops_row : (old now : Logged L) (n : ℕ) (r : Reply) (stop : ImportStop) → stop_by n r ≡ Some stop → now.kept.now ≡ old.kept.now → now.log ≡ old.log → StopsAs faults old now stop
+  stops_row old now n r (BadRow row) is still spared = (still, spared)
+  stops_row old now n r NoRelation is still spared = (still, spared)
+  stops_row old now n r (KeyThere row) is still spared = (still, spared)
+  stops_row old now n r (Full row) is still spared = (still, spared)
+  stops_row old now n r DiskFault is still spared = absurd (no_disk n r is)
+  stops_row old now n r Memory is still spared = (still, spared)
+
   abbrev First : Logged L → Logged L → List (List ℕ) → Type 0
   First old new all = RunsFirst faults Keeps generation moment opens_since Quiet old new all
 
@@ -125,6 +134,7 @@ module _ {L : Type 0} (faults : L → ℕ) (Keeps : L → State → List Entry �
     pub stands : Stands now.kept
     pub alone : IsAlone (world_of now.kept)
     pub still : now.kept.now ≡ old.kept.now
+    pub spared : now.log ≡ old.log
 
   module _ (old : Logged L) (relation : List ℕ) (rows : List Record) (old_stands : Stands old.kept) (fresh : old.kept.steps ≡ []) (some : 0 < length rows) where
     -- nothing was run
@@ -153,6 +163,7 @@ module _ {L : Type 0} (faults : L → ℕ) (Keeps : L → State → List Entry �
         stands = stands;
         alone = subst IsAlone (sym world) (begun_alone old.kept.now);
         still = sym stands.state ∙ ap (λ (w : World). w.state) world ∙ begun_state old.kept.now;
+        spared = p.spared;
       }
 
       told_first : (all : List Record) → 0 < length all → told_of old.kept.now relation all ≡ told_from (world_with (opening old.kept.now) begin_all) relation 0 all
@@ -177,6 +188,7 @@ module _ {L : Type 0} (faults : L → ℕ) (Keeps : L → State → List Entry �
         stands = stands;
         alone = subst IsAlone (sym q.world) (goes_on (world_of mid.kept) (insert_row relation row) i.alone refl);
         still = sym stands.state ∙ ap (λ (w : World). w.state) q.world ∙ same_state (world_of mid.kept) (insert_row relation row) i.alone refl ∙ i.stands.state ∙ i.still;
+        spared = q.spared ∙ i.spared;
       }
 
       -- and what is told then
@@ -237,8 +249,7 @@ module _ {L : Type 0} (faults : L → ℕ) (Keeps : L → State → List Entry �
       pub record Ends (result : Result Imported ImportStop) : Type 0 where
         pub tells : Tells (told_of old.kept.now relation rows) result
         pub all : OnOk result (RunsToEnd faults Keeps generation moment opens_since Quiet old now (import_lines relation rows))
-        pub stays : OnErr result (now.kept.now ≡ old.kept.now)
-        pub fault : result ≡ Err DiskFault → Rose (faults old.log) (faults now.log)
+        pub stops : IfErr result (StopsAs faults old now)
 
       pub ends_by : (result : Result Imported ImportStop) → told_of old.kept.now relation rows ≡ told_by (length rows) (reply_to w Commit) → result ≡ told_by (length rows) r → Ends result
       ends_by result told is = by ran.0 refl
@@ -253,5 +264,5 @@ module _ {L : Type 0} (faults : L → ℕ) (Keeps : L → State → List Entry �
           rose f = λ below. let a = ran.1.stores.cause f below in let b = i.stores.later in omega (arith, a, b)
 
           by : (b : Bool) → ran.0 ≡ b → Ends result
-          by false f = subst Ends (sym (good f)) (record { tells = told ∙ told_good; all = to_end f; stays = tt; fault = λ e. absurd cc })
-          by true f = subst Ends (sym (bad f)) (record { tells = ap is_ok (told ∙ told_good); all = tt; stays = failed_still f; fault = λ e. rose f })
+          by false f = subst Ends (sym (good f)) (record { tells = told ∙ told_good; all = to_end f; stops = tt })
+          by true f = subst Ends (sym (bad f)) (record { tells = ap is_ok (told ∙ told_good); all = tt; stops = (failed_still f, rose f) })

@@ -2,6 +2,7 @@
 use Rattle.std.specs.Prelude.{◌≡◌, ℕ, Bool, List, [], map, Option}
 use Rattle.db_value.specs.declared.entry.Entry.{Entry}
 use Rattle.db_value.specs.declared.reply.Reply.{Reply}
+use Rattle.db_outside.specs.Device.{Rose}
 use Rattle.db_store.specs.State.{State}
 use Rattle.entry_codec.specs.Logs.{Opening}
 use Rattle.stmt_text.specs.declared.stmt.Stmt.{Stmt}
@@ -11,6 +12,8 @@ use Rattle.db_core.specs.Sits.{marked}
 use Rattle.script_run.specs.Output.{Marked, marked_as, unmarked}
 use Rattle.script_run.specs.Heard.{RanLine}
 use Rattle.script_run.specs.Runs.{Runs}
+use Rattle.csv_port.specs.declared.stop.ImportStop.{ImportStop}
+use Rattle.csv_port.specs.declared.stop.ImportStop.TheVariants.{DiskFault}
 use Rattle.csv_port.specs.Lines.{importer, text_by}
 
 -- a statement of the import was run, with the mark of a log that failed or without, and has this reply
@@ -31,3 +34,8 @@ abbrev pub RunsToEnd :
     {L : Type 0} (faults : L → ℕ) (Keeps : L → State → List Entry → Option (List ℕ) → Type 0) (generation : L → ℕ) (moment : L → ℕ × ℕ) (opens_since : L → ℕ × ℕ → Opening → Type 0) (Quiet : L → ℕ × ℕ → Type 0)
     (old new : Logged L) (all : List (List ℕ)) → Type 0
 RunsToEnd faults Keeps generation moment opens_since Quiet old new all = Runs faults Keeps generation moment opens_since Quiet old new all (map unmarked all) []
+
+-- An import stopped: the dataset is as before, and the log was called only if it failed.
+abbrev pub StopsAs : {L : Type 0} (faults : L → ℕ) (old new : Logged L) → ImportStop → Type 0
+StopsAs faults old new DiskFault = (new.kept.now ≡ old.kept.now) × Rose (faults old.log) (faults new.log)
+StopsAs faults old new stop = (new.kept.now ≡ old.kept.now) × (new.log ≡ old.log)

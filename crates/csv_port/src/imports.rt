@@ -1,11 +1,10 @@
 //! The rows of a text, inserted in one transaction of session 1.
-ghost use Rattle.std.specs.Prelude.{◌≡◌, ◌≤◌, ◌<◌, [], true, Ok, IfOk, IfSome, OnOk, OnErr, IsErrOf, length};
+ghost use Rattle.std.specs.Prelude.{◌≡◌, ◌≤◌, ◌<◌, [], true, Ok, IfOk, IfErr, IfSome, OnOk, OnErr, length};
 ghost use Rattle.db_value.specs.Text.{is_name};
-ghost use Rattle.db_outside.specs.Device.{Rose};
 ghost use Rattle.db_core.specs.Kept.{Stands};
 ghost use Rattle.csv_port.specs.Lines.{import_lines, ReadsAs};
 ghost use Rattle.csv_port.specs.Import.{count_named, import_told, lines_told, stop_by, told_by, told_of, Tells};
-ghost use Rattle.csv_port.specs.Ran.{RanStmt, RunsToEnd, RunsFirst};
+ghost use Rattle.csv_port.specs.Ran.{RanStmt, RunsToEnd, RunsFirst, StopsAs};
 ghost use Rattle.csv_port.specs.Laws.{CanImport};
 
 use crate::rows::{MOST_ROWS, read_rows};
@@ -99,9 +98,7 @@ fn import_rows<St: Store, J: Log<St>>(
         core.old core.new (import_lines relation.now rows.now) }
     ensures all { OnOk result (RunsToEnd J.faults J.Keeps J.generation J.moment J.opens_since
         J.Quiet core.old core.new (import_lines relation.now rows.now)) }
-    ensures stays { OnErr result (core.new.kept.now ≡ core.old.kept.now) }
-    ensures fault { IsErrOf result ImportStop.DiskFault
-        → Rose (J.faults core.old.log) (J.faults core.new.log) }
+    ensures stops { IfErr result (StopsAs J.faults core.old core.new) }
 {
     core.stands();
     let room = MOST_ROWS as u32;
@@ -136,8 +133,8 @@ fn count_of(schema: &Schema, relation: &Name) -> Option<usize>
 }
 
 /// Imports the rows of a text into a relation of master, as session 1 of a core without lines. All rows
-/// are read before the first is inserted. A row that isn't inserted stops the import, and nothing of it
-/// stays.
+/// are read before the first is inserted. A row that isn't inserted stops the import: the dataset is as
+/// before, and the log wasn't called.
 pub fn import<St: Store, J: Log<St>>(
     alloc: Global,
     core: &mut Core<St, J>,
@@ -151,11 +148,7 @@ pub fn import<St: Store, J: Log<St>>(
         core.old core.new (lines_told core.old.kept.now relation.now text.now) }
     ensures all { OnOk result (RunsToEnd J.faults J.Keeps J.generation J.moment J.opens_since
         J.Quiet core.old core.new (lines_told core.old.kept.now relation.now text.now)) }
-
-    // After each refusal and fault the dataset is as before.
-    ensures stays { OnErr result (core.new.kept.now ≡ core.old.kept.now) }
-    ensures fault { IsErrOf result ImportStop.DiskFault
-        → Rose (J.faults core.old.log) (J.faults core.new.log) }
+    ensures stops { IfErr result (StopsAs J.faults core.old core.new) }
 {
     core.stands();
     let Some(columns) = count_of(core.schema(), relation) else {

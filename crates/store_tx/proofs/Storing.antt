@@ -103,6 +103,7 @@ module _
       → Stores faults Keeps generation moment opens_since Quiet s false (Some e) old new
   stores_done done = record {
     some = λ bad. absurd (cc bad);
+    spared = λ none. absurd (cc none);
     cause = λ bad. absurd (cc bad);
     any_moment = any_now;
     quiet = quiet_now;
@@ -117,6 +118,7 @@ module _
       → Stores faults Keeps generation moment opens_since Quiet s true (Some e) old new
   stores_failed failed rose = record {
     some = λ _. refl;
+    spared = λ none. absurd (cc none);
     cause = λ _. rose;
     any_moment = any_now;
     quiet = quiet_now;
@@ -134,6 +136,7 @@ module _
   pub stores_none : (s : State) (log : L) → Stores faults Keeps generation moment opens_since Quiet s false None log log
   stores_none s log = record {
     some = λ bad. absurd (cc bad);
+    spared = λ none. refl;
     cause = λ bad. absurd (cc bad);
     any_moment = λ es f keeps o opens. kept_opens log s es f keeps o (only_now log o opens);
     quiet = λ es f keeps. record { stays = λ t q. q; adds = λ t le q o opens. inl opens };
@@ -147,6 +150,7 @@ module _
   pub stores_unasked : (s : State) (e : Entry) (log : L) → KeepsAny Keeps log → Stores faults Keeps generation moment opens_since Quiet s false (Some e) log log
   stores_unasked s e log any = record {
     some = λ bad. absurd (cc bad);
+    spared = λ none. absurd (cc none);
     cause = λ bad. absurd (cc bad);
     any_moment = λ es f keeps o opens. inl (kept_opens log s es f keeps o (only_now log o opens));
     quiet = λ es f keeps. record { stays = λ t q. q; adds = λ t le q o opens. inl opens };

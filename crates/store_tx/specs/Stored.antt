@@ -49,11 +49,12 @@ stored_if true entry = None
 stored_if false entry = entry
 
 -- What a log does for a line that stores this entry on this state, if it stores one: it fails at most then, and only if its count rose. A crash at any moment of the call
--- leaves what was there, or that and the pending batch, or that and the entry.
+-- leaves what was there, or that and the pending batch, or that and the entry. Without an entry it isn't called.
 pub record Stores
     {L : Type 0} (faults : L → ℕ) (Keeps : L → State → List Entry → Option (List ℕ) → Type 0) (generation : L → ℕ) (moment : L → ℕ × ℕ) (opens_since : L → ℕ × ℕ → Opening → Type 0) (Quiet : L → ℕ × ℕ → Type 0)
     (s : State) (failed : Bool) (entry : Option Entry) (old new : L) : Type 0 where
   pub some : failed ≡ true → is_some entry ≡ true
+  pub spared : entry ≡ None → new ≡ old
   pub cause : failed ≡ true → Rose (faults old) (faults new)
   pub any_moment : (es : List Entry) (f : Option (List ℕ)) → Keeps old s es f → (o : Opening) → opens_since new (moment old) o → GivesIf (generation old) s es f entry o
   pub quiet : (es : List Entry) (f : Option (List ℕ)) → Keeps old s es f → AddsOnly moment Quiet opens_since old new (GivesIf (generation old) s es f entry)

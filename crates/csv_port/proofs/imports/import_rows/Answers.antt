@@ -5,13 +5,12 @@ use Rattle.std.proofs.Math.ListN.{drop_of_length-le}
 use Rattle.db_value.specs.declared.record.Record.{Record}
 use Rattle.stmt_text.specs.declared.stmt.Stmt.TheVariants.{Commit}
 use Rattle.db_core.specs.Kept.{Logged, world_of}
-use Rattle.db_core.proofs.Answering.{on_err}
 use Rattle.csv_port.specs.Laws.{IsRow}
 use Rattle.csv_port.specs.Lines.{import_lines, insert_row, ReadsAs}
 use Rattle.csv_port.specs.Import.{reply_to, stop_by, told_by, told_from, told_of}
 use Rattle.csv_port.specs.Ran.{RunsFirst}
 use Rattle.csv_port.proofs.LineLemmas.{begin_back, commit_back, insert_back}
-use Rattle.csv_port.proofs.RunLemmas.{Inserted, next_row, all_at, done_all, tells_stop, first_none, first_some, inserted_none, told_none, inserted_more, told_more, told_stop, first_all, ends_by}
+use Rattle.csv_port.proofs.RunLemmas.{Inserted, next_row, all_at, done_all, tells_stop, first_none, first_some, inserted_none, told_none, inserted_more, told_more, told_stop, first_all, ends_by, stops_row}
 use Rattle.csv_port.proofs.imports.import_rows.Goals as goal
 
 pub run_stmt-requires : goal.run_stmt-requires
@@ -52,9 +51,6 @@ returns-in_err-reply-clause-first g c =
     let rows = c.args.rows.now in
     subst (λ (k : Logged g.row.J.Denot). RunsFirst g.J.Log.faults g.J.Log.Keeps g.J.Log.generation g.J.Log.moment g.J.Log.opens_since g.J.Log.Quiet c.args.core.now k (import_lines c.args.relation.now c.args.rows.now)) (sym c.in_err-reply.ensures.err) (first_some g.J.Log.faults g.J.Log.Keeps g.J.Log.generation g.J.Log.moment g.J.Log.opens_since g.J.Log.Quiet c.args.core.now c.args.relation.now c.args.rows.now c.stands.ensures c.requires.can.fresh c.requires.some c.loop-row.core d.0 (drop i rows) d.1 d.3)
 
-pub returns-in_err-reply-clause-stays : goal.returns-in_err-reply-clause-stays
-returns-in_err-reply-clause-stays g c = on_err c.from_residual-in_err-reply.result _ (ap (λ (k : Logged g.row.J.Denot). k.kept.now) c.in_err-reply.ensures.err ∙ c.loop-row.invariant.done.3.still)
-
 pub returns-in-Some-clause-told : goal.returns-in-Some-clause-told
 returns-in-Some-clause-told g c =
     let d = c.loop-row.invariant.done in
@@ -82,8 +78,8 @@ returns-in-Some-clause-first g c =
     let ins = inserted_more g.J.Log.faults g.J.Log.Keeps g.J.Log.generation g.J.Log.moment g.J.Log.opens_since g.J.Log.Quiet c.args.core.now c.args.relation.now c.args.rows.now c.stands.ensures c.requires.can.fresh c.requires.some c.loop-row.core c.run_stmt-in-loop-row.new.core d.0 left row c.in_ok-reply.reply d.3 reads c.run_stmt-in-loop-row.ensures.stands c.in_ok-reply.ensures.ran in
     first_some g.J.Log.faults g.J.Log.Keeps g.J.Log.generation g.J.Log.moment g.J.Log.opens_since g.J.Log.Quiet c.args.core.now c.args.relation.now c.args.rows.now c.stands.ensures c.requires.can.fresh c.requires.some c.run_stmt-in-loop-row.new.core (d.0 ++ row ∷ []) left parts2 ins
 
-pub returns-in-Some-clause-stays : goal.returns-in-Some-clause-stays
-returns-in-Some-clause-stays g c =
+pub returns-in-Some-clause-stops : goal.returns-in-Some-clause-stops
+returns-in-Some-clause-stops g c =
     let d = c.loop-row.invariant.done in
     let i = c.loop-row.row-index in
     let rows = c.args.rows.now in
@@ -93,7 +89,8 @@ returns-in-Some-clause-stays g c =
     let parts : rows ≡ d.0 ++ row ∷ left = d.1 ∙ ap (λ (t : List Record). d.0 ++ t) next in
     let reads : ReadsAs (insert_row c.args.relation.now row) = insert_back c.args.relation.now c.requires.can.rows.columns row c.requires.can.named c.requires.can.rows.some c.requires.can.rows.few (all_at (IsRow c.requires.can.rows.columns) d.0 left row (subst (AllByRecursion (IsRow c.requires.can.rows.columns)) parts c.requires.can.rows.rows_are)) in
     let ins = inserted_more g.J.Log.faults g.J.Log.Keeps g.J.Log.generation g.J.Log.moment g.J.Log.opens_since g.J.Log.Quiet c.args.core.now c.args.relation.now c.args.rows.now c.stands.ensures c.requires.can.fresh c.requires.some c.loop-row.core c.run_stmt-in-loop-row.new.core d.0 left row c.in_ok-reply.reply d.3 reads c.run_stmt-in-loop-row.ensures.stands c.in_ok-reply.ensures.ran in
-    ins.still
+    let stop : stop_by (i + 1) c.in_ok-reply.reply ≡ Some c.in-Some.stop = ap (λ (n : ℕ). stop_by (n + 1) c.in_ok-reply.reply) (sym c.loop-row.invariant.number) ∙ sym c.stop_by.ensures ∙ c.in-Some.is in
+    stops_row g.J.Log.faults g.J.Log.Keeps g.J.Log.generation g.J.Log.moment g.J.Log.opens_since g.J.Log.Quiet c.args.core.now c.run_stmt-in-loop-row.new.core (i + 1) c.in_ok-reply.reply c.in-Some.stop stop ins.still ins.spared
 
 pub loop-row-preserved : goal.loop-row-preserved
 loop-row-preserved g c =
@@ -128,9 +125,6 @@ returns-in_err-reply-2-clause-first g c =
     let i = c.loop-row.row-index in
     let rows = c.args.rows.now in
     subst (λ (k : Logged g.row.J.Denot). RunsFirst g.J.Log.faults g.J.Log.Keeps g.J.Log.generation g.J.Log.moment g.J.Log.opens_since g.J.Log.Quiet c.args.core.now k (import_lines c.args.relation.now c.args.rows.now)) (sym c.in_err-reply-2.ensures.err) (first_some g.J.Log.faults g.J.Log.Keeps g.J.Log.generation g.J.Log.moment g.J.Log.opens_since g.J.Log.Quiet c.args.core.now c.args.relation.now c.args.rows.now c.stands.ensures c.requires.can.fresh c.requires.some c.loop-row.core d.0 (drop i rows) d.1 d.3)
-
-pub returns-in_err-reply-2-clause-stays : goal.returns-in_err-reply-2-clause-stays
-returns-in_err-reply-2-clause-stays g c = on_err c.from_residual-in_err-reply-2.result _ (ap (λ (k : Logged g.row.J.Denot). k.kept.now) c.in_err-reply-2.ensures.err ∙ c.loop-row.invariant.done.3.still)
 
 pub returns-clause-told : goal.returns-clause-told
 returns-clause-told g c =
@@ -174,8 +168,8 @@ returns-clause-all g c =
     let ends = ends_by g.J.Log.faults g.J.Log.Keeps g.J.Log.generation g.J.Log.moment g.J.Log.opens_since g.J.Log.Quiet c.args.core.now c.args.relation.now c.args.rows.now c.stands.ensures c.requires.can.fresh c.requires.some c.loop-row.core c.run_stmt-2.new.core c.in_ok-reply-2.reply ins c.run_stmt-2.ensures.stands c.in_ok-reply-2.ensures.ran c.told_by.result told is in
     ends.all
 
-pub returns-clause-stays : goal.returns-clause-stays
-returns-clause-stays g c =
+pub returns-clause-stops : goal.returns-clause-stops
+returns-clause-stops g c =
     let d = c.loop-row.invariant.done in
     let i = c.loop-row.row-index in
     let rows = c.args.rows.now in
@@ -186,18 +180,4 @@ returns-clause-stays g c =
     let told : told_of c.args.core.now.kept.now c.args.relation.now rows ≡ told_by (length rows) (reply_to (world_of c.loop-row.core.kept) Commit) = d.4 ∙ ap (λ (rs : List Record). told_from (world_of c.loop-row.core.kept) c.args.relation.now i rs) (drop_of_length-le rows short) ∙ ap (λ (n : ℕ). told_by n (reply_to (world_of c.loop-row.core.kept) Commit)) count in
     let is : c.told_by.result ≡ told_by (length rows) c.in_ok-reply-2.reply = c.told_by.ensures ∙ ap (λ (n : ℕ). told_by n c.in_ok-reply-2.reply) (let e = c.loop-row.invariant.number in let s = c.requires.can.rows.short in omega (arith, e, count, s)) in
     let ends = ends_by g.J.Log.faults g.J.Log.Keeps g.J.Log.generation g.J.Log.moment g.J.Log.opens_since g.J.Log.Quiet c.args.core.now c.args.relation.now c.args.rows.now c.stands.ensures c.requires.can.fresh c.requires.some c.loop-row.core c.run_stmt-2.new.core c.in_ok-reply-2.reply ins c.run_stmt-2.ensures.stands c.in_ok-reply-2.ensures.ran c.told_by.result told is in
-    ends.stays
-
-pub returns-clause-fault : goal.returns-clause-fault
-returns-clause-fault g c =
-    let d = c.loop-row.invariant.done in
-    let i = c.loop-row.row-index in
-    let rows = c.args.rows.now in
-    let all : d.0 ≡ rows = done_all rows d.0 i d.1 (let f = c.loop-row-test.false in omega (arith, f)) in
-    let short : length rows ≤ i = (let f = c.loop-row-test.false in omega (arith, f)) in
-    let ins = subst (λ (rs : List Record). Inserted g.J.Log.faults g.J.Log.Keeps g.J.Log.generation g.J.Log.moment g.J.Log.opens_since g.J.Log.Quiet c.args.core.now c.loop-row.core c.args.relation.now rs) all d.3 in
-    let count : i ≡ length rows = sym d.2 ∙ ap length all in
-    let told : told_of c.args.core.now.kept.now c.args.relation.now rows ≡ told_by (length rows) (reply_to (world_of c.loop-row.core.kept) Commit) = d.4 ∙ ap (λ (rs : List Record). told_from (world_of c.loop-row.core.kept) c.args.relation.now i rs) (drop_of_length-le rows short) ∙ ap (λ (n : ℕ). told_by n (reply_to (world_of c.loop-row.core.kept) Commit)) count in
-    let is : c.told_by.result ≡ told_by (length rows) c.in_ok-reply-2.reply = c.told_by.ensures ∙ ap (λ (n : ℕ). told_by n c.in_ok-reply-2.reply) (let e = c.loop-row.invariant.number in let s = c.requires.can.rows.short in omega (arith, e, count, s)) in
-    let ends = ends_by g.J.Log.faults g.J.Log.Keeps g.J.Log.generation g.J.Log.moment g.J.Log.opens_since g.J.Log.Quiet c.args.core.now c.args.relation.now c.args.rows.now c.stands.ensures c.requires.can.fresh c.requires.some c.loop-row.core c.run_stmt-2.new.core c.in_ok-reply-2.reply ins c.run_stmt-2.ensures.stands c.in_ok-reply-2.ensures.ran c.told_by.result told is in
-    ends.fault
+    ends.stops
