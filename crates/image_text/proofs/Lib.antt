@@ -1,0 +1,6 @@
+pub mod Loop
+pub mod Counted
+pub mod Takes
+pub mod PageLaw
+pub mod SegmentLaw
+pub mod WholeLaw

@@ -1,0 +1,11 @@
+use Rattle.std.proofs.Common.{◌≡◌, length, []}
+use Rattle.std.specs.Prelude.{replicate}
+use Rattle.std.proofs.lemmas.Result.{err_from_is_err_and}
+use Rattle.image_text.specs.Reading.{repeat, next_row}
+use Rattle.image_text.proofs.Loop.{ends, is_done}
+use Rattle.image_text.proofs.numbers.Reader.rows.Goals as goal
+
+pub returns-in_err-next_row : goal.returns-in_err-next_row
+returns-in_err-next_row c =
+    let p = err_from_is_err_and c.from_residual.result c.from_residual.ensures.1 in
+    rw (p.1, p.2) (ends c.in_err-next_row.field-0.0 (next_row c.args.lasts.now c.args.size) c.args.count c.loop.counter c.loop.rows.items c.loop.self.rest.now (repeat (next_row c.args.lasts.now c.args.size) c.args.count [] c.args.self.now.rest.now) c.loop-test.true c.in_err-next_row.ensures c.loop.invariant)
