@@ -1,8 +1,8 @@
 //! The text of an image of a dataset: its grammar, its one spelling, and how its parts are read.
 //!
-//! The layer above relies on one statement: `parts` gives what the grammar makes of the bytes, or how
-//! many bytes are left at the first fault (`parts_at` in `specs/Reading.antt`). What is read stands in
-//! its one spelling (`spelling` in `specs/Spelling.antt`).
+//! The layer above relies on one statement: `parts` gives what the grammar makes of the bytes, or
+//! how many bytes are left at the first fault (`parts_at` in `specs/Reading.antt`). What is read
+//! stands in its one spelling (`spelling` in `specs/Spelling.antt`).
 //!
 //! | file | has |
 //! |---|---|

@@ -95,7 +95,8 @@ impl<'a> Reader<'a> {
 
     #[tactic(auto, unfolding(crate::specs::Reading::next_name))]
     fn next_name(&mut self, names: &mut Vec<Name>) -> Result<(), Stop>
-        ensures { Gives (λ x. (names.new.items, self.new.rest.now)) result (next_name names.old.items self.old.rest.now) }
+        ensures { Gives (λ x. (names.new.items, self.new.rest.now)) result
+            (next_name names.old.items self.old.rest.now) }
     {
         let left = self.left();
         let name = self.name()?;
@@ -108,7 +109,8 @@ impl<'a> Reader<'a> {
 
     #[tactic(auto, using(crate::proofs::Loop::goes_on, crate::proofs::Loop::ends, crate::proofs::Loop::is_done))]
     fn names(&mut self, alloc: Global, count: u8) -> Result<Vec<Name>, Stop>
-        ensures { Gives (λ x. (x.items, self.new.rest.now)) result (repeat next_name count [] self.old.rest.now) }
+        ensures { Gives (λ x. (x.items, self.new.rest.now)) result
+            (repeat next_name count [] self.old.rest.now) }
     {
         let mut names: Vec<Name> = Vec::new(alloc);
         for _ in 0..count {
@@ -119,7 +121,8 @@ impl<'a> Reader<'a> {
 
     #[tactic(auto, unfolding(crate::specs::Reading::next_relation))]
     fn next_relation(&mut self, alloc: Global, relations: &mut Vec<Relation>) -> Result<(), Stop>
-        ensures { Gives (λ x. (relations.new.items, self.new.rest.now)) result (next_relation relations.old.items self.old.rest.now) }
+        ensures { Gives (λ x. (relations.new.items, self.new.rest.now)) result
+            (next_relation relations.old.items self.old.rest.now) }
     {
         let left = self.left();
         let name = self.name()?;
@@ -138,7 +141,8 @@ impl<'a> Reader<'a> {
 
     #[tactic(auto, using(crate::proofs::Loop::goes_on, crate::proofs::Loop::ends, crate::proofs::Loop::is_done))]
     fn relations_of(&mut self, alloc: Global, count: u8) -> Result<Vec<Relation>, Stop>
-        ensures { Gives (λ x. (x.items, self.new.rest.now)) result (repeat next_relation count [] self.old.rest.now) }
+        ensures { Gives (λ x. (x.items, self.new.rest.now)) result
+            (repeat next_relation count [] self.old.rest.now) }
     {
         let mut relations: Vec<Relation> = Vec::new(alloc);
         for _ in 0..count {
@@ -150,7 +154,8 @@ impl<'a> Reader<'a> {
     /// One to 8 relations.
     #[tactic(auto, unfolding(crate::specs::Reading::relations_at))]
     pub fn relations(&mut self, alloc: Global) -> Result<Vec<Relation>, Stop>
-        ensures { Gives (λ x. (x.items, self.new.rest.now)) result (relations_at self.old.rest.now) }
+        ensures { Gives (λ x. (x.items, self.new.rest.now)) result
+            (relations_at self.old.rest.now) }
     {
         let left = self.left();
         let count = self.u8()?;
@@ -166,7 +171,8 @@ impl<'a> Reader<'a> {
         branches: &mut Vec<BranchPart>,
         bases: &mut Vec<VersionPlace>,
     ) -> Result<(), Stop>
-        ensures { Gives (λ x. ((branches.new.items, bases.new.items), self.new.rest.now)) result (next_branch (branches.old.items, bases.old.items) self.old.rest.now) }
+        ensures { Gives (λ x. ((branches.new.items, bases.new.items), self.new.rest.now)) result
+            (next_branch (branches.old.items, bases.old.items) self.old.rest.now) }
     {
         let left = self.left();
         let name = self.name()?;
@@ -196,7 +202,8 @@ impl<'a> Reader<'a> {
         alloc: Global,
         count: u32,
     ) -> Result<(Vec<BranchPart>, Vec<VersionPlace>), Stop>
-        ensures { Gives (λ x. ((x.0.items, x.1.items), self.new.rest.now)) result (repeat next_branch count ([], []) self.old.rest.now) }
+        ensures { Gives (λ x. ((x.0.items, x.1.items), self.new.rest.now)) result
+            (repeat next_branch count ([], []) self.old.rest.now) }
     {
         let mut branches: Vec<BranchPart> = Vec::new(alloc);
         let mut bases: Vec<VersionPlace> = Vec::new(alloc);
@@ -209,7 +216,8 @@ impl<'a> Reader<'a> {
     /// One to 1,024 branches, and the version that position 0 of each is.
     #[tactic(auto, unfolding(crate::specs::Reading::branches_at))]
     pub fn branches(&mut self, alloc: Global) -> Result<(Vec<BranchPart>, Vec<VersionPlace>), Stop>
-        ensures { Gives (λ x. ((x.0.items, x.1.items), self.new.rest.now)) result (branches_at self.old.rest.now) }
+        ensures { Gives (λ x. ((x.0.items, x.1.items), self.new.rest.now)) result
+            (branches_at self.old.rest.now) }
     {
         let left = self.left();
         let count = self.u32()?;

@@ -43,7 +43,8 @@ pub fn pages_for(columns: u8, count: u32) -> u32
 
 impl<'a> Reader<'a> {
     fn next_value(&mut self, values: &mut Vec<i64>) -> Result<(), Stop>
-        ensures { Gives (λ x. (values.new.items, self.new.rest.now)) result (next_value values.old.items self.old.rest.now) }
+        ensures { Gives (λ x. (values.new.items, self.new.rest.now)) result
+            (next_value values.old.items self.old.rest.now) }
     {
         let value = self.i64()?;
         values.push(value)?;
@@ -52,7 +53,8 @@ impl<'a> Reader<'a> {
 
     #[tactic(auto, using(crate::proofs::Loop::goes_on, crate::proofs::Loop::ends, crate::proofs::Loop::is_done))]
     fn values(&mut self, columns: u8, values: &mut Vec<i64>) -> Result<(), Stop>
-        ensures { Gives (λ x. (values.new.items, self.new.rest.now)) result (repeat next_value columns [] self.old.rest.now) }
+        ensures { Gives (λ x. (values.new.items, self.new.rest.now)) result
+            (repeat next_value columns [] self.old.rest.now) }
     {
         values.clear();
         for _ in 0..columns {
@@ -69,7 +71,8 @@ impl<'a> Reader<'a> {
         records: &mut Vec<Record>,
     ) -> Result<(), Stop>
         requires { (0 < columns) × (columns ≤ 15) }
-        ensures { Gives (λ x. (records.new.items, self.new.rest.now)) result (next_record columns records.old.items self.old.rest.now) }
+        ensures { Gives (λ x. (records.new.items, self.new.rest.now)) result
+            (next_record columns records.old.items self.old.rest.now) }
     {
         let key = self.u64()?;
         self.values(columns, values)?;
@@ -89,7 +92,8 @@ impl<'a> Reader<'a> {
         records: &mut Vec<Record>,
     ) -> Result<(), Stop>
         requires { (0 < columns) × (columns ≤ 15) }
-        ensures { Gives (λ x. (records.new.items, self.new.rest.now)) result (repeat (next_record columns) count records.old.items self.old.rest.now) }
+        ensures { Gives (λ x. (records.new.items, self.new.rest.now)) result
+            (repeat (next_record columns) count records.old.items self.old.rest.now) }
     {
         for _ in 0..count {
             self.next_record(columns, values, records)?;
@@ -107,7 +111,8 @@ impl<'a> Reader<'a> {
         records: &mut Vec<Record>,
     ) -> Result<(), Stop>
         requires { (0 < columns) × (columns ≤ 15) }
-        ensures { Gives (λ x. (records.new.items, [])) result (page_in columns count records.old.items self.old.rest.now) }
+        ensures { Gives (λ x. (records.new.items, [])) result
+            (page_in columns count records.old.items self.old.rest.now) }
     {
         let left = self.left();
         let counted = self.u16()?;
@@ -145,7 +150,8 @@ impl<'a> Reader<'a> {
         records: &mut Vec<Record>,
     ) -> Result<u32, Stop>
         requires { (0 < columns) × (columns ≤ 15) }
-        ensures { Gives (λ x. ((x, records.new.items), self.new.rest.now)) result (next_page columns (more, records.old.items) self.old.rest.now) }
+        ensures { Gives (λ x. ((x, records.new.items), self.new.rest.now)) result
+            (next_page columns (more, records.old.items) self.old.rest.now) }
     {
         let left = self.left();
         if left < PAGE {
@@ -174,7 +180,8 @@ impl<'a> Reader<'a> {
         count: u32,
     ) -> Result<(u32, Vec<Record>), Stop>
         requires { (0 < columns) × (columns ≤ 15) }
-        ensures { Gives (λ x. ((x.0, x.1.items), self.new.rest.now)) result (repeat (next_page columns) pages (count, []) self.old.rest.now) }
+        ensures { Gives (λ x. ((x.0, x.1.items), self.new.rest.now)) result
+            (repeat (next_page columns) pages (count, []) self.old.rest.now) }
     {
         let mut values: Vec<i64> = Vec::new(alloc);
         let mut records: Vec<Record> = Vec::new(alloc);

@@ -31,7 +31,8 @@ impl<'a> Reader<'a> {
         segments: &mut Vec<SegmentPart>,
     ) -> Result<(), Stop>
         requires { (0 < columns) × (columns ≤ 15) }
-        ensures { Gives (λ x. (segments.new.items, self.new.rest.now)) result (next_segment columns lasts.now segments.old.items self.old.rest.now) }
+        ensures { Gives (λ x. (segments.new.items, self.new.rest.now)) result
+            (next_segment columns lasts.now segments.old.items self.old.rest.now) }
     {
         let left = self.left();
         let head = self.u32()?;
@@ -68,7 +69,8 @@ impl<'a> Reader<'a> {
         count: u32,
     ) -> Result<Vec<SegmentPart>, Stop>
         requires { (0 < columns) × (columns ≤ 15) }
-        ensures { Gives (λ x. (x.items, self.new.rest.now)) result (repeat (next_segment columns lasts.now) count [] self.old.rest.now) }
+        ensures { Gives (λ x. (x.items, self.new.rest.now)) result
+            (repeat (next_segment columns lasts.now) count [] self.old.rest.now) }
     {
         let mut segments: Vec<SegmentPart> = Vec::new(alloc);
         for _ in 0..count {
@@ -87,7 +89,8 @@ impl<'a> Reader<'a> {
     ) -> Result<(), Stop>
         requires counted { is_counted relations.now ≡ true }
         requires within { length segments.old.items < length relations.now }
-        ensures exact { Gives (λ x. (segments.new.items, self.new.rest.now)) result (next_segments relations.now lasts.now segments.old.items self.old.rest.now) }
+        ensures exact { Gives (λ x. (segments.new.items, self.new.rest.now)) result
+            (next_segments relations.now lasts.now segments.old.items self.old.rest.now) }
         ensures one { OnOk result (length segments.new.items ≡ length segments.old.items + 1) }
     {
         let left = self.left();
@@ -109,7 +112,9 @@ impl<'a> Reader<'a> {
         lasts: &[u32],
     ) -> Result<Vec<ListOf<SegmentPart>>, Stop>
         requires { is_counted relations.now ≡ true }
-        ensures { Gives (λ x. (x.items, self.new.rest.now)) result (repeat (next_segments relations.now lasts.now) (length relations.now) [] self.old.rest.now) }
+        ensures { Gives (λ x. (x.items, self.new.rest.now)) result
+            (repeat (next_segments relations.now lasts.now) (length relations.now) []
+            self.old.rest.now) }
     {
         let mut segments: Vec<ListOf<SegmentPart>> = Vec::new(alloc);
         let count = relations.len();

@@ -66,7 +66,8 @@ fn are_blank(deltas: &[Delta]) -> bool
 
 impl<'a> Reader<'a> {
     fn next_word(&mut self, words: &mut Vec<u64>) -> Result<(), Stop>
-        ensures { Gives (λ x. (words.new.items, self.new.rest.now)) result (next_word words.old.items self.old.rest.now) }
+        ensures { Gives (λ x. (words.new.items, self.new.rest.now)) result
+            (next_word words.old.items self.old.rest.now) }
     {
         let word = self.u64()?;
         words.push(word)?;
@@ -75,7 +76,8 @@ impl<'a> Reader<'a> {
 
     #[tactic(auto, using(crate::proofs::Loop::goes_on, crate::proofs::Loop::ends, crate::proofs::Loop::is_done))]
     fn words(&mut self, alloc: Global, count: u32) -> Result<Vec<u64>, Stop>
-        ensures { Gives (λ x. (x.items, self.new.rest.now)) result (repeat next_word count [] self.old.rest.now) }
+        ensures { Gives (λ x. (x.items, self.new.rest.now)) result
+            (repeat next_word count [] self.old.rest.now) }
     {
         let mut words: Vec<u64> = Vec::new(alloc);
         for _ in 0..count {
@@ -86,7 +88,8 @@ impl<'a> Reader<'a> {
 
     #[tactic(auto, unfolding(crate::specs::Reading::next_delta))]
     fn next_delta(&mut self, alloc: Global, size: u32, deltas: &mut Vec<Delta>) -> Result<(), Stop>
-        ensures { Gives (λ x. (deltas.new.items, self.new.rest.now)) result (next_delta size deltas.old.items self.old.rest.now) }
+        ensures { Gives (λ x. (deltas.new.items, self.new.rest.now)) result
+            (next_delta size deltas.old.items self.old.rest.now) }
     {
         let left = self.left();
         let first = self.u32()?;
@@ -111,7 +114,8 @@ impl<'a> Reader<'a> {
         count: u32,
         deltas: &mut Vec<Delta>,
     ) -> Result<(), Stop>
-        ensures { Gives (λ x. (deltas.new.items, self.new.rest.now)) result (repeat (next_delta size) count deltas.old.items self.old.rest.now) }
+        ensures { Gives (λ x. (deltas.new.items, self.new.rest.now)) result
+            (repeat (next_delta size) count deltas.old.items self.old.rest.now) }
     {
         for _ in 0..count {
             self.next_delta(alloc, size, deltas)?;
@@ -127,7 +131,8 @@ impl<'a> Reader<'a> {
         size: u32,
         rows: &mut Vec<RowPart>,
     ) -> Result<(), Stop>
-        ensures { Gives (λ x. (rows.new.items, self.new.rest.now)) result (next_row lasts.now size rows.old.items self.old.rest.now) }
+        ensures { Gives (λ x. (rows.new.items, self.new.rest.now)) result
+            (next_row lasts.now size rows.old.items self.old.rest.now) }
     {
         let left = self.left();
         let branch = self.u32()?;
@@ -164,7 +169,8 @@ impl<'a> Reader<'a> {
         size: u32,
         count: u32,
     ) -> Result<Vec<RowPart>, Stop>
-        ensures { Gives (λ x. (x.items, self.new.rest.now)) result (repeat (next_row lasts.now size) count [] self.old.rest.now) }
+        ensures { Gives (λ x. (x.items, self.new.rest.now)) result
+            (repeat (next_row lasts.now size) count [] self.old.rest.now) }
     {
         let mut rows: Vec<RowPart> = Vec::new(alloc);
         for _ in 0..count {

@@ -60,7 +60,8 @@ impl<'a> Reader<'a> {
         bases: &[VersionPlace],
         lasts: &[u32],
     ) -> Result<Option<VersionPlace>, Stop>
-        ensures { Gives (λ x. (x, self.new.rest.now)) result (second_at bases.now lasts.now self.old.rest.now) }
+        ensures { Gives (λ x. (x, self.new.rest.now)) result
+            (second_at bases.now lasts.now self.old.rest.now) }
     {
         let left = self.left();
         let flag = self.u8()?;
@@ -90,7 +91,8 @@ impl<'a> Reader<'a> {
         lasts: &mut Vec<u32>,
         versions: &mut Vec<MadeVersion>,
     ) -> Result<(), Stop>
-        ensures { Gives (λ x. ((lasts.new.items, versions.new.items), self.new.rest.now)) result (next_version bases.now (lasts.old.items, versions.old.items) self.old.rest.now) }
+        ensures { Gives (λ x. ((lasts.new.items, versions.new.items), self.new.rest.now)) result
+            (next_version bases.now (lasts.old.items, versions.old.items) self.old.rest.now) }
     {
         let left = self.left();
         let branch = self.u32()?;
@@ -114,7 +116,9 @@ impl<'a> Reader<'a> {
         bases: &[VersionPlace],
         count: u32,
     ) -> Result<(Vec<u32>, Vec<MadeVersion>), Stop>
-        ensures { Gives (λ x. ((x.0.items, x.1.items), self.new.rest.now)) result (repeat (next_version bases.now) count (replicate (length bases.now) 0, []) self.old.rest.now) }
+        ensures { Gives (λ x. ((x.0.items, x.1.items), self.new.rest.now)) result
+            (repeat (next_version bases.now) count (replicate (length bases.now) 0, [])
+            self.old.rest.now) }
     {
         let mut lasts: Vec<u32> = zeros(alloc, bases.len())?;
         let mut versions: Vec<MadeVersion> = Vec::new(alloc);
@@ -131,7 +135,8 @@ impl<'a> Reader<'a> {
         alloc: Global,
         bases: &[VersionPlace],
     ) -> Result<(Vec<u32>, Vec<MadeVersion>), Stop>
-        ensures { Gives (λ x. ((x.0.items, x.1.items), self.new.rest.now)) result (versions_at bases.now self.old.rest.now) }
+        ensures { Gives (λ x. ((x.0.items, x.1.items), self.new.rest.now)) result
+            (versions_at bases.now self.old.rest.now) }
     {
         let count = self.u32()?;
         self.versions_of(alloc, bases, count)

@@ -1,0 +1,46 @@
+//! How bytes are read as an image.
+ghost use Rattle.std.specs.Prelude.{◌≡◌};
+ghost use Rattle.image_parts.specs.Whole.{Decodes, stop_of};
+
+use image_text::{Image, Stop};
+use image_text::parts;
+use crate::whole::is_whole;
+use std::alloc::Global;
+
+/// Why there is no image.
+#[derive(Clone, Copy, Debug, PartialEq, Eq)]
+pub enum ImageStop {
+    /// 1: the bytes aren't an image. The first item that breaks a rule begins here.
+    NotAnImage { at: u64 },
+    /// 2: want of memory.
+    Memory,
+}
+
+fn stop_of(len: usize, stop: Stop) -> ImageStop
+    ensures { result ≡ stop_of len stop }
+{
+    match stop {
+        Stop::Memory => ImageStop::Memory,
+        Stop::Fault(left) => ImageStop::NotAnImage {
+            at: len.saturating_sub(left) as u64,
+        },
+    }
+}
+
+/// The image that the bytes are.
+#[tactic(auto, unfolding(crate::specs::Whole::image_at))]
+pub fn decode(alloc: Global, bytes: &[u8]) -> Result<Image, ImageStop>
+    ensures { Decodes bytes.now result }
+{
+    let (image, lasts) = match parts(alloc, bytes) {
+        Err(stop) => return Err(stop_of(bytes.len(), stop)),
+        Ok(found) => found,
+    };
+    match is_whole(alloc, &image, &lasts) {
+        Err(_) => Err(ImageStop::Memory),
+        Ok(true) => Ok(image),
+        Ok(false) => Err(ImageStop::NotAnImage {
+            at: bytes.len() as u64,
+        }),
+    }
+}
