@@ -107,9 +107,9 @@ segment_by b ss n at i slot old new lt within less f other =
     f.outside (base_of ss i + slot) (elim (cases_lt i at) [
       | inl before ↦ inl (omega (arith, bases_apart ss i at before (omega (arith, lt)), less))
       | inr le ↦ elim (cases_lt at i) [
-          | inl past ↦ inr (omega (arith, bases_apart ss at i past (omega (arith, within))))
-          | inr ge ↦ absurd (other (omega (arith, le, ge)))
-        ]
+        | inl past ↦ inr (omega (arith, bases_apart ss at i past (omega (arith, within))))
+        | inr ge ↦ absurd (other (omega (arith, le, ge)))
+      ]
     ])
 
 segment_own : (b : ℕ) (ss : List SegmentPart) (n at slot : ℕ) (old new : List Bool) → at < length ss
@@ -119,7 +119,7 @@ segment_own b ss n at slot old new lt f shown less =
     let row : RowPart = row_of b (get_or ss at no_segment).rows in
     f.inside slot less
     ∙ ap (λ (x : Bool). differ (turned (row_of b (get_or ss at no_segment).rows) n slot) x)
-      (shown at lt slot less ∙ ap (λ (m : ℕ). bit_before (row_of b (get_or ss at no_segment).rows) m slot) (ap (λ (x : Bool). cond x (suc n) n) (le-ltb at at (omega arith))))
+    (shown at lt slot less ∙ ap (λ (m : ℕ). bit_before (row_of b (get_or ss at no_segment).rows) m slot) (ap (λ (x : Bool). cond x (suc n) n) (le-ltb at at (omega arith))))
     ∙ sym (bit_next (row_of b (get_or ss at no_segment).rows) n slot)
     ∙ ap (λ (m : ℕ). bit_before (row_of b (get_or ss at no_segment).rows) m slot) (sym (ap (λ (x : Bool). cond x (suc n) n) (lt-ltb at (at + 1) (omega arith))))
 
@@ -131,6 +131,7 @@ segment_next b ss n at old new lt f shown i within slot less = by (nat_lt i at) 
     held : (k : ℕ) → (i ≡ at → ⊥) → cond (nat_lt i at) (suc n) n ≡ k → cond (nat_lt i (at + 1)) (suc n) n ≡ k
         → get_or new (base_of ss i + slot) false ≡ bit_before (row_of b (get_or ss i no_segment).rows) (cond (nat_lt i (at + 1)) (suc n) n) slot
     held k other e f2 = segment_by b ss n at i slot old new lt within less f other ∙ shown i within slot less ∙ ap (λ (m : ℕ). bit_before (row_of b (get_or ss i no_segment).rows) m slot) (e ∙ sym f2)
+
     by : (p q : Bool) → nat_lt i at ≡ p → nat_lt at i ≡ q → get_or new (base_of ss i + slot) false ≡ bit_before (row_of b (get_or ss i no_segment).rows) (cond (nat_lt i (at + 1)) (suc n) n) slot
     by true q e e2 =
         held (suc n) (λ h. absurd (omega (arith, h, ltb-true i at e))) (ap (λ (b : Bool). cond b (suc n) n) e)

@@ -20,6 +20,7 @@ are_made lasts bs = list_all (λ b. is_there lasts b.origin) bs
 
 -- ---- heads
 
+-- a row of the branch is there
 abbrev pub has_row : List RowPart → ℕ → Bool
 has_row rows b = list_any (λ r. r.branch == b) rows
 
@@ -99,6 +100,7 @@ abbrev pub are_distinct : List ℕ → Bool
 are_distinct [] = true
 are_distinct (k ∷ ks) = not (list_any (λ x. x == k) ks) && are_distinct ks
 
+-- the keys are distinct, and at most 262,144
 abbrev pub is_table : List ℕ → Bool
 is_table keys = are_distinct keys && nat_le (length keys) 262144
 
@@ -112,6 +114,7 @@ keys_once lasts ss = list_all (λ b. is_keyed ss (last_of lasts b) b) (range_wit
 
 -- ---- the whole
 
+-- the rules over the whole hold
 unfoldable pub is_whole : Image → List ℕ → Bool
 is_whole i lasts = are_made lasts i.branches && list_all (λ ss. heads_once (length lasts) ss && keys_once lasts ss) i.segments
 

@@ -1,10 +1,10 @@
 //! How bytes are read as an image.
-ghost use Rattle.std.specs.Prelude.{◌≡◌};
+ghost use Rattle.std.specs.Prelude.{◌≡◌, IfOk};
+ghost use Rattle.image_text.specs.Laws.{IsSpelled};
 ghost use Rattle.image_parts.specs.Whole.{Decodes, stop_of};
 
-use image_text::{Image, Stop};
-use image_text::parts;
 use crate::whole::is_whole;
+use image_text::{Image, Stop, parts};
 use std::alloc::Global;
 
 /// Why there is no image.
@@ -27,10 +27,12 @@ fn stop_of(len: usize, stop: Stop) -> ImageStop
     }
 }
 
-/// The image that the bytes are.
+/// The image that the bytes are, or the place of the first item that breaks a rule. The length of the
+/// bytes is told if they end too early, or if a rule over the whole is broken.
 #[tactic(auto, unfolding(crate::specs::Whole::image_at))]
 pub fn decode(alloc: Global, bytes: &[u8]) -> Result<Image, ImageStop>
-    ensures { Decodes bytes.now result }
+    ensures exact { Decodes bytes.now result }
+    ensures spelled { IfOk result (λ image. IsSpelled bytes.now image) }
 {
     let (image, lasts) = match parts(alloc, bytes) {
         Err(stop) => return Err(stop_of(bytes.len(), stop)),

@@ -39,11 +39,7 @@ fn count_of(counts: &BTreeMap<u64, u64>, key: u64) -> u64
     }
 }
 
-fn set_count(
-    counts: &mut BTreeMap<u64, u64>,
-    key: u64,
-    count: u64,
-) -> Result<(), AllocError>
+fn set_count(counts: &mut BTreeMap<u64, u64>, key: u64, count: u64) -> Result<(), AllocError>
     ensures { OnOk result ((other : ℕ) → count_of counts.new other
         ≡ cond (key == other) count (count_of counts.old other)) }
 {

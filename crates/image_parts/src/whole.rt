@@ -4,10 +4,9 @@ ghost use Rattle.std.specs.List.{list_all, All};
 ghost use Rattle.std.proofs.Common.{get_or};
 ghost use Rattle.image_parts.specs.Whole.{are_made, has_row, is_kept, one_more, counts_from, heads_once, keys_once, is_whole};
 
-use image_text::{BranchPart, Image, RowPart, SegmentPart};
 use crate::keys::keys_once;
-use image_text::{is_there, zeros};
 use db_value::ListOf;
+use image_text::{BranchPart, Image, RowPart, SegmentPart, is_there, zeros};
 use std::alloc::{AllocError, Global};
 
 fn are_made(lasts: &[u32], branches: &[BranchPart]) -> bool

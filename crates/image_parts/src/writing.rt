@@ -5,9 +5,8 @@ ghost use Rattle.std.specs.Int.{w16, to_le_bytes};
 ghost use Rattle.image_text.specs.Reading.{pages_for};
 ghost use Rattle.image_text.specs.Spelling.{Fits, FitsRelation, FitsRow, FitsSegment, FitsSegments, counted, name_bytes, relation_bytes, relations_bytes, place_bytes, branch_bytes, second_bytes, version_bytes, value_bytes, record_bytes, page_bytes, pages_bytes, word_bytes, delta_bytes, row_bytes, segment_bytes, segments_bytes, spelling};
 
-use image_text::{BranchPart, Delta, Image, MadeVersion, RowPart, SegmentPart};
-use image_text::{on_page, pages_for};
 use db_value::{ListOf, Name, Record, Relation, VersionPlace};
+use image_text::{BranchPart, Delta, Image, MadeVersion, RowPart, SegmentPart, on_page, pages_for};
 use std::alloc::{AllocError, Global};
 
 #[tactic(auto, using(crate::proofs::Write::one_zero))]

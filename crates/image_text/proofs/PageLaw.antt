@@ -9,10 +9,15 @@ use Rattle.db_value.specs.Padded.{padded}
 use Rattle.db_value.specs.declared.record.Record.{Record}
 use Rattle.image_text.specs.Reading.{◌>>=◌, Read, test, enough, repeat, byte_at, number_at, are_zero, next_record, page_in, at_fault, next_page, on_page, capacity}
 use Rattle.image_text.specs.Spelling.{record_bytes, page_bytes, pages_bytes}
-use Rattle.image_text.specs.Laws.{IsBytes, Takes, rooms}
+use Rattle.image_text.specs.Laws.{IsBytes}
 use Rattle.image_text.proofs.Loop.{bind_ok, ok_is}
 use Rattle.image_text.proofs.Counted.{tested, both_true}
-use Rattle.image_text.proofs.Takes.{IsBytes-drop, IsBytes-take, Takes-then, enough_is, wide16, number_takes, byte_takes, repeat_takes, next_record_takes}
+use Rattle.image_text.proofs.Takes.{IsBytes-drop, IsBytes-take, Takes-then, enough_is, wide16, number_takes, byte_takes, repeat_takes, next_record_takes, Takes, Always}
+
+-- as much as so many pages hold
+abbrev pub rooms : ℕ → ℕ → ℕ
+rooms c zero = 0
+rooms c (suc k) = c + rooms c k
 
 zeros_are : (bytes : List ℕ) → are_zero bytes ≡ true → bytes ≡ replicate (length bytes) 0
 zeros_are [] e = refl
@@ -55,7 +60,7 @@ page_in_is columns count s b x fits whole e =
     let d = bind_ok (test (are_zero rows.0.1) rows.0.1) (λ d. Ok (rows.0.0, none)) x rows.2 in
     let t0 = (number_takes w16 (2 ^ 16) wide16 b n.0 fits n.1).0 in
     let t1 = byte_takes n.0.1 f.0 t0.rest_fits f.1 in
-    let t2 = repeat_takes record_bytes (next_record columns) (next_record_takes columns) count s (drop 13 f.0.1) rows.0 (IsBytes-drop 13 f.0.1 t1.rest_fits) rows.1 in
+    let t2 = repeat_takes Always record_bytes (next_record columns) (next_record_takes columns) count s (drop 13 f.0.1) rows.0 (IsBytes-drop 13 f.0.1 t1.rest_fits) rows.1 in
     let is = page_is columns count n.0.0 f.0.0 b n.0.1 f.0.1 rows.0.1 t2.0 t0 (eqb-true n.0.0 count (tested _ b c.0 c.1)) t1 (eqb-true f.0.0 columns (tested _ n.0.1 g.0 g.1)) (enough_is 13 f.0.1 h.0 h.1)
     (tested _ f.0.1 z.0 z.1) t2.2 t2.3 (tested _ rows.0.1 d.0 d.1) whole in
     (t2.0, sym (ap (λ (p : List Record × List ℕ). p.0) (ok_is (rows.0.0, none) x d.2)) ∙ t2.1, t2.2, is)

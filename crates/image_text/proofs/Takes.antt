@@ -1,7 +1,8 @@
 -- What is read is spelled so: what each reader takes from the front is the spelling of what it gives.
 use Rattle.std.proofs.Common.{◌≡◌, ℕ, zero, suc, ◌+◌, ◌-◌, ◌*◌, ◌^◌, ◌<◌, ◌≤◌, Bool, true, false, cond, ◌&&◌, ◌||◌, not, ltb, eqb, List, [], ◌∷◌, ◌++◌, length, get_or, take, drop, Option, Some, None, Result, Ok, Err, refl, sym, ap, subst, ◌∙◌, append_assoc, arith, inl, inr}
 use Rattle.std.specs.Prelude.{nat_lt, nat_le, ◌==◌, set, codes}
-use Rattle.std.specs.List.{flat_map, list_any, list_all}
+use Rattle.std.specs.List.{flat_map, list_any, list_all, All}
+use Rattle.std.proofs.lemmas.List.Elements.{All-cons, All-nil}
 use Rattle.std.specs.Int.{Width, w16, w32, w64, byte_len, from_le_bytes, to_le_bytes, cast_signed, cast_unsigned}
 use Rattle.std.proofs.lemmas.Bool.{cases_lt, ltb-false, le-ltb, eqb-true, leb-true}
 use Rattle.std.proofs.lemmas.List.{append-nil, take-append-drop, length-append, length-take, get_or-drop, get_or-take, get_or_past, nil_from_length}
@@ -19,10 +20,29 @@ use Rattle.image_text.specs.declared.image.MadeVersion.{MadeVersion}
 use Rattle.image_text.specs.declared.image.Delta.{Delta}
 use Rattle.image_text.specs.declared.image.RowPart.{RowPart}
 use Rattle.image_text.specs.Reading.{◌>>=◌, Read, test, enough, repeat, byte_at, number_at, signed_at, name_at, next_name, next_relation, relations_at, next_word, next_delta, spans, are_words, has_turn, is_earlier, is_position, base_of, next_branch, last_of, is_begun, second_at, next_version, next_row, rises, are_blank, next_value, next_record}
-use Rattle.image_text.specs.Spelling.{counted, name_bytes, relation_bytes, relations_bytes, word_bytes, delta_bytes, place_bytes, branch_bytes, second_bytes, version_bytes, row_bytes, value_bytes, record_bytes}
-use Rattle.image_text.specs.Laws.{IsBytes, Takes, TakesOne}
+use Rattle.image_text.specs.Spelling.{FitsRelation, FitsRow, counted, name_bytes, relation_bytes, relations_bytes, word_bytes, delta_bytes, place_bytes, branch_bytes, second_bytes, version_bytes, row_bytes, value_bytes, record_bytes}
+use Rattle.image_text.specs.Laws.{IsBytes}
 use Rattle.image_text.proofs.Loop.{bind_ok, ok_is}
-use Rattle.image_text.proofs.Counted.{tested}
+use Rattle.image_text.proofs.Counted.{tested, both_true}
+
+-- a text is taken from the front
+pub record Takes (bytes text rest : List ℕ) : Type 0 where
+  pub parts : bytes ≡ text ++ rest
+  pub rest_fits : IsBytes rest
+
+-- one item more, with its spelling, and with what holds of it
+abbrev pub TakesOne : {A : Type 0} → (A → Type 0) → (A → List ℕ) → List A → List ℕ → List A × List ℕ → Type 0
+TakesOne {A} P spell seen bytes x = (a : A) × (x.0 ≡ seen ++ a ∷ []) × Takes bytes (spell a) x.1 × P a
+
+-- nothing more is asked
+abbrev pub Always : {A : Type 0} → A → Type 0
+Always a = Unit {0}
+
+abbrev pub IsShort : List ℕ → Type 0
+IsShort name = length name ≤ 32
+
+abbrev pub FitsDelta : Delta → Type 0
+FitsDelta d = length d.words < 2 ^ 32
 
 pub IsBytes-drop : (n : ℕ) (bytes : List ℕ) → IsBytes bytes → IsBytes (drop n bytes)
 IsBytes-drop n bytes h i = rw get_or-drop (h (n + i))
@@ -37,9 +57,9 @@ IsBytes-take n bytes h i =
 pub Takes-then : (a x b y c : List ℕ) → Takes a x b → Takes b y c → Takes a (x ++ y) c
 Takes-then a x b y c p q = record { parts = p.parts ∙ ap (λ (t : List ℕ). x ++ t) q.parts ∙ sym (append_assoc x y c); rest_fits = q.rest_fits }
 
--- items, with their spellings
-abbrev pub TakesAll : {A : Type 0} → (A → List ℕ) → ℕ → List A → List ℕ → List A × List ℕ → Type 0
-TakesAll {A} spell k seen bytes x = (got : List A) × (x.0 ≡ seen ++ got) × (length got ≡ k) × Takes bytes (flat_map spell got) x.1
+-- items, with their spellings, and with what holds of each
+abbrev pub TakesAll : {A : Type 0} → (A → Type 0) → (A → List ℕ) → ℕ → List A → List ℕ → List A × List ℕ → Type 0
+TakesAll {A} P spell k seen bytes x = (got : List A) × (x.0 ≡ seen ++ got) × (length got ≡ k) × Takes bytes (flat_map spell got) x.1 × All P got
 
 pub joined : {A : Type 0} (s t : List A) (a : A) (got : List A) → t ≡ s ++ a ∷ [] → t ++ got ≡ s ++ a ∷ got
 joined s t a got e = rw e (append_assoc s (a ∷ []) got)
@@ -47,19 +67,19 @@ joined s t a got e = rw e (append_assoc s (a ∷ []) got)
 pub one_more_text : {A : Type 0} (spell : A → List ℕ) (a : A) (got : List A) (b rest : List ℕ) → Takes b (spell a ++ flat_map spell got) rest → Takes b (flat_map spell (a ∷ got)) rest
 one_more_text spell a got b rest t = rw flat_map-cons t
 
-pub repeat_takes : {A : Type 0} (spell : A → List ℕ) (item : List A → List ℕ → Read (List A))
-    (one : (s : List A) (b : List ℕ) (x : List A × List ℕ) → IsBytes b → item s b ≡ Ok x → TakesOne spell s b x)
-    (k : ℕ) (s : List A) (b : List ℕ) (x : List A × List ℕ) → IsBytes b → repeat item k s b ≡ Ok x → TakesAll spell k s b x
+pub repeat_takes : {A : Type 0} (P : A → Type 0) (spell : A → List ℕ) (item : List A → List ℕ → Read (List A))
+    (one : (s : List A) (b : List ℕ) (x : List A × List ℕ) → IsBytes b → item s b ≡ Ok x → TakesOne P spell s b x)
+    (k : ℕ) (s : List A) (b : List ℕ) (x : List A × List ℕ) → IsBytes b → repeat item k s b ≡ Ok x → TakesAll P spell k s b x
 unfolding repeat
-repeat_takes spell item one zero s b x fits e =
+repeat_takes P spell item one zero s b x fits e =
     let h = ok_is (s, b) x e in
-    subst (λ y. TakesAll spell 0 s b y) h ([], sym (append-nil s), refl, record { parts = refl; rest_fits = fits })
-repeat_takes spell item one (suc k) s b x fits e =
+    subst (λ y. TakesAll P spell 0 s b y) h ([], sym (append-nil s), refl, record { parts = refl; rest_fits = fits }, All-nil P)
+repeat_takes P spell item one (suc k) s b x fits e =
     let a = bind_ok (item s b) (λ y. repeat item k y.0 y.1) x e in
     let first = one s b a.0 fits a.1 in
-    let others = repeat_takes spell item one k a.0.0 a.0.1 x first.2.rest_fits a.2 in
+    let others = repeat_takes P spell item one k a.0.0 a.0.1 x first.2.rest_fits a.2 in
     let both = Takes-then b (spell first.0) a.0.1 (flat_map spell others.0) x.1 first.2 others.3 in
-    (first.0 ∷ others.0, others.1 ∙ joined s a.0.0 first.0 others.0 first.1, ap suc others.2, one_more_text spell first.0 others.0 b x.1 both)
+    (first.0 ∷ others.0, others.1 ∙ joined s a.0.0 first.0 others.0 first.1, ap suc others.2, one_more_text spell first.0 others.0 b x.1 both, All-cons P first.0 others.0 first.3 others.4)
 
 -- ---- numbers
 
@@ -109,7 +129,7 @@ enough_is n bytes u e = ltb-false _ _ (short_ok (ltb (length bytes) n) tt u e).0
 
 -- ---- names
 
-pub name_takes : (bytes : List ℕ) (x : List ℕ × List ℕ) → IsBytes bytes → name_at bytes ≡ Ok x → Takes bytes (name_bytes x.0) x.1
+pub name_takes : (bytes : List ℕ) (x : List ℕ × List ℕ) → IsBytes bytes → name_at bytes ≡ Ok x → Takes bytes (name_bytes x.0) x.1 × (length x.0 ≤ 32)
 unfolding name_at
 name_takes bytes x fits e =
     let n = bind_ok (byte_at bytes) (λ n. test (nat_lt 0 n.0 && nat_le n.0 32) bytes >>= λ c. enough n.0 n.1 >>= λ t. test (is_name (take n.0 n.1)) bytes >>= λ m. Ok (take n.0 n.1, drop n.0 n.1)) x e in
@@ -122,23 +142,25 @@ name_takes bytes x fits e =
     let len : length (take n.0.0 n.0.1) ≡ n.0.0 = omega (arith, length-take n.0.0 n.0.1) in
     let second : Takes n.0.1 (take n.0.0 n.0.1) (drop n.0.0 n.0.1) = record { parts = sym (take-append-drop n.0.0 n.0.1); rest_fits = IsBytes-drop n.0.0 n.0.1 first.rest_fits } in
     let both = Takes-then bytes (n.0.0 ∷ []) n.0.1 (take n.0.0 n.0.1) (drop n.0.0 n.0.1) first second in
-    subst (λ (y : List ℕ × List ℕ). Takes bytes (name_bytes y.0) y.1) h (subst (λ (k : ℕ). Takes bytes (k ∷ take n.0.0 n.0.1) (drop n.0.0 n.0.1)) (sym len) both)
+    let few : n.0.0 ≤ 32 = leb-true n.0.0 32 (both_true (nat_lt 0 n.0.0) (nat_le n.0.0 32) (tested _ bytes c.0 c.1)).1 in
+    subst (λ (y : List ℕ × List ℕ). Takes bytes (name_bytes y.0) y.1 × (length y.0 ≤ 32)) h (subst (λ (k : ℕ). Takes bytes (k ∷ take n.0.0 n.0.1) (drop n.0.0 n.0.1)) (sym len) both, omega (arith, len, few))
 
-pub next_name_takes : (s : List (List ℕ)) (b : List ℕ) (x : List (List ℕ) × List ℕ) → IsBytes b → next_name s b ≡ Ok x → TakesOne name_bytes s b x
+pub next_name_takes : (s : List (List ℕ)) (b : List ℕ) (x : List (List ℕ) × List ℕ) → IsBytes b → next_name s b ≡ Ok x → TakesOne IsShort name_bytes s b x
 unfolding next_name
 next_name_takes s b x fits e =
     let n = bind_ok (name_at b) (λ n. test (not (list_any (same n.0) s)) b >>= λ u. Ok (s ++ n.0 ∷ [], n.1)) x e in
     let f = bind_ok (test (not (list_any (same n.0.0) s)) b) (λ u. Ok (s ++ n.0.0 ∷ [], n.0.1)) x n.2 in
-    subst (λ y. TakesOne name_bytes s b y) (ok_is (s ++ n.0.0 ∷ [], n.0.1) x f.2) (n.0.0, refl, name_takes b n.0 fits n.1)
+    let t = name_takes b n.0 fits n.1 in
+    subst (λ y. TakesOne IsShort name_bytes s b y) (ok_is (s ++ n.0.0 ∷ [], n.0.1) x f.2) (n.0.0, refl, t.0, t.1)
 
 -- ---- deltas
 
-pub next_word_takes : (s : List ℕ) (b : List ℕ) (x : List ℕ × List ℕ) → IsBytes b → next_word s b ≡ Ok x → TakesOne word_bytes s b x
+pub next_word_takes : (s : List ℕ) (b : List ℕ) (x : List ℕ × List ℕ) → IsBytes b → next_word s b ≡ Ok x → TakesOne Always word_bytes s b x
 next_word_takes s b x fits e =
     let n = bind_ok (number_at w64 b) (λ w. Ok (s ++ w.0 ∷ [], w.1)) x e in
-    subst (λ y. TakesOne word_bytes s b y) (ok_is (s ++ n.0.0 ∷ [], n.0.1) x n.2) (n.0.0, refl, (number_takes w64 (2 ^ 64) wide64 b n.0 fits n.1).0)
+    subst (λ y. TakesOne Always word_bytes s b y) (ok_is (s ++ n.0.0 ∷ [], n.0.1) x n.2) (n.0.0, refl, (number_takes w64 (2 ^ 64) wide64 b n.0 fits n.1).0, tt)
 
-pub next_delta_takes : (size : ℕ) (s : List Delta) (b : List ℕ) (x : List Delta × List ℕ) → IsBytes b → next_delta size s b ≡ Ok x → TakesOne delta_bytes s b x
+pub next_delta_takes : (size : ℕ) (s : List Delta) (b : List ℕ) (x : List Delta × List ℕ) → IsBytes b → next_delta size s b ≡ Ok x → TakesOne FitsDelta delta_bytes s b x
 unfolding next_delta
 next_delta_takes size s b x fits e =
     let f = bind_ok (number_at w32 b) (λ f. number_at w32 f.1 >>= λ n. test (spans size f.0 n.0) b >>= λ u. repeat next_word n.0 [] n.1 >>= λ ws. test (are_words size f.0 ws.0) b >>= λ v. Ok (s ++ record { first = f.0; words = ws.0 } ∷ [], ws.1)) x e in
@@ -148,21 +170,22 @@ next_delta_takes size s b x fits e =
     let v = bind_ok (test (are_words size f.0.0 ws.0.0) b) (λ v. Ok (s ++ record { first = f.0.0; words = ws.0.0 } ∷ [], ws.0.1)) x ws.2 in
     let t0 = (number_takes w32 (2 ^ 32) wide32 b f.0 fits f.1).0 in
     let t1 = (number_takes w32 (2 ^ 32) wide32 f.0.1 n.0 t0.rest_fits n.1).0 in
-    let t2 = repeat_takes word_bytes next_word next_word_takes n.0.0 [] n.0.1 ws.0 t1.rest_fits ws.1 in
+    let t2 = repeat_takes Always word_bytes next_word next_word_takes n.0.0 [] n.0.1 ws.0 t1.rest_fits ws.1 in
     let words : t2.0 ≡ ws.0.0 = sym t2.1 in
     let e12 = Takes-then f.0.1 (to_le_bytes w32 n.0.0) n.0.1 (flat_map word_bytes t2.0) ws.0.1 t1 t2.3 in
     let same_count : Takes f.0.1 (counted word_bytes t2.0) ws.0.1 = subst (λ (k : ℕ). Takes f.0.1 (to_le_bytes w32 k ++ flat_map word_bytes t2.0) ws.0.1) (sym t2.2) e12 in
     let as_read : Takes f.0.1 (counted word_bytes ws.0.0) ws.0.1 = subst (λ (w : List ℕ). Takes f.0.1 (counted word_bytes w) ws.0.1) words same_count in
     let whole = Takes-then b (to_le_bytes w32 f.0.0) f.0.1 (counted word_bytes ws.0.0) ws.0.1 t0 as_read in
-    subst (λ y. TakesOne delta_bytes s b y) (ok_is (s ++ record { first = f.0.0; words = ws.0.0 } ∷ [], ws.0.1) x v.2) (record { first = f.0.0; words = ws.0.0 }, refl, whole)
+    let few : length ws.0.0 < 2 ^ 32 = omega (arith, (number_takes w32 (2 ^ 32) wide32 f.0.1 n.0 t0.rest_fits n.1).1, ap (λ (l : List ℕ). length l) words, t2.2) in
+    subst (λ y. TakesOne FitsDelta delta_bytes s b y) (ok_is (s ++ record { first = f.0.0; words = ws.0.0 } ∷ [], ws.0.1) x v.2) (record { first = f.0.0; words = ws.0.0 }, refl, whole, few)
 
 -- ---- relations
 
 -- so many items from none on
-pub from_none : {A : Type 0} (spell : A → List ℕ) (k : ℕ) (b : List ℕ) (x : List A × List ℕ) → TakesAll spell k [] b x → (length x.0 ≡ k) × Takes b (flat_map spell x.0) x.1
-from_none {A} spell k b x t = subst (λ l. (length l ≡ k) × Takes b (flat_map spell l) x.1) (sym t.1) (t.2, t.3)
+pub from_none : {A : Type 0} (P : A → Type 0) (spell : A → List ℕ) (k : ℕ) (b : List ℕ) (x : List A × List ℕ) → TakesAll P spell k [] b x → (length x.0 ≡ k) × Takes b (flat_map spell x.0) x.1 × All P x.0
+from_none {A} P spell k b x t = subst (λ l. (length l ≡ k) × Takes b (flat_map spell l) x.1 × All P l) (sym t.1) (t.2, t.3, t.4)
 
-pub next_relation_takes : (s : List Relation) (b : List ℕ) (x : List Relation × List ℕ) → IsBytes b → next_relation s b ≡ Ok x → TakesOne relation_bytes s b x
+pub next_relation_takes : (s : List Relation) (b : List ℕ) (x : List Relation × List ℕ) → IsBytes b → next_relation s b ≡ Ok x → TakesOne FitsRelation relation_bytes s b x
 unfolding next_relation
 next_relation_takes s b x fits e =
     let m = bind_ok (name_at b) (λ name. test (not (is_declared s name.0)) b >>= λ u. byte_at name.1 >>= λ n. test (nat_lt 0 n.0 && nat_le n.0 15) name.1 >>= λ v. repeat next_name n.0 [] n.1 >>= λ columns. Ok (s ++ record { name = name.0; columns = columns.0 } ∷ [], columns.1)) x e in
@@ -170,26 +193,27 @@ next_relation_takes s b x fits e =
     let n = bind_ok (byte_at m.0.1) (λ n. test (nat_lt 0 n.0 && nat_le n.0 15) m.0.1 >>= λ v. repeat next_name n.0 [] n.1 >>= λ columns. Ok (s ++ record { name = m.0.0; columns = columns.0 } ∷ [], columns.1)) x f.2 in
     let g = bind_ok (test (nat_lt 0 n.0.0 && nat_le n.0.0 15) m.0.1) (λ v. repeat next_name n.0.0 [] n.0.1 >>= λ columns. Ok (s ++ record { name = m.0.0; columns = columns.0 } ∷ [], columns.1)) x n.2 in
     let c = bind_ok (repeat next_name n.0.0 [] n.0.1) (λ columns. Ok (s ++ record { name = m.0.0; columns = columns.0 } ∷ [], columns.1)) x g.2 in
-    let t0 = name_takes b m.0 fits m.1 in
+    let named = name_takes b m.0 fits m.1 in
+    let t0 = named.0 in
     let t1 = byte_takes m.0.1 n.0 t0.rest_fits n.1 in
-    let t2 = from_none name_bytes n.0.0 n.0.1 c.0 (repeat_takes name_bytes next_name next_name_takes n.0.0 [] n.0.1 c.0 t1.rest_fits c.1) in
+    let t2 = from_none IsShort name_bytes n.0.0 n.0.1 c.0 (repeat_takes IsShort name_bytes next_name next_name_takes n.0.0 [] n.0.1 c.0 t1.rest_fits c.1) in
     let e12 = Takes-then m.0.1 (n.0.0 ∷ []) n.0.1 (flat_map name_bytes c.0.0) c.0.1 t1 t2.1 in
     let counted12 : Takes m.0.1 (length c.0.0 ∷ flat_map name_bytes c.0.0) c.0.1 = subst (λ k. Takes m.0.1 (k ∷ flat_map name_bytes c.0.0) c.0.1) (sym t2.0) e12 in
     let whole = Takes-then b (name_bytes m.0.0) m.0.1 (length c.0.0 ∷ flat_map name_bytes c.0.0) c.0.1 t0 counted12 in
-    subst (λ y. TakesOne relation_bytes s b y) (ok_is (s ++ record { name = m.0.0; columns = c.0.0 } ∷ [], c.0.1) x c.2) (record { name = m.0.0; columns = c.0.0 }, refl, whole)
+    let few : n.0.0 ≤ 15 = leb-true n.0.0 15 (both_true (nat_lt 0 n.0.0) (nat_le n.0.0 15) (tested _ m.0.1 g.0 g.1)).1 in
+    subst (λ y. TakesOne FitsRelation relation_bytes s b y) (ok_is (s ++ record { name = m.0.0; columns = c.0.0 } ∷ [], c.0.1) x c.2)
+    (record { name = m.0.0; columns = c.0.0 }, refl, whole, record { name = named.1; few = omega (arith, few, t2.0); columns = t2.2 })
 
-pub relations_take : (b : List ℕ) (x : List Relation × List ℕ) → IsBytes b → relations_at b ≡ Ok x → Takes b (relations_bytes x.0) x.1
+pub relations_take : (b : List ℕ) (x : List Relation × List ℕ) → IsBytes b → relations_at b ≡ Ok x → Takes b (relations_bytes x.0) x.1 × (length x.0 ≤ 8) × All FitsRelation x.0
 unfolding relations_at
 relations_take b x fits e =
     let n = bind_ok (byte_at b) (λ n. test (nat_lt 0 n.0 && nat_le n.0 8) b >>= λ u. repeat next_relation n.0 [] n.1) x e in
     let g = bind_ok (test (nat_lt 0 n.0.0 && nat_le n.0.0 8) b) (λ u. repeat next_relation n.0.0 [] n.0.1) x n.2 in
     let t0 = byte_takes b n.0 fits n.1 in
-    let t1 = from_none relation_bytes n.0.0 n.0.1 x (repeat_takes relation_bytes next_relation next_relation_takes n.0.0 [] n.0.1 x t0.rest_fits g.2) in
+    let t1 = from_none FitsRelation relation_bytes n.0.0 n.0.1 x (repeat_takes FitsRelation relation_bytes next_relation next_relation_takes n.0.0 [] n.0.1 x t0.rest_fits g.2) in
     let both = Takes-then b (n.0.0 ∷ []) n.0.1 (flat_map relation_bytes x.0) x.1 t0 t1.1 in
-    subst (λ k. Takes b (k ∷ flat_map relation_bytes x.0) x.1) (sym t1.0) both
-
-pub relations_law : (b : List ℕ) (x : List Relation × List ℕ) → IsBytes b → relations_at b ≡ Ok x → b ≡ relations_bytes x.0 ++ x.1
-relations_law b x fits e = (relations_take b x fits e).parts
+    let few : n.0.0 ≤ 8 = leb-true n.0.0 8 (both_true (nat_lt 0 n.0.0) (nat_le n.0.0 8) (tested _ b g.0 g.1)).1 in
+    (subst (λ k. Takes b (k ∷ flat_map relation_bytes x.0) x.1) (sym t1.0) both, omega (arith, few, t1.0), t1.2)
 
 -- ---- versions
 
@@ -219,7 +243,7 @@ second_takes bases lasts b x fits e =
     second_rest bases lasts b f.0 x t0 (tested _ b g.0 g.1) g.2
 
 pub next_version_takes : (bases : List VersionPlace) (s : List ℕ × List MadeVersion) (b : List ℕ) (x : (List ℕ × List MadeVersion) × List ℕ) → IsBytes b → next_version bases s b ≡ Ok x
-    → (a : MadeVersion) × (x.0.1 ≡ s.1 ++ a ∷ []) × Takes b (version_bytes a) x.1
+    → (a : MadeVersion) × (x.0.1 ≡ s.1 ++ a ∷ []) × Takes b (version_bytes a) x.1 × Always a
 unfolding next_version
 next_version_takes bases s b x fits e =
     let n = bind_ok (number_at w32 b) (λ n. test (is_begun bases s.0 n.0 && nat_lt (last_of s.0 n.0) 65535) b >>= λ u. second_at bases s.0 n.1 >>= λ p. Ok ((set s.0 n.0 (last_of s.0 n.0 + 1), s.1 ++ record { branch = n.0; second = p.0 } ∷ []), p.1)) x e in
@@ -229,12 +253,12 @@ next_version_takes bases s b x fits e =
     let t1 = second_takes bases s.0 n.0.1 p.0 t0.rest_fits p.1 in
     let whole = Takes-then b (to_le_bytes w32 n.0.0) n.0.1 (second_bytes p.0.0) p.0.1 t0 t1 in
     let made : (List ℕ × List MadeVersion) × List ℕ = ((set s.0 n.0.0 (last_of s.0 n.0.0 + 1), s.1 ++ record { branch = n.0.0; second = p.0.0 } ∷ []), p.0.1) in
-    subst (λ (y : (List ℕ × List MadeVersion) × List ℕ). (a : MadeVersion) × (y.0.1 ≡ s.1 ++ a ∷ []) × Takes b (version_bytes a) y.1) (ok_is made x p.2) (record { branch = n.0.0; second = p.0.0 }, refl, whole)
+    subst (λ (y : (List ℕ × List MadeVersion) × List ℕ). (a : MadeVersion) × (y.0.1 ≡ s.1 ++ a ∷ []) × Takes b (version_bytes a) y.1 × Always a) (ok_is made x p.2) (record { branch = n.0.0; second = p.0.0 }, refl, whole, tt)
 
 -- ---- branches
 
 pub next_branch_takes : (s : List BranchPart × List VersionPlace) (b : List ℕ) (x : (List BranchPart × List VersionPlace) × List ℕ) → IsBytes b → next_branch s b ≡ Ok x
-    → (a : BranchPart) × (x.0.0 ≡ s.0 ++ a ∷ []) × Takes b (branch_bytes a) x.1
+    → (a : BranchPart) × (x.0.0 ≡ s.0 ++ a ∷ []) × Takes b (branch_bytes a) x.1 × (length a.name ≤ 32)
 unfolding next_branch
 next_branch_takes s b x fits e =
     let name = bind_ok (name_at b) (λ name. test (has_turn s.0 name.0) b >>= λ u. number_at w32 name.1 >>= λ o. test (is_earlier s.0 o.0) name.1 >>= λ v. number_at w32 o.1 >>= λ p. test (is_position s.0 p.0) o.1 >>= λ w. Ok ((s.0 ++ record { name = name.0; origin = record { branch = o.0; position = p.0 } } ∷ [], s.1 ++ base_of s.1 (record { branch = o.0; position = p.0 }) ∷ []), p.1)) x e in
@@ -243,19 +267,20 @@ next_branch_takes s b x fits e =
     let v = bind_ok (test (is_earlier s.0 o.0.0) name.0.1) (λ v. number_at w32 o.0.1 >>= λ p. test (is_position s.0 p.0) o.0.1 >>= λ w. Ok ((s.0 ++ record { name = name.0.0; origin = record { branch = o.0.0; position = p.0 } } ∷ [], s.1 ++ base_of s.1 (record { branch = o.0.0; position = p.0 }) ∷ []), p.1)) x o.2 in
     let p = bind_ok (number_at w32 o.0.1) (λ p. test (is_position s.0 p.0) o.0.1 >>= λ w. Ok ((s.0 ++ record { name = name.0.0; origin = record { branch = o.0.0; position = p.0 } } ∷ [], s.1 ++ base_of s.1 (record { branch = o.0.0; position = p.0 }) ∷ []), p.1)) x v.2 in
     let w = bind_ok (test (is_position s.0 p.0.0) o.0.1) (λ w. Ok ((s.0 ++ record { name = name.0.0; origin = record { branch = o.0.0; position = p.0.0 } } ∷ [], s.1 ++ base_of s.1 (record { branch = o.0.0; position = p.0.0 }) ∷ []), p.0.1)) x p.2 in
-    let t0 = name_takes b name.0 fits name.1 in
+    let named = name_takes b name.0 fits name.1 in
+    let t0 = named.0 in
     let t1 = (number_takes w32 (2 ^ 32) wide32 name.0.1 o.0 t0.rest_fits o.1).0 in
     let t2 = (number_takes w32 (2 ^ 32) wide32 o.0.1 p.0 t1.rest_fits p.1).0 in
     let e12 = Takes-then name.0.1 (to_le_bytes w32 o.0.0) o.0.1 (to_le_bytes w32 p.0.0) p.0.1 t1 t2 in
     let whole = Takes-then b (name_bytes name.0.0) name.0.1 (to_le_bytes w32 o.0.0 ++ to_le_bytes w32 p.0.0) p.0.1 t0 e12 in
     let made : (List BranchPart × List VersionPlace) × List ℕ = ((s.0 ++ record { name = name.0.0; origin = record { branch = o.0.0; position = p.0.0 } } ∷ [], s.1 ++ base_of s.1 (record { branch = o.0.0; position = p.0.0 }) ∷ []), p.0.1) in
-    subst (λ (y : (List BranchPart × List VersionPlace) × List ℕ). (a : BranchPart) × (y.0.0 ≡ s.0 ++ a ∷ []) × Takes b (branch_bytes a) y.1) (ok_is made x w.2)
-    (record { name = name.0.0; origin = record { branch = o.0.0; position = p.0.0 } }, refl, whole)
+    subst (λ (y : (List BranchPart × List VersionPlace) × List ℕ). (a : BranchPart) × (y.0.0 ≡ s.0 ++ a ∷ []) × Takes b (branch_bytes a) y.1 × (length a.name ≤ 32)) (ok_is made x w.2)
+    (record { name = name.0.0; origin = record { branch = o.0.0; position = p.0.0 } }, refl, whole, named.1)
 
 -- ---- rows
 
-row_text : (s : List RowPart) (b n1 f1 d1 r : List ℕ) (n f k : ℕ) (d ds : List Delta) → Takes b (to_le_bytes w32 n) n1 → Takes n1 (to_le_bytes w32 f) f1 → TakesOne delta_bytes [] f1 (d, d1) → TakesAll delta_bytes k d d1 (ds, r)
-    → TakesOne row_bytes s b (s ++ record { branch = n; from = f; deltas = ds } ∷ [], r)
+row_text : (s : List RowPart) (b n1 f1 d1 r : List ℕ) (n f k : ℕ) (d ds : List Delta) → Takes b (to_le_bytes w32 n) n1 → Takes n1 (to_le_bytes w32 f) f1 → TakesOne FitsDelta delta_bytes [] f1 (d, d1) → TakesAll FitsDelta delta_bytes k d d1 (ds, r)
+    → TakesOne FitsRow row_bytes s b (s ++ record { branch = n; from = f; deltas = ds } ∷ [], r)
 row_text s b n1 f1 d1 r n f k d ds t0 t1 t2 t3 =
     let e23 = Takes-then f1 (delta_bytes t2.0) d1 (flat_map delta_bytes t3.0) r t2.2 t3.3 in
     let all : Takes f1 (flat_map delta_bytes (t2.0 ∷ t3.0)) r = one_more_text delta_bytes t2.0 t3.0 f1 r e23 in
@@ -263,9 +288,9 @@ row_text s b n1 f1 d1 r n f k d ds t0 t1 t2 t3 =
     let as_read : Takes f1 (flat_map delta_bytes ds) r = subst (λ (l : List Delta). Takes f1 (flat_map delta_bytes l) r) (sym both) all in
     let e13 = Takes-then n1 (to_le_bytes w32 f) f1 (flat_map delta_bytes ds) r t1 as_read in
     let whole = Takes-then b (to_le_bytes w32 n) n1 (to_le_bytes w32 f ++ flat_map delta_bytes ds) r t0 e13 in
-    (record { branch = n; from = f; deltas = ds }, refl, whole)
+    (record { branch = n; from = f; deltas = ds }, refl, whole, subst (λ (l : List Delta). All FitsDelta l) (sym both) (All-cons FitsDelta t2.0 t3.0 t2.3 t3.4))
 
-pub next_row_takes : (lasts : List ℕ) (size : ℕ) (s : List RowPart) (b : List ℕ) (x : List RowPart × List ℕ) → IsBytes b → next_row lasts size s b ≡ Ok x → TakesOne row_bytes s b x
+pub next_row_takes : (lasts : List ℕ) (size : ℕ) (s : List RowPart) (b : List ℕ) (x : List RowPart × List ℕ) → IsBytes b → next_row lasts size s b ≡ Ok x → TakesOne FitsRow row_bytes s b x
 unfolding next_row
 next_row_takes lasts size s b x fits e =
     let n = bind_ok (number_at w32 b) (λ n. test (nat_lt n.0 (length lasts) && rises s n.0) b >>= λ u. number_at w32 n.1 >>= λ f. test (nat_le f.0 (last_of lasts n.0)) n.1 >>= λ v. next_delta size [] f.1 >>= λ d. test (f.0 == 0 || are_blank d.0) b >>= λ w. repeat (next_delta size) (last_of lasts n.0 - f.0) d.0 d.1 >>= λ ds. Ok (s ++ record { branch = n.0; from = f.0; deltas = ds.0 } ∷ [], ds.1)) x e in
@@ -278,8 +303,8 @@ next_row_takes lasts size s b x fits e =
     let t0 = (number_takes w32 (2 ^ 32) wide32 b n.0 fits n.1).0 in
     let t1 = (number_takes w32 (2 ^ 32) wide32 n.0.1 f.0 t0.rest_fits f.1).0 in
     let t2 = next_delta_takes size [] f.0.1 d.0 t1.rest_fits d.1 in
-    let t3 = repeat_takes delta_bytes (next_delta size) (next_delta_takes size) (last_of lasts n.0.0 - f.0.0) d.0.0 d.0.1 ds.0 t2.2.rest_fits ds.1 in
-    subst (λ (y : List RowPart × List ℕ). TakesOne row_bytes s b y) (ok_is (s ++ record { branch = n.0.0; from = f.0.0; deltas = ds.0.0 } ∷ [], ds.0.1) x ds.2)
+    let t3 = repeat_takes FitsDelta delta_bytes (next_delta size) (next_delta_takes size) (last_of lasts n.0.0 - f.0.0) d.0.0 d.0.1 ds.0 t2.2.rest_fits ds.1 in
+    subst (λ (y : List RowPart × List ℕ). TakesOne FitsRow row_bytes s b y) (ok_is (s ++ record { branch = n.0.0; from = f.0.0; deltas = ds.0.0 } ∷ [], ds.0.1) x ds.2)
     (row_text s b n.0.1 f.0.1 d.0.1 ds.0.1 n.0.0 f.0.0 (last_of lasts n.0.0 - f.0.0) d.0.0 ds.0.0 t0 t1 t2 t3)
 
 -- ---- records
@@ -296,17 +321,17 @@ signed_takes b x fits e =
     let parts : b ≡ value_bytes (cast_signed w64 (from_le_bytes w64 (take 8 b))) ++ drop 8 b = sym (ap (λ (t : List ℕ). t ++ drop 8 b) text ∙ take-append-drop 8 b) in
     subst (λ (y : Value × List ℕ). Takes b (value_bytes y.0) y.1) g.1 (record { parts = parts; rest_fits = IsBytes-drop 8 b fits })
 
-pub next_value_takes : (s : List Value) (b : List ℕ) (x : List Value × List ℕ) → IsBytes b → next_value s b ≡ Ok x → TakesOne value_bytes s b x
+pub next_value_takes : (s : List Value) (b : List ℕ) (x : List Value × List ℕ) → IsBytes b → next_value s b ≡ Ok x → TakesOne Always value_bytes s b x
 next_value_takes s b x fits e =
     let v = bind_ok (signed_at b) (λ v. Ok (s ++ v.0 ∷ [], v.1)) x e in
-    subst (λ (y : List Value × List ℕ). TakesOne value_bytes s b y) (ok_is (s ++ v.0.0 ∷ [], v.0.1) x v.2) (v.0.0, refl, signed_takes b v.0 fits v.1)
+    subst (λ (y : List Value × List ℕ). TakesOne Always value_bytes s b y) (ok_is (s ++ v.0.0 ∷ [], v.0.1) x v.2) (v.0.0, refl, signed_takes b v.0 fits v.1, tt)
 
-pub next_record_takes : (columns : ℕ) (s : List Record) (b : List ℕ) (x : List Record × List ℕ) → IsBytes b → next_record columns s b ≡ Ok x → TakesOne record_bytes s b x
+pub next_record_takes : (columns : ℕ) (s : List Record) (b : List ℕ) (x : List Record × List ℕ) → IsBytes b → next_record columns s b ≡ Ok x → TakesOne Always record_bytes s b x
 unfolding next_record
 next_record_takes columns s b x fits e =
     let key = bind_ok (number_at w64 b) (λ key. repeat next_value columns [] key.1 >>= λ fields. Ok (s ++ record { key = key.0; fields = fields.0 } ∷ [], fields.1)) x e in
     let f = bind_ok (repeat next_value columns [] key.0.1) (λ fields. Ok (s ++ record { key = key.0.0; fields = fields.0 } ∷ [], fields.1)) x key.2 in
     let t0 = (number_takes w64 (2 ^ 64) wide64 b key.0 fits key.1).0 in
-    let t1 = from_none value_bytes columns key.0.1 f.0 (repeat_takes value_bytes next_value next_value_takes columns [] key.0.1 f.0 t0.rest_fits f.1) in
+    let t1 = from_none Always value_bytes columns key.0.1 f.0 (repeat_takes Always value_bytes next_value next_value_takes columns [] key.0.1 f.0 t0.rest_fits f.1) in
     let whole = Takes-then b (to_le_bytes w64 key.0.0) key.0.1 (flat_map value_bytes f.0.0) f.0.1 t0 t1.1 in
-    subst (λ (y : List Record × List ℕ). TakesOne record_bytes s b y) (ok_is (s ++ record { key = key.0.0; fields = f.0.0 } ∷ [], f.0.1) x f.2) (record { key = key.0.0; fields = f.0.0 }, refl, whole)
+    subst (λ (y : List Record × List ℕ). TakesOne Always record_bytes s b y) (ok_is (s ++ record { key = key.0.0; fields = f.0.0 } ∷ [], f.0.1) x f.2) (record { key = key.0.0; fields = f.0.0 }, refl, whole, tt)

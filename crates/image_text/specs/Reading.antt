@@ -23,6 +23,7 @@ use Rattle.image_text.specs.declared.image.Stop.TheVariants.{Fault, Memory}
 abbrev pub Read : Type 0 → Type 0
 Read A = Result (A × List ℕ) ℕ
 
+-- what is read first, and then by what that gave; a fault stays the first one
 infixl 10 ◌>>=◌
 abbrev pub ◌>>=◌ : {A B : Type 0} → Result A ℕ → (A → Result B ℕ) → Result B ℕ
 (Ok x) >>= f = f x
@@ -43,21 +44,24 @@ repeat item (suc k) s bytes = do
   x ← item s bytes
   repeat item k x.0 x.1
 
--- what a function returned, seen by view, is what reading gives, unless memory ran out
+-- a function that stopped did so at the fault of reading, unless memory ran out
 abbrev pub Fails : {Y : Type 0} → Stop → Result Y ℕ → Type 0
 Fails Memory read = Unit {0}
 Fails (Fault n) read = read ≡ Err n
 
+-- a function returned what reading gives, seen by view, unless memory ran out
 abbrev pub Gives : {X Y : Type 0} → (X → Y) → Result X Stop → Result Y ℕ → Type 0
 Gives view (Ok x) read = read ≡ Ok (view x)
 Gives view (Err e) read = Fails e read
 
 -- ---- numbers
 
+-- the first byte
 abbrev pub byte_at : List ℕ → Read ℕ
 byte_at [] = Err 0
 byte_at (b ∷ bs) = Ok (b, bs)
 
+-- a number without a sign, the lowest byte first
 abbrev pub number_at : Width → List ℕ → Read ℕ
 number_at w bytes = cond (nat_lt (length bytes) (byte_len w)) (Err 0) (Ok (from_le_bytes w (take (byte_len w) bytes), drop (byte_len w) bytes))
 
@@ -102,6 +106,7 @@ relations_at bytes = do
 
 -- ---- branches
 
+-- a branch before has the name
 abbrev pub is_named : List BranchPart → List ℕ → Bool
 is_named seen name = list_any (λ b. same b.name name) seen
 
@@ -115,10 +120,12 @@ abbrev pub is_earlier : List BranchPart → ℕ → Bool
 is_earlier [] o = o == 0
 is_earlier (b ∷ bs) o = nat_lt o (length (b ∷ bs))
 
+-- the position 0 of master, or any position
 abbrev pub is_position : List BranchPart → ℕ → Bool
 is_position [] p = p == 0
 is_position (b ∷ bs) p = true
 
+-- the version from which all are made
 abbrev pub root : VersionPlace
 root = record { branch = 0; position = 0 }
 
@@ -150,6 +157,7 @@ branches_at bytes = do
 abbrev pub last_of : List ℕ → ℕ → ℕ
 last_of lasts b = get_or lasts b 0
 
+-- the version was made
 abbrev pub is_there : List ℕ → VersionPlace → Bool
 is_there lasts at = nat_le at.position (last_of lasts at.branch)
 
@@ -185,17 +193,20 @@ versions_at bases bytes = do
 
 -- ---- pages
 
+-- one value more
 abbrev pub next_value : List Value → List ℕ → Read (List Value)
 next_value seen bytes = do
   v ← signed_at bytes
   Ok (seen ++ v.0 ∷ [], v.1)
 
+-- one record more: its key, and so many fields
 unfoldable pub next_record : ℕ → List Record → List ℕ → Read (List Record)
 next_record columns seen bytes = do
   key ← number_at w64 bytes
   fields ← repeat next_value columns [] key.1
   Ok (seen ++ record { key = key.0; fields = fields.0 } ∷ [], fields.1)
 
+-- no byte is anything but zero
 abbrev pub are_zero : List ℕ → Bool
 are_zero bytes = list_all (λ b. b == 0) bytes
 
@@ -232,16 +243,19 @@ next_page columns seen bytes = do
   rows ← at_fault bytes (drop 4096 bytes) (page_in columns (on_page columns seen.0) seen.1 (take 4096 bytes))
   Ok ((seen.0 - on_page columns seen.0, rows.0), rows.1)
 
+-- how many pages so many records stand on
 abbrev pub pages_for : ℕ → ℕ → ℕ
 pages_for columns count = (count + (capacity columns - 1)) / capacity columns
 
 -- ---- rows
 
+-- one word more
 abbrev pub next_word : List ℕ → List ℕ → Read (List ℕ)
 next_word seen bytes = do
   w ← number_at w64 bytes
   Ok (seen ++ w.0 ∷ [], w.1)
 
+-- how many words have the bits of so many records
 abbrev pub words_for : ℕ → ℕ
 words_for size = (size + 63) / 64
 
@@ -255,6 +269,7 @@ are_words size first [] = true
 are_words size first (w ∷ ws) = nat_lt 0 w && nat_lt 0 (get_or (w ∷ ws) (length ws) 0)
     && (nat_le (first + length (w ∷ ws)) (size / 64) || nat_lt (get_or (w ∷ ws) (length ws) 0) (2 ^ (size % 64)))
 
+-- one delta more: where its words begin, how many there are, and these
 unfoldable pub next_delta : ℕ → List Delta → List ℕ → Read (List Delta)
 next_delta size seen bytes = do
   f ← number_at w32 bytes
@@ -264,6 +279,7 @@ next_delta size seen bytes = do
   full ← test (are_words size f.0 ws.0) bytes
   Ok (seen ++ record { first = f.0; words = ws.0 } ∷ [], ws.1)
 
+-- a row without deltas
 abbrev pub no_row : RowPart
 no_row = record { branch = 0; from = 0; deltas = [] }
 
@@ -295,6 +311,7 @@ abbrev pub has_room : List ℕ → ℕ → ℕ → Bool
 has_room lasts zero count = true
 has_room lasts (suc b) count = nat_le count (65536 * last_of lasts b)
 
+-- a segment: whose head it is, its records on pages, and at most one row for each branch
 unfoldable pub next_segment : ℕ → List ℕ → List SegmentPart → List ℕ → Read (List SegmentPart)
 next_segment columns lasts seen bytes = do
   h ← number_at w32 bytes
@@ -317,6 +334,7 @@ next_segments relations lasts seen bytes = do
 
 -- ---- the parts, with what the rules over the whole want to know, and no bytes behind them
 
+-- relations, branches, versions and segments, with the last position of each branch
 unfoldable pub parts_at : List ℕ → Result (Image × List ℕ) ℕ
 parts_at bytes = do
   relations ← relations_at bytes

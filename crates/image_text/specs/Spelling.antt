@@ -21,19 +21,23 @@ counted spell xs = to_le_bytes w32 (length xs) ++ flat_map spell xs
 
 -- ---- what has a spelling
 
+-- lengths that fit a byte
 pub record FitsRelation (r : Relation) : Type 0 where
   pub name : length r.name ≤ 32
   pub few : length r.columns ≤ 15
   pub columns : All (λ n. length n ≤ 32) r.columns
 
+-- numbers of words that fit 32 bits
 abbrev pub FitsRow : RowPart → Type 0
 FitsRow r = All (λ d. length d.words < 2 ^ 32) r.deltas
 
+-- numbers of records, rows and words that fit 32 bits
 pub record FitsSegment (s : SegmentPart) : Type 0 where
   pub records : length s.records < 2 ^ 32
   pub few : length s.rows < 2 ^ 32
   pub rows : All FitsRow s.rows
 
+-- so is each segment of a relation, and so is their number
 pub record FitsSegments (ss : List SegmentPart) : Type 0 where
   pub few : length ss < 2 ^ 32
   pub each : All FitsSegment ss
@@ -50,35 +54,44 @@ pub record Fits (i : Image) : Type 0 where
 
 -- ---- relations
 
+-- a name behind its length
 abbrev pub name_bytes : List ℕ → List ℕ
 name_bytes name = length name ∷ name
 
+-- a name, and the columns behind their number
 abbrev pub relation_bytes : Relation → List ℕ
 relation_bytes r = name_bytes r.name ++ (length r.columns ∷ flat_map name_bytes r.columns)
 
+-- all relations behind their number
 abbrev pub relations_bytes : List Relation → List ℕ
 relations_bytes rs = length rs ∷ flat_map relation_bytes rs
 
 -- ---- branches and versions
 
+-- a branch and a position
 abbrev pub place_bytes : VersionPlace → List ℕ
 place_bytes at = to_le_bytes w32 at.branch ++ to_le_bytes w32 at.position
 
+-- a name and the origin
 abbrev pub branch_bytes : BranchPart → List ℕ
 branch_bytes b = name_bytes b.name ++ place_bytes b.origin
 
+-- a flag, and behind a 1 the second parent
 abbrev pub second_bytes : Option VersionPlace → List ℕ
 second_bytes None = 0 ∷ []
 second_bytes (Some at) = 1 ∷ place_bytes at
 
+-- the branch and the second parent
 abbrev pub version_bytes : MadeVersion → List ℕ
 version_bytes v = to_le_bytes w32 v.branch ++ second_bytes v.second
 
 -- ---- pages
 
+-- a value in two's complement, the lowest byte first
 unfoldable pub value_bytes : Value → List ℕ
 value_bytes v = to_le_bytes w64 (cast_unsigned w64 v)
 
+-- a key and the fields
 abbrev pub record_bytes : Record → List ℕ
 record_bytes x = to_le_bytes w64 x.key ++ flat_map value_bytes x.fields
 
@@ -93,15 +106,19 @@ pages_bytes columns (suc k) xs = page_bytes columns (take (on_page columns (leng
 
 -- ---- rows and segments
 
+-- a word, the lowest byte first
 abbrev pub word_bytes : ℕ → List ℕ
 word_bytes w = to_le_bytes w64 w
 
+-- where the words begin, and these behind their number
 abbrev pub delta_bytes : Delta → List ℕ
 delta_bytes d = to_le_bytes w32 d.first ++ counted word_bytes d.words
 
+-- the branch, the first position and the deltas
 abbrev pub row_bytes : RowPart → List ℕ
 row_bytes r = to_le_bytes w32 r.branch ++ (to_le_bytes w32 r.from ++ flat_map delta_bytes r.deltas)
 
+-- whose head it is, the number of records, their pages, and the rows behind their number
 abbrev pub segment_bytes : ℕ → SegmentPart → List ℕ
 segment_bytes columns s = to_le_bytes w32 s.head ++ (to_le_bytes w32 (length s.records) ++ (pages_bytes columns (pages_for columns (length s.records)) s.records ++ counted row_bytes s.rows))
 
@@ -113,5 +130,6 @@ segments_bytes (r ∷ rs) (ss ∷ sss) = counted (segment_bytes (length r.column
 
 -- ---- the image
 
+-- relations, branches, versions, and the segments of each relation
 unfoldable pub spelling : Image → List ℕ
 spelling i = relations_bytes i.relations ++ (counted branch_bytes i.branches ++ (counted version_bytes i.versions ++ segments_bytes i.relations i.segments))

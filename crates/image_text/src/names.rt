@@ -73,6 +73,7 @@ fn base_of(bases: &[VersionPlace], at: VersionPlace) -> VersionPlace
 }
 
 impl<'a> Reader<'a> {
+    /// A name behind its length.
     #[tactic(auto, unfolding(crate::specs::Reading::name_at))]
     pub fn name(&mut self) -> Result<Name, Stop>
         ensures { Gives (λ x. (x, self.new.rest.now)) result (name_at self.old.rest.now) }

@@ -12,12 +12,14 @@ pub struct Reader<'a> {
 }
 
 impl<'a> Reader<'a> {
+    /// How many bytes weren't read yet.
     pub fn left(&self) -> usize
         ensures { result ≡ length self.now.rest.now }
     {
         self.rest.len()
     }
 
+    /// The next byte.
     pub fn u8(&mut self) -> Result<u8, Stop>
         ensures { Gives (λ x. (x, self.new.rest.now)) result (byte_at self.old.rest.now) }
     {
@@ -30,6 +32,7 @@ impl<'a> Reader<'a> {
         }
     }
 
+    /// A number of 4 bytes, the lowest first.
     pub fn u32(&mut self) -> Result<u32, Stop>
         ensures { Gives (λ x. (x, self.new.rest.now)) result (number_at w32 self.old.rest.now) }
     {
@@ -41,6 +44,7 @@ impl<'a> Reader<'a> {
         Ok(u32::from_le_bytes([front[0], front[1], front[2], front[3]]))
     }
 
+    /// A number of 8 bytes, the lowest first.
     pub fn u64(&mut self) -> Result<u64, Stop>
         ensures { Gives (λ x. (x, self.new.rest.now)) result (number_at w64 self.old.rest.now) }
     {
@@ -54,6 +58,7 @@ impl<'a> Reader<'a> {
         ]))
     }
 
+    /// A number of 2 bytes, the lowest first.
     pub fn u16(&mut self) -> Result<u16, Stop>
         ensures { Gives (λ x. (x, self.new.rest.now)) result (number_at w16 self.old.rest.now) }
     {
@@ -65,6 +70,7 @@ impl<'a> Reader<'a> {
         Ok(u16::from_le_bytes([front[0], front[1]]))
     }
 
+    /// A value of 8 bytes in two's complement, the lowest first.
     pub fn i64(&mut self) -> Result<i64, Stop>
         ensures { Gives (λ x. (x, self.new.rest.now)) result (signed_at self.old.rest.now) }
     {

@@ -23,6 +23,7 @@ fn capacity_of(columns: u8) -> u32
     4080 / (8 * (columns as u32 + 1))
 }
 
+/// How many of the records that are still to come stand on the next page.
 pub fn on_page(columns: u8, more: u32) -> u32
     ensures exact { result ≡ on_page columns more }
     ensures within { result ≤ more }

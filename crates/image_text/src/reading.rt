@@ -137,7 +137,8 @@ fn columns_of(relations: &[Relation], at: usize) -> u8
     relations[at].columns.as_slice().len() as u8
 }
 
-// The parts of an image that the bytes are, and the last position of each branch.
+/// The parts of an image that the bytes are, and the last position of each branch. The rules over the
+/// whole are not tried.
 #[tactic(auto, unfolding(crate::specs::Reading::parts_at), using(crate::proofs::Counted::relations_counted))]
 pub fn parts(alloc: Global, bytes: &[u8]) -> Result<(Image, Vec<u32>), Stop>
     ensures { Gives (λ x. (x.0, x.1.items)) result (parts_at bytes.now) }

@@ -47,6 +47,7 @@ fn is_begun(bases: &[VersionPlace], lasts: &[u32], branch: u32) -> bool
     (branch as usize) < lasts.len() && is_there(lasts, base_at(bases, branch))
 }
 
+/// So many zeros.
 pub fn zeros(alloc: Global, count: usize) -> Result<Vec<u32>, AllocError>
     ensures { IfOk result (λ v. v.items ≡ replicate count 0) }
 {
