@@ -47,7 +47,7 @@ heads_once branches ss = list_all is_kept ss && list_all (λ c. c == 1) (counts_
 abbrev pub word_bit : ℕ → ℕ → Bool
 word_bit word k = (word / 2 ^ k) % 2 == 1
 
--- no slot
+-- a delta without words
 abbrev pub no_delta : Delta
 no_delta = record { first = 0; words = [] }
 

@@ -1,18 +1,17 @@
 -- Segments that are read are spelled so.
-use Rattle.std.proofs.Common.{◌≡◌, ◌⊎◌, ℕ, zero, suc, ◌+◌, ◌-◌, ◌*◌, ◌/◌, ◌^◌, ◌<◌, ◌≤◌, Bool, true, false, cond, List, [], ◌∷◌, ◌++◌, length, get_or, take, drop, Result, Ok, Err, refl, sym, ap, subst, ◌∙◌, append_assoc, arith, inl, inr}
+use Rattle.std.proofs.Common.{◌≡◌, ◌⊎◌, ℕ, zero, suc, ◌+◌, ◌-◌, ◌*◌, ◌/◌, ◌^◌, ◌<◌, ◌≤◌, List, [], ◌∷◌, ◌++◌, length, Result, Ok, refl, sym, ap, subst, arith, inl, inr}
 use Rattle.std.specs.Prelude.{nat_lt, nat_le}
 use Rattle.std.specs.List.{flat_map, All}
 use Rattle.std.specs.Int.{w32, to_le_bytes}
 use Rattle.std.proofs.Math.Nat.{lt-div-mul-add}
 use Rattle.std.proofs.lemmas.Bool.{cases_lt}
-use Rattle.std.proofs.lemmas.List.{append-nil, length-append, drop_more, nil_from_length, length-drop}
-use Rattle.db_value.specs.Relations.{columns_at, no_relation}
+use Rattle.db_value.specs.Relations.{columns_at}
 use Rattle.db_value.specs.declared.record.Record.{Record}
 use Rattle.db_value.specs.declared.schema.Relation.{Relation}
 use Rattle.image_text.specs.declared.image.RowPart.{RowPart}
 use Rattle.image_text.specs.declared.image.SegmentPart.{SegmentPart}
-use Rattle.image_text.specs.Reading.{◌>>=◌, Read, test, repeat, number_at, has_room, capacity, pages_for, next_page, next_row, next_segment, next_segments}
-use Rattle.image_text.specs.Spelling.{FitsRow, FitsSegment, FitsSegments, counted, pages_bytes, row_bytes, segment_bytes, segments_bytes}
+use Rattle.image_text.specs.Reading.{◌>>=◌, test, repeat, number_at, has_room, capacity, pages_for, next_page, next_row, next_segment, next_segments}
+use Rattle.image_text.specs.Spelling.{FitsRow, FitsSegment, FitsSegments, counted, pages_bytes, row_bytes, segment_bytes}
 use Rattle.image_text.specs.Laws.{IsBytes}
 use Rattle.image_text.proofs.Loop.{bind_ok, ok_is}
 use Rattle.image_text.proofs.Takes.{Takes, TakesOne, Takes-then, from_none, wide32, number_takes, repeat_takes, next_row_takes}

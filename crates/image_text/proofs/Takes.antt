@@ -1,11 +1,11 @@
 -- What is read is spelled so: what each reader takes from the front is the spelling of what it gives.
-use Rattle.std.proofs.Common.{◌≡◌, ℕ, zero, suc, ◌+◌, ◌-◌, ◌*◌, ◌^◌, ◌<◌, ◌≤◌, Bool, true, false, cond, ◌&&◌, ◌||◌, not, ltb, eqb, List, [], ◌∷◌, ◌++◌, length, get_or, take, drop, Option, Some, None, Result, Ok, Err, refl, sym, ap, subst, ◌∙◌, append_assoc, arith, inl, inr}
-use Rattle.std.specs.Prelude.{nat_lt, nat_le, ◌==◌, set, codes}
-use Rattle.std.specs.List.{flat_map, list_any, list_all, All}
+use Rattle.std.proofs.Common.{◌≡◌, ℕ, zero, suc, ◌+◌, ◌-◌, ◌^◌, ◌<◌, ◌≤◌, Bool, true, false, cond, ◌&&◌, ◌||◌, not, ltb, List, [], ◌∷◌, ◌++◌, length, take, drop, Option, Some, None, Result, Ok, Err, refl, sym, ap, subst, ◌∙◌, append_assoc, arith, inl, inr}
+use Rattle.std.specs.Prelude.{nat_lt, nat_le, ◌==◌, set}
+use Rattle.std.specs.List.{flat_map, list_any, All}
 use Rattle.std.proofs.lemmas.List.Elements.{All-cons, All-nil}
 use Rattle.std.specs.Int.{Width, w16, w32, w64, byte_len, from_le_bytes, to_le_bytes, cast_signed, cast_unsigned}
-use Rattle.std.proofs.lemmas.Bool.{cases_lt, ltb-false, le-ltb, eqb-true, leb-true}
-use Rattle.std.proofs.lemmas.List.{append-nil, take-append-drop, length-append, length-take, get_or-drop, get_or-take, get_or_past, nil_from_length}
+use Rattle.std.proofs.lemmas.Bool.{cases_lt, ltb-false, leb-true}
+use Rattle.std.proofs.lemmas.List.{append-nil, take-append-drop, length-take, get_or-drop, get_or-take, get_or_past}
 use Rattle.std.proofs.lemmas.List.Concat.{flat_map-cons}
 use Rattle.std.proofs.lemmas.Nat.{le_bytes_2, le_bytes_4, le_bytes_8}
 use Rattle.std.proofs.lemmas.Int.{of_z-to_z}
@@ -20,7 +20,7 @@ use Rattle.image_text.specs.declared.image.MadeVersion.{MadeVersion}
 use Rattle.image_text.specs.declared.image.Delta.{Delta}
 use Rattle.image_text.specs.declared.image.RowPart.{RowPart}
 use Rattle.image_text.specs.Reading.{◌>>=◌, Read, test, enough, repeat, byte_at, number_at, signed_at, name_at, next_name, next_relation, relations_at, next_word, next_delta, spans, are_words, has_turn, is_earlier, is_position, base_of, next_branch, last_of, is_begun, second_at, next_version, next_row, rises, are_blank, next_value, next_record}
-use Rattle.image_text.specs.Spelling.{FitsRelation, FitsRow, counted, name_bytes, relation_bytes, relations_bytes, word_bytes, delta_bytes, place_bytes, branch_bytes, second_bytes, version_bytes, row_bytes, value_bytes, record_bytes}
+use Rattle.image_text.specs.Spelling.{FitsRelation, FitsRow, counted, name_bytes, relation_bytes, relations_bytes, word_bytes, delta_bytes, branch_bytes, second_bytes, version_bytes, row_bytes, value_bytes, record_bytes}
 use Rattle.image_text.specs.Laws.{IsBytes}
 use Rattle.image_text.proofs.Loop.{bind_ok, ok_is}
 use Rattle.image_text.proofs.Counted.{tested, both_true}

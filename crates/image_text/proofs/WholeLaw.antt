@@ -1,5 +1,5 @@
 -- An image that is read is spelled so.
-use Rattle.std.proofs.Common.{◌≡◌, ℕ, zero, suc, ◌+◌, ◌-◌, ◌^◌, ◌<◌, ◌≤◌, Bool, true, false, cond, ◌&&◌, List, [], ◌∷◌, ◌++◌, length, get_or, take, drop, replicate, Result, Ok, Err, refl, sym, ap, subst, ◌∙◌, append_assoc, arith}
+use Rattle.std.proofs.Common.{◌≡◌, ℕ, zero, suc, ◌+◌, ◌^◌, ◌<◌, ◌≤◌, true, ◌&&◌, List, [], ◌∷◌, ◌++◌, length, drop, replicate, Result, Ok, refl, sym, ap, subst, ◌∙◌, arith}
 use Rattle.std.specs.Prelude.{nat_lt, nat_le, ◌==◌}
 use Rattle.std.specs.List.{flat_map, All}
 use Rattle.std.proofs.lemmas.List.Elements.{All-cons, All-nil}
@@ -14,7 +14,7 @@ use Rattle.image_text.specs.declared.image.MadeVersion.{MadeVersion}
 use Rattle.image_text.specs.declared.image.SegmentPart.{SegmentPart}
 use Rattle.image_text.specs.declared.image.Image.{Image}
 use Rattle.image_text.specs.Reading.{◌>>=◌, Read, test, repeat, number_at, relations_at, next_branch, branches_at, next_version, versions_at, next_segments, parts_at}
-use Rattle.image_text.specs.Spelling.{Fits, FitsRelation, FitsSegments, counted, relations_bytes, branch_bytes, version_bytes, segment_bytes, segments_bytes, spelling}
+use Rattle.image_text.specs.Spelling.{FitsSegments, counted, relations_bytes, branch_bytes, version_bytes, segment_bytes, segments_bytes, spelling}
 use Rattle.image_text.specs.Laws.{IsBytes, IsSpelled}
 use Rattle.image_text.proofs.Loop.{bind_ok, ok_is}
 use Rattle.image_text.proofs.Counted.{tested, relations_counted, some_columns}

@@ -1,8 +1,5 @@
-use Rattle.std.proofs.Common.{◌≡◌, length, []}
-use Rattle.std.specs.Prelude.{replicate}
-use Rattle.std.proofs.lemmas.Result.{err_from_is_err_and}
 use Rattle.image_text.specs.Reading.{repeat, next_record}
-use Rattle.image_text.proofs.Loop.{ends, is_done}
+use Rattle.image_text.proofs.Loop.{is_done}
 use Rattle.image_text.proofs.numbers.Reader.records.Goals as goal
 
 pub returns : goal.returns

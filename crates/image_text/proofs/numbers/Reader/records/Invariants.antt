@@ -1,5 +1,4 @@
-use Rattle.std.proofs.Common.{◌≡◌, ◌-◌, length, []}
-use Rattle.std.specs.Prelude.{replicate}
+use Rattle.std.proofs.Common.{◌≡◌, ◌-◌}
 use Rattle.image_text.specs.Reading.{repeat, next_record}
 use Rattle.image_text.proofs.numbers.Reader.records.Given as goal
 

@@ -1,4 +1,4 @@
-use Rattle.std.proofs.Common.{◌≡◌, length, []}
+use Rattle.std.proofs.Common.{length, []}
 use Rattle.image_text.specs.Reading.{repeat, next_segments}
 use Rattle.image_text.proofs.Loop.{is_done}
 use Rattle.image_text.proofs.numbers.Reader.segments.Goals as goal

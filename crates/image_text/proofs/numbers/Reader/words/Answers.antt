@@ -1,8 +1,7 @@
-use Rattle.std.proofs.Common.{◌≡◌, length, []}
-use Rattle.std.specs.Prelude.{replicate}
+use Rattle.std.proofs.Common.{[]}
 use Rattle.std.proofs.lemmas.Result.{err_from_is_err_and}
 use Rattle.image_text.specs.Reading.{repeat, next_word}
-use Rattle.image_text.proofs.Loop.{ends, is_done}
+use Rattle.image_text.proofs.Loop.{ends}
 use Rattle.image_text.proofs.numbers.Reader.words.Goals as goal
 
 pub returns-in_err-next_word : goal.returns-in_err-next_word
