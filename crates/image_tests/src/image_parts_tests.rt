@@ -1,0 +1,123 @@
+//! Images read and written. The bytes were made by another program.
+use image_parts::{ImageStop, decode, encode};
+use std::test::Fail;
+
+const NEW: [u8; 67] = [
+    1, 5, 0x69, 0x74, 0x65, 0x6d, 0x73, 2, 1, 0x61, 1, 0x62, 1, 0, 0, 0, 6, 0x6d, 0x61, 0x73, 0x74,
+    0x65, 0x72, 0, 0, 0, 0, 0, 0, 0, 0, 0, 0, 0, 0, 1, 0, 0, 0, 1, 0, 0, 0, 0, 0, 0, 0, 1, 0, 0, 0,
+    0, 0, 0, 0, 0, 0, 0, 0, 0, 0, 0, 0, 0, 0, 0, 0,
+];
+
+#[test]
+fn a_new_dataset(rt: HostRuntime) -> Result<(), Fail> {
+    let image = decode(rt.alloc(), &NEW)
+        .ok()
+        .ok_or("the bytes are an image")?;
+    let again = encode(rt.alloc(), &image)?;
+    assert_eq!(rt; again.as_slice(), NEW.as_slice());
+    for n in 0..67usize {
+        match decode(rt.alloc(), &NEW[..n]) {
+            Err(ImageStop::NotAnImage { at }) => assert_eq!(rt; at, n as u64),
+            _ => assert!(rt; false, "a front is read"),
+        }
+    }
+    Ok(())
+}
+
+const HEAD: [u8; 119] = [
+    1, 1, 114, 1, 1, 97, 2, 0, 0, 0, 6, 109, 97, 115, 116, 101, 114, 0, 0, 0, 0, 0, 0, 0, 0, 3,
+    100, 101, 118, 0, 0, 0, 0, 1, 0, 0, 0, 2, 0, 0, 0, 0, 0, 0, 0, 0, 1, 0, 0, 0, 1, 0, 0, 0, 0, 1,
+    0, 0, 0, 3, 0, 0, 0, 0, 0, 0, 0, 2, 0, 0, 0, 2, 0, 1, 0, 0, 0, 0, 0, 0, 0, 0, 0, 0, 0, 0, 0, 1,
+    0, 0, 0, 0, 0, 0, 0, 10, 0, 0, 0, 0, 0, 0, 0, 2, 0, 0, 0, 0, 0, 0, 0, 236, 255, 255, 255, 255,
+    255, 255, 255,
+];
+
+const MIDDLE: [u8; 144] = [
+    2, 0, 0, 0, 0, 0, 0, 0, 0, 0, 0, 0, 0, 0, 0, 0, 0, 0, 0, 0, 0, 0, 0, 0, 1, 0, 0, 0, 3, 0, 0, 0,
+    0, 0, 0, 0, 1, 0, 0, 0, 0, 0, 0, 0, 0, 0, 0, 0, 1, 0, 0, 0, 3, 0, 0, 0, 0, 0, 0, 0, 0, 0, 0, 0,
+    1, 0, 0, 0, 1, 0, 0, 0, 0, 0, 0, 0, 1, 0, 0, 0, 0, 0, 0, 0, 1, 0, 0, 0, 0, 0, 0, 0, 1, 0, 0, 0,
+    0, 0, 0, 0, 0, 0, 0, 0, 2, 0, 0, 0, 1, 0, 0, 0, 1, 0, 1, 0, 0, 0, 0, 0, 0, 0, 0, 0, 0, 0, 0, 0,
+    1, 0, 0, 0, 0, 0, 0, 0, 11, 0, 0, 0, 0, 0, 0, 0,
+];
+
+const END: [u8; 36] = [
+    1, 0, 0, 0, 1, 0, 0, 0, 0, 0, 0, 0, 0, 0, 0, 0, 0, 0, 0, 0, 0, 0, 0, 0, 1, 0, 0, 0, 1, 0, 0, 0,
+    0, 0, 0, 0,
+];
+
+// Branch dev of master@1, on which a record was changed: an internal segment of two records, and two heads.
+fn of_two_branches(rt: &HostRuntime) -> Result<Vec<u8>, Fail> {
+    let mut bytes = Vec::new(rt.alloc());
+    bytes.extend_from_slice(&HEAD)?;
+    for _ in 0..4048usize {
+        bytes.push(0)?;
+    }
+    bytes.extend_from_slice(&MIDDLE)?;
+    for _ in 0..4064usize {
+        bytes.push(0)?;
+    }
+    bytes.extend_from_slice(&END)?;
+    Ok(bytes)
+}
+
+#[test]
+fn two_branches(rt: HostRuntime) -> Result<(), Fail> {
+    let bytes = of_two_branches(&rt)?;
+    assert_eq!(rt; bytes.len(), 8411);
+    let image = decode(rt.alloc(), &bytes)
+        .ok()
+        .ok_or("the bytes are an image")?;
+    let again = encode(rt.alloc(), &image)?;
+    assert!(rt; again.as_slice() == bytes.as_slice());
+    Ok(())
+}
+
+// Where the first fault of the bytes is, if they aren't an image.
+fn fault_of(rt: &HostRuntime, bytes: &[u8]) -> Option<u64> {
+    match decode(rt.alloc(), bytes) {
+        Err(ImageStop::NotAnImage { at }) => Some(at),
+        _ => None,
+    }
+}
+
+// The same of the image of two branches with one byte changed.
+fn fault_with(rt: &HostRuntime, place: usize, value: u8) -> Result<Option<u64>, Fail> {
+    let mut bytes = of_two_branches(rt)?;
+    if let Some(byte) = bytes.get_mut(place) {
+        *byte = value;
+    }
+    Ok(fault_of(rt, &bytes))
+}
+
+#[test]
+#[rattlefmt::skip]
+fn faults(rt: HostRuntime) -> Result<(), Fail> {
+    let cases = [
+        // what is wrong, the byte that is changed, its value, where the fault is
+        ("a page with a wrong count", 71usize, 1u8, 71u64),
+        ("a byte behind the records", 4166usize, 1u8, 71u64),
+        ("two relations", 0usize, 2u8, 6u64),
+        ("a head that is no branch", 63usize, 3u8, 63u64),
+        ("a bit past the records", 4195usize, 4u8, 4187u64),
+        ("rows that don't rise", 4203usize, 0u8, 4203u64),
+        ("a row from past the last position", 4175usize, 2u8, 4175u64),
+        ("no segment is the head of master", 4243usize, 0u8, 8411u64),
+        ("two heads of dev", 4243usize, 2u8, 8411u64),
+        ("a key twice in dev@1", 4235usize, 2u8, 8411u64),
+        ("a key twice in master@1", 103usize, 1u8, 8411u64),
+        ("too many segments", 59usize, 4u8, 59u64),
+        ("an origin that isn't made", 33usize, 9u8, 46u64),
+    ];
+    for (name, place, value, fault) in cases {
+        assert_eq!(rt; fault_with(&rt, place, value)?, Some(fault), "{name}");
+    }
+    Ok(())
+}
+
+#[test]
+fn surplus_bytes(rt: HostRuntime) -> Result<(), Fail> {
+    let mut more = of_two_branches(&rt)?;
+    more.push(0)?;
+    assert_eq!(rt; fault_of(&rt, &more), Some(8411));
+    Ok(())
+}
