@@ -23,3 +23,4 @@ pub mod SeenRows
 pub mod ViewLemmas
 pub mod ReportLemmas
 pub mod WholeLemmas
+mod ReaderLemmas

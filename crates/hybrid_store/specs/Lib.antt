@@ -10,3 +10,4 @@ pub mod Sees
 pub mod Whole
 pub mod ReadyRules
 pub mod LastsRules
+pub mod Readers

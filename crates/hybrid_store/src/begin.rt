@@ -68,7 +68,7 @@ fn more_rows(alloc: Global, rows: &BitRows, segment: u32, from: u32) -> Result<M
 
 impl HybridStore {
     // The number of the next segment of a relation.
-    fn next_segment(&self, relation: u8) -> u32
+    pub(crate) fn next_segment(&self, relation: u8) -> u32
         requires { relation < length self.now.schema }
         ensures result { result ≡ length (list_at self.now.segments.items relation) }
         ensures few { result ≤ 2048 }

@@ -14,6 +14,7 @@
 //! | `specs/Begun.antt`, `specs/ReadyBranch.antt`, `src/prepare_branch.rt`, `src/install_branch.rt` | a new branch that is made ready |
 //! | `specs/Sees.antt`, `src/view.rt` | the views of versions, and the parts that they show |
 //! | `specs/Whole.antt`, `src/whole.rt` | views with all records that their segments have |
+//! | `specs/Readers.antt`, `src/readers.rt` | what the layout has, part by part |
 //! | `src/same.rt` | the branches of a second store of the same state |
 #![tactic(auto)]
 
@@ -21,8 +22,10 @@ mod begin;
 mod commit;
 mod install;
 mod install_branch;
+mod made;
 mod new;
 mod prepare_branch;
+mod readers;
 mod same;
 mod store;
 mod view;
@@ -30,4 +33,5 @@ mod whole;
 
 pub use commit::HybridPrepared;
 pub use install_branch::HybridPreparedBranch;
+pub use made::MadeVersion;
 pub use store::HybridStore;

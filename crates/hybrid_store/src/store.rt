@@ -200,7 +200,7 @@ impl HybridStore {
     }
 
     // The view of a branch's last version.
-    fn head(&self, branch: u32) -> &HybridView
+    fn last_view(&self, branch: u32) -> &HybridView
         requires { branch < length self.now.lanes.items }
         ensures table { table_of (arc_value result.now.table)
             ≡ head_of (dataset_in self.now) branch }
@@ -226,7 +226,7 @@ impl HybridStore {
         if !changes_fit(self.schema.relations(), changes) {
             return false;
         }
-        is_within(self.head(branch).table(), self.width(), changes)
+        is_within(self.last_view(branch).table(), self.width(), changes)
     }
 
     // The second parent of a version of a branch.
