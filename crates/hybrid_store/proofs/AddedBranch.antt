@@ -1,9 +1,9 @@
 -- What holds of a store after a new branch that was ready is installed.
-use Rattle.std.proofs.Common.{◌≡◌, ℕ, ◌+◌, ◌-◌, ◌*◌, ◌<◌, ◌≤◌, true, List, [], ◌∷◌, ◌++◌, length, map, set, get_or, Option, Some, None, refl, arith, ap, sym, ◌∙◌, subst}
+use Rattle.std.proofs.Common.{◌≡◌, ℕ, ◌-◌, ◌<◌, ◌≤◌, true, List, [], ◌∷◌, ◌++◌, length, map, get_or, Option, Some, None, refl, arith, ap, sym, ◌∙◌, subst}
 use Rattle.std.specs.Prelude.{IfSome}
 use Rattle.std.specs.List.{All}
 use Rattle.std.specs.FinMap.{insert}
-use Rattle.std.proofs.lemmas.List.{length-map, length-set, length_push, map-append}
+use Rattle.std.proofs.lemmas.List.{length-map, length-set, map-append}
 use Rattle.db_value.specs.Relations.{columns_at}
 use Rattle.db_value.specs.Schema.{most_relations}
 use Rattle.db_value.specs.declared.schema.Relation.{Relation}
@@ -11,9 +11,9 @@ use Rattle.db_value.specs.declared.version.VersionPlace.{VersionPlace}
 use Rattle.db_value.specs.declared.entry.Entry.{Entry}
 use Rattle.db_value.specs.declared.entry.Entry.TheVariants.{Commit, Branch as NewBranch}
 use Rattle.record_page.specs.Page.{Rows}
-use Rattle.db_store.specs.Dataset.{Branch, Dataset, branch_named, apply, begun as begun_branch}
+use Rattle.db_store.specs.Dataset.{Dataset, branch_named, apply, begun as begun_branch}
 use Rattle.db_store.specs.Fits.{fits, most_branches}
-use Rattle.db_store.specs.Layout.{Segment, Row, Lane, Layout, lane_at, segments_at, rows_at, head_segment, dataset_in}
+use Rattle.db_store.specs.Layout.{Segment, Row, Lane, Layout, lane_at, segments_at, rows_at, dataset_in}
 use Rattle.db_store.specs.LayoutGrowth.{segments_with, is_last, grow_layout}
 use Rattle.db_store.specs.LaidOut.{IsLaid}
 use Rattle.db_store.specs.Order.{lineage, IsOrdered}
@@ -29,7 +29,7 @@ use Rattle.store_catalogue.proofs.BranchLemmas.{numbers_more}
 use Rattle.bit_rows.specs.Rows.{laid_row}
 use Rattle.bit_rows.specs.Kept.{KeptLane, no_kept, kept_rows}
 use Rattle.hybrid_store.specs.Lanes.{segment_of, lane_of, kept_layout}
-use Rattle.bit_rows.specs.Segments.{KeptRecords, KeptList, no_list, most_segments, list_at, kept_at, with_head}
+use Rattle.bit_rows.specs.Segments.{KeptList, no_list, list_at, kept_at, with_head}
 use Rattle.hybrid_store.specs.Ready.{no_own}
 use Rattle.hybrid_store.specs.ReadyBranch.{Turn, IsBegunAt, IsBegunOf, IsTurnedIf, CanTake, TurnsIf, IsReadyBranch}
 use Rattle.std.proofs.lemmas.List.Elements.{All-same, All-set, All-weaker}
@@ -82,8 +82,8 @@ module _ (schema : List Relation) (lanes : List KeptLane) (order : List VersionP
   pub from_there : b < length lanes
   from_there = let t = origin_there in let e2 = parts.branch in omega (arith, t, e2)
 
-  pub takes : IfSome turned (λ t. CanTake (get_or lanes b no_kept) segments t)
-  takes = subst (λ x. IfSome turned (λ t. CanTake (get_or lanes x no_kept) segments t)) (sym parts.branch) (can_take schema lanes order segments is whole parts.origin origin_there (is_last l parts.origin) turned narrow lanes_few parts.turn)
+  pub takes : IfSome turned (λ t. CanTake b (get_or lanes b no_kept) segments t)
+  takes = subst (λ x. IfSome turned (λ t. CanTake x (get_or lanes x no_kept) segments t)) (sym parts.branch) (can_take schema lanes order segments is whole parts.origin origin_there (is_last l parts.origin) turned narrow lanes_few parts.turn)
 
   pub name_new : branch_named (kept_dataset schema lanes order segments) k.name ≡ None
   name_new = ap (λ (x : KeptLane). branch_named d x.name) parts.begun.lane ∙ (branch_parts d parts.name parts.origin parts.new).new

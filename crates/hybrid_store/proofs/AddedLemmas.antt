@@ -27,7 +27,7 @@ use Rattle.bit_rows.specs.Kept.{KeptLane, no_kept, kept_rows, nexts_at}
 use Rattle.hybrid_store.specs.Lanes.{kept_layout}
 use Rattle.bit_rows.specs.Segments.{KeptList, no_list, list_at, kept_at}
 use Rattle.hybrid_store.specs.Ready.{IsReady, no_own}
-use Rattle.hybrid_store.specs.Stored.{head_of_lane, kept_dataset, HasRoom, IsStored}
+use Rattle.hybrid_store.specs.Stored.{head_number, kept_dataset, HasRoom, IsStored}
 use Rattle.hybrid_store.proofs.CommitLemmas.{branch_there}
 use Rattle.hybrid_store.proofs.GrownLemmas.{layout_is, stored_is}
 use Rattle.hybrid_store.proofs.ReadyParts.{ReadyCommit, ready_parts, second_made}
@@ -84,7 +84,7 @@ module _ (schema : List Relation) (lanes : List KeptLane) (order : List VersionP
       (counts : (r : ℕ) → r < length (get_or lanes b no_kept).rows → length (kept_rows new r) ≡ length (kept_rows (get_or lanes b no_kept) r))
       (each : (r i : ℕ) → r < length (get_or lanes b no_kept).rows → i < length (kept_rows (get_or lanes b no_kept) r) → kept_row_at (kept_rows new r) i ≡ pushed_row (kept_row_at (kept_rows (get_or lanes b no_kept) r) i) (next_at (nexts_at nexts r) i))
       (long : length news ≡ length segments)
-      (put : (r : ℕ) → r < length segments → get_or news r no_list ≡ record (get_or segments r no_list) { all = set (list_at segments r) (head_of_lane (get_or lanes b no_kept) r) (record (kept_at (list_at segments r) (head_of_lane (get_or lanes b no_kept) r)) { rows = get_or owns r no_own }) }) where
+      (put : (r : ℕ) → r < length segments → get_or news r no_list ≡ record (get_or segments r no_list) { all = set (list_at segments r) (head_number segments b r) (record (kept_at (list_at segments r) (head_number segments b r)) { rows = get_or owns r no_own }) }) where
     pub layout_added : kept_layout schema (set lanes b new) (order ++ record { branch = b; position = length (get_or lanes b no_kept).seconds } ∷ []) news ≡ grow_layout (kept_layout schema lanes order segments) e
     layout_added = layout_is schema lanes order segments b second parts.changes nexts head owns ready_there is whole parts.made new news new_is wide counts each long put ∙ ap (grow_layout l) (sym parts.entry)
 

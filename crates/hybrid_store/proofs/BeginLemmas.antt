@@ -1,8 +1,8 @@
 -- What a new branch has of the relations, and its origin with another head: one relation after another.
-use Rattle.std.proofs.Common.{◌≡◌, ℕ, ◌+◌, ◌<◌, List, [], ◌∷◌, ◌++◌, length, map, get_or, arith, ap, sym, ◌∙◌, subst}
+use Rattle.std.proofs.Common.{◌≡◌, ℕ, ◌+◌, ◌<◌, List, [], ◌∷◌, ◌++◌, length, map, arith, ap, sym, ◌∙◌, subst}
 use Rattle.std.proofs.lemmas.List.{length_push}
 use Rattle.record_page.specs.Page.{Rows}
-use Rattle.hybrid_view.specs.Live.{Lived, no_lived, lived_at, IsLived, AllLived}
+use Rattle.hybrid_view.specs.Live.{Lived, no_lived, IsLived, AllLived}
 use Rattle.bit_rows.specs.Rows.{KeptRow, begun_row, MoreRow, no_more}
 use Rattle.bit_rows.specs.Kept.{KeptLane, kept_rows}
 use Rattle.bit_rows.specs.Segments.{KeptList, list_at}

@@ -1,13 +1,13 @@
 -- What branches have of a relation after a new branch: the new one, its origin, and the others.
-use Rattle.std.proofs.Common.{◌≡◌, ◌≢◌, ◌⊎◌, inl, inr, ℕ, zero, suc, ◌+◌, ◌-◌, ◌^◌, ◌<◌, ◌≤◌, ◌==◌, ◌&&◌, nat_le, Bool, true, false, List, [], ◌∷◌, ◌++◌, length, map, take, get_or, Option, Some, None, refl, arith, ap, sym, ◌∙◌, subst}
+use Rattle.std.proofs.Common.{◌≡◌, ◌≢◌, ◌⊎◌, inl, inr, ℕ, zero, suc, ◌+◌, ◌-◌, ◌^◌, ◌<◌, ◌≤◌, ◌==◌, Bool, true, false, List, [], ◌∷◌, ◌++◌, length, map, take, refl, arith, ap, sym, ◌∙◌, subst}
 use Rattle.std.specs.Prelude.{filter}
-use Rattle.std.proofs.lemmas.Bool.{cases_lt, and_parts, and_from, leb-true, le-leb, eq-eqb, ne_eqb}
+use Rattle.std.proofs.lemmas.Bool.{cases_lt, and_parts, and_from, le-leb, eq-eqb, ne_eqb}
 use Rattle.std.proofs.lemmas.List.{length-map, length-append, length_push, map-append, append-nil, get_or-map, get_or_append_left, get_or_push}
 use Rattle.std.proofs.lemmas.Grind.{flat_map-append}
 use Rattle.db_value.specs.declared.record.Record.{Record}
 use Rattle.plain_bits.specs.Truth.{bit_of}
-use Rattle.db_store.specs.Layout.{Segment, Row, combined, bit, records_at, contents_of, head_row}
-use Rattle.db_store.specs.LayoutGrowth.{is_head_of, segments_with, new_head, rows_begun}
+use Rattle.db_store.specs.Layout.{Segment, Row, combined, records_at, contents_of, head_segment}
+use Rattle.db_store.specs.LayoutGrowth.{is_head_of, segments_with, without_head, new_head, rows_begun}
 use Rattle.db_store.specs.LaidOut.{AreRows, AreRowsOf, head_at, row_at, no_row, times, rises as row_rises}
 use Rattle.db_store.proofs.LayoutLaw.{with_same, first_new, head_new}
 use Rattle.db_store.proofs.LaidLemmas.{own_gone, other_head, older_head, own_new, begun_new, which}
@@ -21,7 +21,8 @@ use Rattle.bit_rows.specs.Short.{shortest}
 use Rattle.bit_rows.specs.Rows.{KeptRow, no_kept_row, kept_row_at, laid_row, begun_row}
 use Rattle.bit_rows.proofs.ShortLemmas.{shorts_push}
 use Rattle.hybrid_store.specs.Begun.{empty_head, lived_begun, lived_turned, turned_row}
-use Rattle.hybrid_store.specs.Stored.{head_in, Show, AreSmall, IsKeptAt}
+use Rattle.hybrid_store.specs.Stored.{head_in, has_row, Show, AreSmall, IsKeptAt}
+use Rattle.hybrid_store.proofs.OwnLemmas.{head_in_is, own_last, own_there}
 use Rattle.hybrid_store.proofs.BegunRows.{AreCovered, begun_all, rows_few, kept_all, more_all}
 
 abbrev no_records : List Record
@@ -31,11 +32,15 @@ take_nil : (k : ℕ) → take k no_records ≡ no_records
 take_nil zero = refl
 take_nil (suc k) = refl
 
--- the last row is that of the head
-head_last : (rows : List KeptRow) (x : KeptRow) → head_in (rows ++ x ∷ []) ≡ x.segment
-head_last rows x =
-    let n = length_push rows x in
-    ap (λ (y : KeptRow). y.segment) (get_or_push rows x no_kept_row (length (rows ++ x ∷ []) - 1) (omega (arith, n)))
+-- a new branch brings two segments at most
+pub with_count : (q : Bool) (b c : ℕ) (ss : List Segment) → length (segments_with q b c ss) ≤ length ss + 2
+with_count true b c ss = let n = length-append (map (without_head b) ss) (head_segment b ∷ head_segment c ∷ []) in let m = length-map ss (without_head b) in omega (arith, n, m)
+with_count false b c ss = let n = length_push ss (head_segment c) in omega (arith, n)
+
+-- its head is one of them
+new_there : (q : Bool) (b c : ℕ) (ss : List Segment) → new_head q ss < length (segments_with q b c ss)
+new_there true b c ss = let n = length-append (map (without_head b) ss) (head_segment b ∷ head_segment c ∷ []) in let m = length-map ss (without_head b) in omega (arith, n, m)
+new_there false b c ss = let n = length_push ss (head_segment c) in omega (arith, n)
 
 -- a piece of a segment without records has none
 whole_empty : (ss : List Segment) (n head : ℕ) (rows : List Row) (ps : List Piece) → records_at ss head ≡ [] → Show ss n rows ps → IsWhole ss head ps
@@ -88,9 +93,6 @@ module _ (q : Bool) (b c n count columns : ℕ) (ss : List Segment) (apart : b �
     pub begun_is_lived : IsLived (lived_begun l (empty_head (new_head q ss) columns))
     begun_is_lived = begun_lived q b c n count ss rows l head below before behind lived all (all_tell l.pieces lived.covered) refl refl refl pieces_few covered
 
-    head_is : head_in (map begun_row (begun_pieces l.pieces (empty_head (new_head q ss) columns))) ≡ new_head q ss
-    head_is = ap head_in (map-append begun_row (filter has_live l.pieces) (head ∷ [])) ∙ head_last (map begun_row (filter has_live l.pieces)) (begun_row head)
-
     headed : (s : ℕ) → s < length (segments_with q b c ss) → is_head_of c (head_at (segments_with q b c ss) s) ≡ (s == new_head q ss)
     headed s h = by (which b c ss q s h)
       where
@@ -102,14 +104,16 @@ module _ (q : Bool) (b c n count columns : ℕ) (ss : List Segment) (apart : b �
             ∙ sym (ne_eqb s (new_head q ss) (λ e2. let t : suc (length ss) ≡ length ss = ap (λ p. new_head p ss) (sym e.0) ∙ sym e2 ∙ e.1 in absurd (omega (arith, t))))
         by (inr (inr e)) = ap (is_head_of c) (ap (head_at after) e ∙ begun_new b c ss q) ∙ eq-eqb c c refl ∙ sym (eq-eqb s (new_head q ss) e)
 
+    head_is : head_in c (segments_with q b c ss) ≡ new_head q ss
+    head_is = head_in_is c (new_head q ss) (segments_with q b c ss) (new_there q b c ss) headed
+
     pub begun_kept : IsKeptAt (segments_with q b c ss) columns c 0 (map begun_row (begun_pieces l.pieces (empty_head (new_head q ss) columns))) (lived_begun l (empty_head (new_head q ss) columns))
     begun_kept =
         let ps : List Piece = begun_pieces l.pieces head in
         let m = length-map ps begun_row in
-        let a = length-append (filter has_live l.pieces) (head ∷ []) in
         let shown : Show after 0 (rows_begun q n ss rows) ps = record { count = show_count after 0 (rows_begun q n ss rows) ps begun_show; each = show_at after 0 (rows_begun q n ss rows) ps begun_show } in
         record {
-          some = omega (arith, m, a);
+          own = ap (has_row (head_in c after)) (map-append begun_row (filter has_live l.pieces) (head ∷ [])) ∙ own_last (head_in c after) (map begun_row (filter has_live l.pieces)) (begun_row head) (sym head_is);
           headed = λ s h. headed s h ∙ ap (λ k. s == k) (sym head_is);
           short = λ i h.
               let p : Piece = piece_at ps i in
@@ -126,35 +130,35 @@ module _ (q : Bool) (b c n count columns : ℕ) (ss : List Segment) (apart : b �
 
   module _ (x m : ℕ) (rows : List KeptRow) (l : Lived) (other : x ≢ c) (away : q ≡ true → x ≢ b)
       (there : (i : ℕ) → i < length (map laid_row rows) → (row_at (map laid_row rows) i).segment < length ss) (at : IsKeptAt ss columns x m rows l) where
-    head_there : head_in rows < length ss
-    head_there =
-        let k = length-map rows laid_row in
-        let some = at.some in
-        let i : length rows - 1 < length rows = omega (arith, some) in
-        subst (λ (y : Row). y.segment < length ss) (get_or-map laid_row rows (length rows - 1) no_kept_row no_row i) (there (length rows - 1) (omega (arith, i, k)))
+    head_there : head_in x ss < length ss
+    head_there = own_there (length ss) (head_in x ss) rows at.own there
 
     heads_keep : (p : Bool) → q ≡ p → (s : ℕ) → s < length ss → is_head_of x (head_at (segments_with p b c ss) s) ≡ is_head_of x (head_at ss s)
     heads_keep true e s h = other_head b c ss true x s h (away e)
     heads_keep false e s h = older_head b c ss x s h
 
-    headed_on : (s : ℕ) → s < length (segments_with q b c ss) → is_head_of x (head_at (segments_with q b c ss) s) ≡ (s == head_in rows)
+    headed_on : (s : ℕ) → s < length (segments_with q b c ss) → is_head_of x (head_at (segments_with q b c ss) s) ≡ (s == head_in x ss)
     headed_on s h = by (which b c ss q s h)
       where
-        by : (s < length ss) ⊎ (((q ≡ true) × (s ≡ length ss)) ⊎ (s ≡ new_head q ss)) → is_head_of x (head_at (segments_with q b c ss) s) ≡ (s == head_in rows)
+        by : (s < length ss) ⊎ (((q ≡ true) × (s ≡ length ss)) ⊎ (s ≡ new_head q ss)) → is_head_of x (head_at (segments_with q b c ss) s) ≡ (s == head_in x ss)
         by (inl l) = heads_keep q refl s l ∙ at.headed s l
         by (inr (inl e)) =
             ap (is_head_of x) (ap (head_at after) e.1 ∙ ap (λ p. head_at (segments_with p b c ss) (length ss)) e.0 ∙ own_new b c ss)
             ∙ ne_eqb x b (away e.0)
-            ∙ sym (ne_eqb s (head_in rows) (λ e2. let t = head_there in let f = e.1 in absurd (omega (arith, t, e2, f))))
+            ∙ sym (ne_eqb s (head_in x ss) (λ e2. let t = head_there in let f = e.1 in absurd (omega (arith, t, e2, f))))
         by (inr (inr e)) =
             ap (is_head_of x) (ap (head_at after) e ∙ begun_new b c ss q)
             ∙ ne_eqb x c other
-            ∙ sym (ne_eqb s (head_in rows) (λ e2. let t = head_there in let a = above in absurd (omega (arith, t, e2, e, a))))
+            ∙ sym (ne_eqb s (head_in x ss) (λ e2. let t = head_there in let a = above in absurd (omega (arith, t, e2, e, a))))
+
+    -- its head keeps its number
+    head_kept : head_in x (segments_with q b c ss) ≡ head_in x ss
+    head_kept = let h = head_there in let a = above in let n = new_there q b c ss in head_in_is x (head_in x ss) (segments_with q b c ss) (omega (arith, h, a, n)) headed_on
 
     pub kept_with : IsKeptAt (segments_with q b c ss) columns x m rows l
     kept_with = record {
-      some = at.some;
-      headed = headed_on;
+      own = ap (λ k. has_row k rows) head_kept ∙ at.own;
+      headed = λ s h. headed_on s h ∙ ap (λ k. s == k) (sym head_kept);
       short = at.short;
       shown = record {
         count = at.shown.count;
@@ -167,7 +171,7 @@ module _ (q : Bool) (b c n count columns : ℕ) (ss : List Segment) (apart : b �
               past = s.past;
             };
       };
-      whole = λ i h e. at.whole i h e ∙ sym (with_same q b c ss (head_in rows) head_there);
+      whole = λ i h e. at.whole i h (e ∙ head_kept) ∙ sym (with_same q b c ss (head_in x ss) head_there) ∙ ap (records_at (segments_with q b c ss)) (sym head_kept);
       lived = at.lived;
       small = at.small;
       fields = at.fields;
@@ -290,11 +294,10 @@ module _ (b c n columns : ℕ) (ss : List Segment) (apart : b ≢ c) (rows : Lis
 
   pub turned_kept : IsKeptAt (segments_with true b c ss) columns b n (rows ++ turned_row (length ss) n ∷ []) (lived_turned l (empty_head (length ss) columns))
   turned_kept =
-      let r = length_push rows row in
-      let hi : head_in turned_news ≡ length ss = head_last rows row in
+      let hi : head_in b wide ≡ length ss = (let n = new_there true b c ss in head_in_is b (length ss) wide (omega (arith, n)) turned_headed) in
       let ps : List Piece = l.pieces ++ turned_head ∷ [] in
       record {
-        some = omega (arith, r);
+        own = own_last (head_in b wide) rows row (sym hi);
         headed = λ s h. turned_headed s h ∙ ap (λ k. s == k) (sym hi);
         short = λ i h. turned_short i h (cases_lt i (length rows));
         shown = subst (λ (xs : List Row). Show wide n xs ps) (sym laid_is) turned_show;

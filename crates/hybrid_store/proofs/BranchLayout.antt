@@ -1,9 +1,9 @@
 -- The layout of what a store keeps, after a new branch.
-use Rattle.std.proofs.Common.{◌≡◌, ℕ, Bool, true, false, cond, ◌==◌, ◌<◌, List, [], ◌∷◌, ◌++◌, length, map, set, get_or, Option, Some, None, refl, arith, ap, sym, ◌∙◌}
+use Rattle.std.proofs.Common.{◌≡◌, ℕ, Bool, ◌<◌, List, [], ◌∷◌, ◌++◌, length, map, set, get_or, None, ap, sym, ◌∙◌}
 use Rattle.std.proofs.lemmas.List.{length-map, map-append, map-set}
 use Rattle.db_value.specs.declared.schema.Relation.{Relation}
 use Rattle.db_value.specs.declared.version.VersionPlace.{VersionPlace}
-use Rattle.db_store.specs.Layout.{Segment, Row, Lane, Layout, lane_at, by_relation, segments_at, rows_at}
+use Rattle.db_store.specs.Layout.{Lane, Layout, lane_at, segments_at, rows_at}
 use Rattle.db_store.specs.LayoutGrowth.{rows_with, rows_begun, segments_with, made_at, lane_with, lane_begun, with_branch}
 use Rattle.db_store.proofs.LayoutLaw.{same_relations}
 use Rattle.bit_rows.specs.Rows.{laid_row}

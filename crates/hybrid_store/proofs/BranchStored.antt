@@ -1,26 +1,22 @@
 -- All that a store keeps, after a new branch.
-use Rattle.std.proofs.Common.{◌≡◌, ◌≢◌, ◌⊎◌, inl, inr, ℕ, suc, ◌+◌, ◌-◌, ◌<◌, ◌≤◌, Bool, true, false, List, [], ◌∷◌, ◌++◌, length, map, set, get_or, refl, arith, ap, sym, ◌∙◌, subst}
+use Rattle.std.proofs.Common.{◌≡◌, ◌≢◌, ◌⊎◌, inl, inr, ℕ, ◌+◌, ◌-◌, ◌<◌, ◌≤◌, Bool, true, List, [], ◌∷◌, ◌++◌, length, map, set, get_or, arith, ap, sym, ◌∙◌, subst}
 use Rattle.std.proofs.lemmas.Bool.{cases_eq}
-use Rattle.std.proofs.lemmas.List.{length-map, length-set, length-append, length_push, get_or-map, get_or_push, get_or_append_left, get_or-set_same, get_or-set_other}
+use Rattle.std.proofs.lemmas.List.{length-map, length-set, length_push, get_or_push, get_or_append_left, get_or-set_same, get_or-set_other}
 use Rattle.db_value.specs.Relations.{columns_at}
 use Rattle.db_value.specs.declared.schema.Relation.{Relation}
 use Rattle.db_value.specs.declared.version.VersionPlace.{VersionPlace}
-use Rattle.db_store.specs.Layout.{Segment, Row, Lane, Layout, lane_at, segments_at, rows_at, head_segment}
-use Rattle.db_store.specs.LayoutGrowth.{segments_with, without_head}
-use Rattle.db_store.specs.LaidOut.{IsLaid, AreRowsOf, row_at}
+use Rattle.db_store.specs.Layout.{Segment, Row, Lane, Layout, lane_at, segments_at, rows_at}
+use Rattle.db_store.specs.LayoutGrowth.{segments_with}
+use Rattle.db_store.specs.LaidOut.{IsLaid, AreRowsOf}
 use Rattle.hybrid_view.specs.Live.{lived_at}
 use Rattle.bit_rows.specs.Rows.{laid_row}
 use Rattle.bit_rows.specs.Kept.{KeptLane, no_kept, kept_rows}
 use Rattle.hybrid_store.specs.Lanes.{segment_of, lane_of, kept_layout}
 use Rattle.bit_rows.specs.Segments.{KeptList, no_list, most_segments, list_at, kept_at}
-use Rattle.hybrid_store.specs.Stored.{IsKeptAt, IsKept, IsStored}
+use Rattle.hybrid_store.specs.Stored.{head_number, HasHead, IsKeptAt, IsKept, IsStored}
 use Rattle.hybrid_store.proofs.LayoutLemmas.{lane_kept, segments_kept, rows_kept}
-use Rattle.hybrid_store.proofs.BegunKept.{kept_with}
-
--- a new branch brings two segments at most
-pub with_count : (q : Bool) (b c : ℕ) (ss : List Segment) → length (segments_with q b c ss) ≤ length ss + 2
-with_count true b c ss = let n = length-append (map (without_head b) ss) (head_segment b ∷ head_segment c ∷ []) in let m = length-map ss (without_head b) in omega (arith, n, m)
-with_count false b c ss = let n = length_push ss (head_segment c) in omega (arith, n)
+use Rattle.hybrid_store.proofs.OwnLemmas.{has_at, kept_head}
+use Rattle.hybrid_store.proofs.BegunKept.{with_count, kept_with}
 
 -- the rows of a branch, as the layout has them
 module _ (schema : List Relation) (lanes : List KeptLane) (order : List VersionPlace) (segments : List KeptList) (laid : IsLaid (kept_layout schema lanes order segments)) (b : ℕ) (there : b < length lanes) (r : ℕ) (h : r < length schema) where
@@ -38,6 +34,23 @@ module _ (schema : List Relation) (lanes : List KeptLane) (order : List VersionP
       subst (λ (ss : List Segment). AreRowsOf ss b (length (get_or lanes b no_kept).seconds) (map laid_row (kept_rows (get_or lanes b no_kept) r))) (segments_kept schema lanes order segments r h)
       (subst (λ (rows : List Row). AreRowsOf (segments_at l.segments r) b (length (get_or lanes b no_kept).seconds) rows) (ap (λ (x : Lane). rows_at x r) here ∙ rows_kept schema (get_or lanes b no_kept) r h)
       (subst (λ n. AreRowsOf (segments_at l.segments r) b n (rows_at (lane_at l b) r)) (ap (λ (x : Lane). length x.seconds) here) ((laid.lanes b below).rows r h)))
+
+-- each branch of a store has its head in each relation
+pub store_head : (schema : List Relation) (lanes : List KeptLane) (order : List VersionPlace) (segments : List KeptList) → IsStored schema lanes segments → IsLaid (kept_layout schema lanes order segments)
+    → (b r : ℕ) → b < length lanes → r < length schema → HasHead b (list_at segments r) (kept_rows (get_or lanes b no_kept) r)
+store_head schema lanes order segments is laid b r h g =
+    let k : KeptLane = get_or lanes b no_kept in
+    kept_head (list_at segments r) (length (columns_at schema r)) b (length k.seconds - 1) (kept_rows k r) (lived_at k.head r) (λ i lt. ((rows_of_lane schema lanes order segments laid b h r g).are i lt).there) ((is.each b h).at r g)
+
+-- and it is there
+pub store_head_there : (schema : List Relation) (lanes : List KeptLane) (order : List VersionPlace) (segments : List KeptList) → IsStored schema lanes segments → IsLaid (kept_layout schema lanes order segments)
+    → (b r : ℕ) → b < length lanes → r < length schema → head_number segments b r < length (list_at segments r)
+store_head_there schema lanes order segments is laid b r h g =
+    let head = store_head schema lanes order segments is laid b r h g in
+    let at = has_at (head_number segments b r) (kept_rows (get_or lanes b no_kept) r) head.own in
+    let below = head.there at.0 at.1.0 in
+    let e = at.1.1 in
+    omega (arith, below, e)
 
 module _ (schema : List Relation) (lanes : List KeptLane) (order : List VersionPlace) (segments news : List KeptList) (q : Bool) (b : ℕ) (old new : KeptLane) (there : b < length lanes)
     (is : IsStored schema lanes segments) (laid : IsLaid (kept_layout schema lanes order segments)) (wide : length news ≡ length schema)

@@ -43,11 +43,12 @@ use Rattle.bit_rows.specs.Kept.{KeptLane, no_kept, kept_rows, nexts_at}
 use Rattle.hybrid_store.specs.Lanes.{segment_of, lane_of, kept_layout}
 use Rattle.bit_rows.specs.Segments.{KeptList, no_rows, kept_at, list_at}
 use Rattle.bit_rows.specs.Differences.{difference_of, AreDifferences}
-use Rattle.hybrid_store.specs.Stored.{kept_dataset, head_of_lane, AllDifferences, AllNextIn, AreSmall, IsKeptAt, IsStored}
+use Rattle.hybrid_store.specs.Stored.{kept_dataset, head_number, HasPiece, AllDifferences, AllNextIn, AreSmall, IsKeptAt, IsStored}
 use Rattle.record_page.specs.Page.{Rows}
-use Rattle.hybrid_store.specs.Ready.{changed_slots, IsMadeAt, IsMadeOf, no_own}
+use Rattle.hybrid_store.specs.Ready.{changed_slots, AreOwn, IsMadeAt, IsMadeOf, no_own}
 use Rattle.hybrid_store.proofs.StoredLemmas.{kept_count, kept_versions}
 use Rattle.hybrid_store.proofs.HeadLemmas.{head_is}
+use Rattle.hybrid_store.proofs.OwnLemmas.{has_at, own_there}
 use Rattle.hybrid_store.proofs.LayoutLemmas.{lane_kept, segments_kept, rows_kept}
 
 pub fit_differ : (schema : List Relation) (lanes : List KeptLane) (order : List VersionPlace) (segments : List KeptList) (b : ℕ) (second : Option VersionPlace) (changes : List Change) → fits (kept_dataset schema lanes order segments) (Commit b second changes) ≡ true → keys_differ changes ≡ true
@@ -171,40 +172,33 @@ module _ (schema : List Relation) (lanes : List KeptLane) (order : List VersionP
   last_next = let s = some in omega (arith, s)
 
   -- the pieces after the commit show the rows after it
-  pub shown_after : (qs : List Piece) → AllNext (touched_places (lived_at (get_or lanes b no_kept).head r).pieces changes r) (head_of_lane (get_or lanes b no_kept) r) (puts changes r) (lived_at (get_or lanes b no_kept).head r).pieces qs → AllShow news count rows_next qs
-  shown_after qs next = next_shows b changes r ss count (count - 1) (head_of_lane k r) last_next rows lived.pieces qs before_rows.are shown next at.headed at.whole at.lived.ascend at.lived.apart
+  pub shown_after : (qs : List Piece) → AllNext (touched_places (lived_at (get_or lanes b no_kept).head r).pieces changes r) (head_number segments b r) (puts changes r) (lived_at (get_or lanes b no_kept).head r).pieces qs → AllShow news count rows_next qs
+  shown_after qs next = next_shows b changes r ss count (count - 1) (head_number segments b r) last_next rows lived.pieces qs before_rows.are shown next at.headed at.whole at.lived.ascend at.lived.apart
 
   -- and all of what holds of them
-  pub lived_after : (qs : List Piece) → AllNext (touched_places (lived_at (get_or lanes b no_kept).head r).pieces changes r) (head_of_lane (get_or lanes b no_kept) r) (puts changes r) (lived_at (get_or lanes b no_kept).head r).pieces qs
-      → IsLived (record { pieces = qs; places = with_changes (lived_at (get_or lanes b no_kept).head r).places (spots (head_of_lane (get_or lanes b no_kept) r) (length (records_at (map segment_of (list_at segments r)) (head_of_lane (get_or lanes b no_kept) r))) changes r); count = finite.len (after r (contents_in (lived_at (get_or lanes b no_kept).head r)) changes) })
+  pub lived_after : (qs : List Piece) → AllNext (touched_places (lived_at (get_or lanes b no_kept).head r).pieces changes r) (head_number segments b r) (puts changes r) (lived_at (get_or lanes b no_kept).head r).pieces qs
+      → IsLived (record { pieces = qs; places = with_changes (lived_at (get_or lanes b no_kept).head r).places (spots (head_number segments b r) (length (records_at (map segment_of (list_at segments r)) (head_number segments b r))) changes r); count = finite.len (after r (contents_in (lived_at (get_or lanes b no_kept).head r)) changes) })
   lived_after qs next =
       let d : keys_differ changes ≡ true = fit_differ schema lanes order segments b second changes fit in
-      lived_next b changes r ss count (count - 1) (head_of_lane k r) rows lived qs (finite.len (after r (contents_in lived) changes)) last_next d before_rows after_rows at.headed at.lived shown at.whole next
+      lived_next b changes r ss count (count - 1) (head_number segments b r) rows lived qs (finite.len (after r (contents_in lived) changes)) last_next d before_rows after_rows at.headed at.lived shown at.whole next
       (ap (λ m. finite.len (after r m changes)) (ap contents_of (shown_rows ss (count - 1) rows lived.pieces shown))
       ∙ ap (λ m. finite.len m) (sym (contents_next b changes r ss count (count - 1) rows last_next d before_rows.are before_rows.headed)))
 
   -- the head is a segment that is there
-  pub head_there : head_of_lane (get_or lanes b no_kept) r < length (list_at segments r)
-  head_there =
-      let n = length-map (list_at segments r) segment_of in
-      let m = length-map (kept_rows k r) laid_row in
-      let sm = at.some in
-      let i : length (kept_rows k r) - 1 < length (kept_rows k r) = omega (arith, sm) in
-      let there : (row_at rows (length (kept_rows k r) - 1)).segment < length ss = (before_rows.are (length (kept_rows k r) - 1) (omega (arith, m, i))).there in
-      let e : (row_at rows (length (kept_rows k r) - 1)).segment ≡ head_of_lane k r = ap (λ (x : Row). x.segment) (get_or-map laid_row (kept_rows k r) (length (kept_rows k r) - 1) no_kept_row no_row i) in
-      omega (arith, there, n, e)
+  pub head_there : head_number segments b r < length (list_at segments r)
+  head_there = (let n = length-map (list_at segments r) segment_of in let t = own_there (length ss) (head_number segments b r) (kept_rows k r) at.own (λ i lt. (before_rows.are i lt).there) in omega (arith, n, t))
 
   -- the records of the head, as they are kept and as the layout has them
-  pub head_records : (kept_at (list_at segments r) (head_of_lane (get_or lanes b no_kept) r)).rows.records ≡ records_at (map segment_of (list_at segments r)) (head_of_lane (get_or lanes b no_kept) r)
-  head_records = sym (ap (λ (x : Segment). x.records) (get_or-map segment_of (list_at segments r) (head_of_lane k r) no_rows no_segment head_there))
+  pub head_records : (kept_at (list_at segments r) (head_number segments b r)).rows.records ≡ records_at (map segment_of (list_at segments r)) (head_number segments b r)
+  head_records = sym (ap (λ (x : Segment). x.records) (get_or-map segment_of (list_at segments r) (head_number segments b r) no_rows no_segment head_there))
 
   pub put_fields : (i : ℕ) → i < length (lived_at (get_or lanes b no_kept).head r).pieces → AreWide (piece_at (lived_at (get_or lanes b no_kept).head r).pieces i).rows.fields (puts changes r)
   put_fields i lt =
       let parts = commit_parts (kept_dataset schema lanes order segments) b second changes fit in
       subst (λ n. AreWide n (puts changes r)) (sym (at.fields i lt)) (λ j h. puts_fit schema changes r (and_parts _ _ parts.changes).1 j (record { key = 0; fields = [] }) h)
 
-  pub put_room : length (records_at (map segment_of (list_at segments r)) (head_of_lane (get_or lanes b no_kept) r)) + length changes < 2 ^ 32 → (i : ℕ) → i < length (lived_at (get_or lanes b no_kept).head r).pieces
-      → (piece_at (lived_at (get_or lanes b no_kept).head r).pieces i).segment ≡ head_of_lane (get_or lanes b no_kept) r → length (piece_at (lived_at (get_or lanes b no_kept).head r).pieces i).rows.records + length (puts changes r) < 2 ^ 32
+  pub put_room : length (records_at (map segment_of (list_at segments r)) (head_number segments b r)) + length changes < 2 ^ 32 → (i : ℕ) → i < length (lived_at (get_or lanes b no_kept).head r).pieces
+      → (piece_at (lived_at (get_or lanes b no_kept).head r).pieces i).segment ≡ head_number segments b r → length (piece_at (lived_at (get_or lanes b no_kept).head r).pieces i).rows.records + length (puts changes r) < 2 ^ 32
   put_room few i lt e =
       let w = ap length (at.whole i lt e) in
       let p = puts_few changes r in
@@ -248,7 +242,7 @@ module _ (schema : List Relation) (lanes : List KeptLane) (order : List VersionP
       omega (arith, full, ls, room, v)
 
   -- what the pieces differ in is what the commit changes of the rows
-  pub difference_is : (qs : List Piece) → AllNext (touched_places (lived_at (get_or lanes b no_kept).head r).pieces changes r) (head_of_lane (get_or lanes b no_kept) r) (puts changes r) (lived_at (get_or lanes b no_kept).head r).pieces qs
+  pub difference_is : (qs : List Piece) → AllNext (touched_places (lived_at (get_or lanes b no_kept).head r).pieces changes r) (head_number segments b r) (puts changes r) (lived_at (get_or lanes b no_kept).head r).pieces qs
       → (i : ℕ) → i < length (kept_rows (get_or lanes b no_kept) r)
       → difference_of (piece_at (lived_at (get_or lanes b no_kept).head r).pieces i) (piece_at qs i) ≡ changed_slots ss b (count - 1) r changes (laid_row (kept_row_at (kept_rows (get_or lanes b no_kept) r) i))
   difference_is qs next i lt =
@@ -278,21 +272,21 @@ module _ (schema : List Relation) (lanes : List KeptLane) (order : List VersionP
       (λ slot g. (λ j. differ (before.bits slot j) ((now.bits slot ∙ bit_next old new (touches changes r) count (count - 1) row row_ok last_next slot g) j)))
 
   -- the pieces stay small enough for their ids
-  pub small_after : (qs : List Piece) → AllNext (touched_places (lived_at (get_or lanes b no_kept).head r).pieces changes r) (head_of_lane (get_or lanes b no_kept) r) (puts changes r) (lived_at (get_or lanes b no_kept).head r).pieces qs
-      → length (records_at (map segment_of (list_at segments r)) (head_of_lane (get_or lanes b no_kept) r)) + length changes < 2 ^ 32
+  pub small_after : (qs : List Piece) → AllNext (touched_places (lived_at (get_or lanes b no_kept).head r).pieces changes r) (head_number segments b r) (puts changes r) (lived_at (get_or lanes b no_kept).head r).pieces qs
+      → length (records_at (map segment_of (list_at segments r)) (head_number segments b r)) + length changes < 2 ^ 32
       → (i : ℕ) → i < length (lived_at (get_or lanes b no_kept).head r).pieces → length (piece_at qs i).rows.records < 2 ^ 32
   small_after qs next few i lt =
       let p : Piece = piece_at lived.pieces i in
       let e = ap (λ (xs : List Record). length xs) (next.each i lt).records in
-      let n = length-append p.rows.records (cond (p.segment == head_of_lane k r) (puts changes r) []) in
-      by (cases_Bool (p.segment == head_of_lane k r)) (e ∙ n)
+      let n = length-append p.rows.records (cond (p.segment == head_number segments b r) (puts changes r) []) in
+      by (cases_Bool (p.segment == head_number segments b r)) (e ∙ n)
     where
-      by : ((piece_at (lived_at (get_or lanes b no_kept).head r).pieces i).segment == head_of_lane (get_or lanes b no_kept) r ≡ true) ⊎ ((piece_at (lived_at (get_or lanes b no_kept).head r).pieces i).segment == head_of_lane (get_or lanes b no_kept) r ≡ false)
-          → length (piece_at qs i).rows.records ≡ length (piece_at (lived_at (get_or lanes b no_kept).head r).pieces i).rows.records + length (cond ((piece_at (lived_at (get_or lanes b no_kept).head r).pieces i).segment == head_of_lane (get_or lanes b no_kept) r) (puts changes r) [])
+      by : ((piece_at (lived_at (get_or lanes b no_kept).head r).pieces i).segment == head_number segments b r ≡ true) ⊎ ((piece_at (lived_at (get_or lanes b no_kept).head r).pieces i).segment == head_number segments b r ≡ false)
+          → length (piece_at qs i).rows.records ≡ length (piece_at (lived_at (get_or lanes b no_kept).head r).pieces i).rows.records + length (cond ((piece_at (lived_at (get_or lanes b no_kept).head r).pieces i).segment == head_number segments b r) (puts changes r) [])
           → length (piece_at qs i).rows.records < 2 ^ 32
       by (inl t) e =
           let z = ap (λ x. length (cond x (puts changes r) [])) t in
-          let w = put_room few i lt (eqb-true (piece_at (lived_at (get_or lanes b no_kept).head r).pieces i).segment (head_of_lane (get_or lanes b no_kept) r) t) in
+          let w = put_room few i lt (eqb-true (piece_at (lived_at (get_or lanes b no_kept).head r).pieces i).segment (head_number segments b r) t) in
           omega (arith, e, z, w)
       by (inr f) e =
           let none : List Record = [] in
@@ -301,8 +295,8 @@ module _ (schema : List Relation) (lanes : List KeptLane) (order : List VersionP
           omega (arith, e, z, w)
 
   -- all of it: what is ready in this relation
-  pub made_at : (nexts : List Next) (m : Lived) (own : Rows) → AllNext (touched_places (lived_at (get_or lanes b no_kept).head r).pieces changes r) (head_of_lane (get_or lanes b no_kept) r) (puts changes r) (lived_at (get_or lanes b no_kept).head r).pieces m.pieces
-      → AreDifferences (kept_rows (get_or lanes b no_kept) r) nexts (lived_at (get_or lanes b no_kept).head r).pieces m.pieces → IsLived m → own.records ≡ records_at news (head_of_lane (get_or lanes b no_kept) r) → own.fields ≡ length (columns_at schema r) → AreSmall m
+  pub made_at : (nexts : List Next) (m : Lived) (own : Rows) → AllNext (touched_places (lived_at (get_or lanes b no_kept).head r).pieces changes r) (head_number segments b r) (puts changes r) (lived_at (get_or lanes b no_kept).head r).pieces m.pieces
+      → AreDifferences (kept_rows (get_or lanes b no_kept) r) nexts (lived_at (get_or lanes b no_kept).head r).pieces m.pieces → IsLived m → own.records ≡ records_at news (head_number segments b r) → own.fields ≡ length (columns_at schema r) → AreSmall m
       → IsMadeAt ss (length (columns_at schema r)) b (count - 1) r changes rows nexts m own
   made_at nexts m own next ds is_lived put own_fields small =
       let ps : List Piece = lived.pieces in
@@ -311,7 +305,7 @@ module _ (schema : List Relation) (lanes : List KeptLane) (order : List VersionP
       let lm = length-map (kept_rows k r) laid_row in
       let f : Row → Row = λ (x : Row). row_after old new (touches changes r) (count - 1) x in
       let lf = length-map rows f in
-      let is_head : (s : ℕ) → s < length old → is_head_of b (head_at old s) ≡ true → s ≡ head_of_lane k r = λ s h t. eqb-true s (head_of_lane k r) (sym (at.headed s h) ∙ t) in
+      let is_head : (s : ℕ) → s < length old → is_head_of b (head_at old s) ≡ true → s ≡ head_number segments b r = λ s h t. eqb-true s (head_number segments b r) (sym (at.headed s h) ∙ t) in
       let c = at.shown.count in
       record {
         there = λ i h. (before_rows.are i h).there;
@@ -331,9 +325,9 @@ module _ (schema : List Relation) (lanes : List KeptLane) (order : List VersionP
             let li : i < length ps = omega (arith, c, lt) in
             let one = next.each i li in
             let hd = is_head s h t in
-            let seg : (piece_at ps i).segment ≡ head_of_lane k r = sym one.segment ∙ e ∙ hd in
+            let seg : (piece_at ps i).segment ≡ head_number segments b r = sym one.segment ∙ e ∙ hd in
             one.records
-            ∙ (λ j. at.whole i li seg j ++ cond (eq-eqb (piece_at ps i).segment (head_of_lane k r) seg j) (puts changes r) [])
+            ∙ (λ j. at.whole i li seg j ++ cond (eq-eqb (piece_at ps i).segment (head_number segments b r) seg j) (puts changes r) [])
             ∙ ap (λ x. records_at old x ++ puts changes r) (sym hd)
             ∙ sym (after_records b (puts changes r) old s h ∙ ap (λ x. records_at old s ++ cond x (puts changes r) []) t);
         lived = is_lived;
@@ -353,54 +347,58 @@ module _ (schema : List Relation) (lanes : List KeptLane) (order : List VersionP
       (subst (λ xs. IsMadeAt (segments_at l.segments r) columns b (count - 1) r changes xs nexts m own) (sym rows_eq)
       (subst (λ s. IsMadeAt s columns b (count - 1) r changes rows nexts m own) (sym (segments_kept schema lanes order segments r g)) made))
 
-  -- the last piece has the records of the head
-  pub last_put : (m : Lived) → AllNext (touched_places (lived_at (get_or lanes b no_kept).head r).pieces changes r) (head_of_lane (get_or lanes b no_kept) r) (puts changes r) (lived_at (get_or lanes b no_kept).head r).pieces m.pieces
-      → (piece_at m.pieces (length m.pieces - 1)).rows.records ≡ records_at news (head_of_lane (get_or lanes b no_kept) r)
-  last_put m next =
+  -- the piece of the head has its records
+  pub own_put : (m : Lived) → AllNext (touched_places (lived_at (get_or lanes b no_kept).head r).pieces changes r) (head_number segments b r) (puts changes r) (lived_at (get_or lanes b no_kept).head r).pieces m.pieces
+      → (i : ℕ) → i < length m.pieces → (piece_at m.pieces i).segment ≡ head_number segments b r → (piece_at m.pieces i).rows.records ≡ records_at news (head_number segments b r)
+  own_put m next i lt e =
       let ps : List Piece = lived.pieces in
-      let hd : ℕ = head_of_lane k r in
-      let lm = length-map (kept_rows k r) laid_row in
-      let c = at.shown.count in let d = next.count in let sm = at.some in
-      let z : length m.pieces - 1 ≡ length (kept_rows k r) - 1 = omega (arith, c, d, lm) in
-      let lt : length (kept_rows k r) - 1 < length (kept_rows k r) = omega (arith, sm) in
-      let li : length m.pieces - 1 < length rows = omega (arith, z, lt, lm) in
-      let lp : length m.pieces - 1 < length ps = omega (arith, li, c) in
-      let one = next.each (length m.pieces - 1) lp in
-      let row : (row_at rows (length m.pieces - 1)).segment ≡ hd =
-      ap (λ i. (row_at rows i).segment) z ∙ ap (λ (x : Row). x.segment) (get_or-map laid_row (kept_rows k r) (length (kept_rows k r) - 1) no_kept_row no_row lt) in
-      let seg : (piece_at ps (length m.pieces - 1)).segment ≡ hd = (at.shown.each (length m.pieces - 1) li).segment ∙ row in
+      let hd : ℕ = head_number segments b r in
+      let d = next.count in
+      let lp : i < length ps = omega (arith, d, lt) in
+      let one = next.each i lp in
+      let seg : (piece_at ps i).segment ≡ hd = sym one.segment ∙ e in
       let n = length-map (list_at segments r) segment_of in
       let th = head_there in
       let there : hd < length ss = omega (arith, n, th) in
       one.records
-      ∙ (λ j. at.whole (length m.pieces - 1) lp seg j ++ cond (eq-eqb (piece_at ps (length m.pieces - 1)).segment hd seg j) (puts changes r) [])
+      ∙ (λ j. at.whole i lp seg j ++ cond (eq-eqb (piece_at ps i).segment hd seg j) (puts changes r) [])
       ∙ sym (after_records b (puts changes r) ss hd there ∙ ap (λ x. records_at ss hd ++ cond x (puts changes r) []) (at.headed hd there ∙ eq-eqb hd hd refl))
 
   -- and their number of fields
-  pub last_fields : (m : Lived) → AllNext (touched_places (lived_at (get_or lanes b no_kept).head r).pieces changes r) (head_of_lane (get_or lanes b no_kept) r) (puts changes r) (lived_at (get_or lanes b no_kept).head r).pieces m.pieces
-      → (piece_at m.pieces (length m.pieces - 1)).rows.fields ≡ length (columns_at schema r)
-  last_fields m next =
-      let lm = length-map (kept_rows k r) laid_row in
-      let c = at.shown.count in let d = next.count in let sm = at.some in
-      let lp : length m.pieces - 1 < length lived.pieces = omega (arith, c, d, sm, lm) in
-      (next.each (length m.pieces - 1) lp).fields ∙ at.fields (length m.pieces - 1) lp
+  pub own_fields : (m : Lived) → AllNext (touched_places (lived_at (get_or lanes b no_kept).head r).pieces changes r) (head_number segments b r) (puts changes r) (lived_at (get_or lanes b no_kept).head r).pieces m.pieces
+      → (i : ℕ) → i < length m.pieces → (piece_at m.pieces i).rows.fields ≡ length (columns_at schema r)
+  own_fields m next i lt =
+      let d = next.count in
+      let lp : i < length lived.pieces = omega (arith, d, lt) in
+      (next.each i lp).fields ∙ at.fields i lp
 
--- each relation has a part at least
-pub next_some : (schema : List Relation) (lanes : List KeptLane) (segments : List KeptList) (b : ℕ) (changes : List Change) (head : List Lived) → b < length lanes → IsStored schema lanes segments
-    → AllNextIn (get_or lanes b no_kept) changes (length schema) head → (r : ℕ) → r < length schema → 0 < length (lived_at head r).pieces
-next_some schema lanes segments b changes head h is next r g =
+-- in each relation one piece is that of the head
+pub next_own : (schema : List Relation) (lanes : List KeptLane) (segments : List KeptList) (b : ℕ) (changes : List Change) (head : List Lived) → b < length lanes → IsStored schema lanes segments
+    → AllNextIn (head_number segments b) (get_or lanes b no_kept) changes (length schema) head → (r : ℕ) → r < length schema → HasPiece (head_number segments b r) (lived_at head r).pieces
+next_own schema lanes segments b changes head h is next r g =
     let k : KeptLane = get_or lanes b no_kept in
-    let at = (is.each b h).at r g in
+    let kept = (is.each b h).at r g in
+    let own_at = has_at (head_number segments b r) (kept_rows k r) kept.own in
+    let i : ℕ = own_at.0 in
+    let lt = own_at.1.0 in
     let m = length-map (kept_rows k r) laid_row in
-    let c = at.shown.count in let d = (next r g).count in let s = at.some in
-    omega (arith, m, c, d, s)
+    let c = kept.shown.count in
+    let d = (next r g).count in
+    let lr : i < length (map laid_row (kept_rows k r)) = omega (arith, m, lt) in
+    let lp : i < length (lived_at k.head r).pieces = omega (arith, lr, c) in (
+      i,
+      (
+        omega (arith, lp, d),
+        ((next r g).each i lp).segment ∙ (kept.shown.each i lr).segment ∙ ap (λ (x : Row). x.segment) (get_or-map laid_row (kept_rows k r) i no_kept_row no_row lt) ∙ own_at.1.1,
+      ),
+    )
 
 -- what a commit that fits makes is ready
 pub prepared_is : (schema : List Relation) (lanes : List KeptLane) (order : List VersionPlace) (segments : List KeptList) (b : ℕ) (second : Option VersionPlace) (changes : List Change) (h : b < length lanes)
     → IsStored schema lanes segments → IsLaid (kept_layout schema lanes order segments) → fits (kept_dataset schema lanes order segments) (Commit b second changes) ≡ true
     → (nexts : List (List Next)) (head : List Lived) (owns : List Rows) → length nexts ≡ length schema → length head ≡ length schema → length owns ≡ length schema
-    → AllNextIn (get_or lanes b no_kept) changes (length schema) head → AllDifferences (get_or lanes b no_kept) nexts (length schema) head → AllLived head
-    → ((r : ℕ) → r < length schema → get_or owns r no_own ≡ (piece_at (lived_at head r).pieces (length (lived_at head r).pieces - 1)).rows)
+    → AllNextIn (head_number segments b) (get_or lanes b no_kept) changes (length schema) head → AllDifferences (get_or lanes b no_kept) nexts (length schema) head → AllLived head
+    → AreOwn (head_number segments b) head (length schema) owns
     → ((r : ℕ) → r < length schema → AreSmall (lived_at head r))
     → IsMadeOf (kept_layout schema lanes order segments) b second changes b second nexts head owns
 prepared_is schema lanes order segments b second changes h is laid fit nexts head owns e w n next ds all put small = record {
@@ -413,7 +411,7 @@ prepared_is schema lanes order segments b second changes h is laid fit nexts hea
       let own : Rows = get_or owns r no_own in
       made_in schema lanes order segments b r second changes h g is laid fit (nexts_at nexts r) (lived_at head r) own
       (made_at schema lanes order segments b r second changes h g is laid fit (nexts_at nexts r) (lived_at head r) own (next r g) (ds r g) (all r (omega (arith, g, w)))
-      (ap (λ (x : Rows). x.records) (put r g) ∙ last_put schema lanes order segments b r second changes h g is laid fit (lived_at head r) (next r g))
-      (ap (λ (x : Rows). x.fields) (put r g) ∙ last_fields schema lanes order segments b r second changes h g is laid fit (lived_at head r) (next r g))
+      (ap (λ (x : Rows). x.records) (put r g).1.1.1 ∙ own_put schema lanes order segments b r second changes h g is laid fit (lived_at head r) (next r g) (put r g).0 (put r g).1.0 (put r g).1.1.0)
+      (ap (λ (x : Rows). x.fields) (put r g).1.1.1 ∙ own_fields schema lanes order segments b r second changes h g is laid fit (lived_at head r) (next r g) (put r g).0 (put r g).1.0)
       (small r g));
 }

@@ -1,7 +1,7 @@
 -- All that a store keeps, after a commit is installed.
 use Rattle.std.proofs.Common.{◌≡◌, ◌≢◌, ◌⊎◌, inl, inr, ℕ, suc, ◌-◌, ◌<◌, ◌≤◌, List, [], ◌∷◌, ◌++◌, length, map, set, get_or, Option, refl, arith, ap, sym, ◌∙◌, subst}
 use Rattle.std.proofs.lemmas.Bool.{cases_eq}
-use Rattle.std.proofs.lemmas.List.{length-map, length-set, length_push, get_or-map, get_or-set_same, get_or-set_other}
+use Rattle.std.proofs.lemmas.List.{length-map, length-set, length_push, get_or-set_same, get_or-set_other}
 use Rattle.db_value.specs.Relations.{columns_at}
 use Rattle.db_value.specs.declared.schema.Relation.{Relation}
 use Rattle.db_value.specs.declared.version.VersionPlace.{VersionPlace}
@@ -10,17 +10,18 @@ use Rattle.record_page.specs.Page.{Rows}
 use Rattle.commit_history.specs.Runs.{Next, next_of}
 use Rattle.db_store.specs.Layout.{Segment, Row, Lane, Layout, lane_at, segments_at, rows_at}
 use Rattle.db_store.specs.LayoutGrowth.{puts, touches, segment_after, row_after, segments_after, last_in, after_commit}
-use Rattle.db_store.specs.LaidOut.{IsLaid, row_at, no_row}
+use Rattle.db_store.specs.LaidOut.{IsLaid, row_at}
 use Rattle.db_store.proofs.SegmentLemmas.{at_relation}
 use Rattle.hybrid_view.specs.Live.{Lived, lived_at}
-use Rattle.bit_rows.specs.Rows.{KeptRow, no_kept_row, kept_row_at, laid_row, next_at, pushed_row}
+use Rattle.bit_rows.specs.Rows.{kept_row_at, laid_row, next_at, pushed_row}
 use Rattle.bit_rows.specs.Kept.{KeptLane, no_kept, kept_rows, nexts_at}
 use Rattle.hybrid_store.specs.Lanes.{segment_of, lane_of, kept_layout}
 use Rattle.bit_rows.specs.Segments.{KeptRecords, KeptList, no_rows, no_list, most_segments, list_at, kept_at}
 use Rattle.hybrid_store.specs.Ready.{IsMadeAt, IsMadeOf, no_own}
-use Rattle.hybrid_store.specs.Stored.{head_of_lane, IsKeptAt, IsKept, IsStored}
+use Rattle.hybrid_store.specs.Stored.{head_number, HasHead, IsKeptAt, IsKept, IsStored}
 use Rattle.hybrid_store.proofs.LayoutLemmas.{lane_kept, segments_kept, rows_kept}
 use Rattle.hybrid_store.proofs.CommitLayout.{commit_layout}
+use Rattle.hybrid_store.proofs.OwnLemmas.{own_there, kept_head}
 use Rattle.hybrid_store.proofs.InstallLemmas.{kept_stays, next_is, nexts_count, laid_after, made_kept, segments_put}
 
 module _ (schema : List Relation) (lanes : List KeptLane) (order : List VersionPlace) (segments : List KeptList) (b : ℕ) (second : Option VersionPlace) (cs : List Change) (nexts : List (List Next)) (head : List Lived) (owns : List Rows)
@@ -66,18 +67,15 @@ module _ (schema : List Relation) (lanes : List KeptLane) (order : List VersionP
       (subst (λ n. IsMadeAt (segments_at l.segments r) columns b n r cs (rows_at (lane_at l b) r) (nexts_at nexts r) (lived_at head r) (get_or owns r no_own)) last (m.at r g)))
 
   -- the head of the branch is there
-  pub head_there : (r : ℕ) → r < length schema → head_of_lane (get_or lanes b no_kept) r < length (list_at segments r)
+  pub head_there : (r : ℕ) → r < length schema → head_number segments b r < length (list_at segments r)
   head_there r g =
-      let rows : List KeptRow = kept_rows k r in
-      let lm = length-map rows laid_row in
-      let some_rows = (at r g).some in
-      let i : length rows - 1 < length rows = omega (arith, some_rows) in
-      let t = subst (λ (x : Row). x.segment < length (ss r)) (get_or-map laid_row rows (length rows - 1) no_kept_row no_row i) (rows_there b r there g (length rows - 1) (omega (arith, i, lm))) in
+      let t = own_there (length (ss r)) (head_number segments b r) (kept_rows k r) (at r g).own (rows_there b r there g) in
       let ls = length-map (list_at segments r) segment_of in
       omega (arith, t, ls)
 
-  pub rows_some : (r : ℕ) → r < length schema → 0 < length (kept_rows (get_or lanes b no_kept) r)
-  rows_some r g = (at r g).some
+  -- and one row of the branch is of it
+  pub rows_head : (r : ℕ) → r < length schema → HasHead b (list_at segments r) (kept_rows (get_or lanes b no_kept) r)
+  rows_head r g = kept_head (list_at segments r) (length (columns_at schema r)) b (length k.seconds - 1) (kept_rows k r) (lived_at k.head r) (rows_there b r there g) (at r g)
 
   -- ---- what is asked of what is ready
 
@@ -105,7 +103,7 @@ module _ (schema : List Relation) (lanes : List KeptLane) (order : List VersionP
       (counts : (r : ℕ) → r < length (get_or lanes b no_kept).rows → length (kept_rows new r) ≡ length (kept_rows (get_or lanes b no_kept) r))
       (each : (r i : ℕ) → r < length (get_or lanes b no_kept).rows → i < length (kept_rows (get_or lanes b no_kept) r) → kept_row_at (kept_rows new r) i ≡ pushed_row (kept_row_at (kept_rows (get_or lanes b no_kept) r) i) (next_at (nexts_at nexts r) i))
       (long : length news ≡ length segments)
-      (put : (r : ℕ) → r < length segments → get_or news r no_list ≡ record (get_or segments r no_list) { all = set (list_at segments r) (head_of_lane (get_or lanes b no_kept) r) (record (kept_at (list_at segments r) (head_of_lane (get_or lanes b no_kept) r)) { rows = get_or owns r no_own }) }) where
+      (put : (r : ℕ) → r < length segments → get_or news r no_list ≡ record (get_or segments r no_list) { all = set (list_at segments r) (head_number segments b r) (record (kept_at (list_at segments r) (head_number segments b r)) { rows = get_or owns r no_own }) }) where
     in_rows : (r : ℕ) → r < length schema → r < length (get_or lanes b no_kept).rows
     in_rows r g = let w = (is.each b there).rows in omega (arith, g, w)
 
@@ -165,7 +163,7 @@ module _ (schema : List Relation) (lanes : List KeptLane) (order : List VersionP
           few = λ r g.
               let f = is.few r g in
               let e = ap (λ (x : KeptList). length x.all) (put r (in_lists r g)) in
-              let n = length-set (list_at segments r) (head_of_lane k r) (record (kept_at (list_at segments r) (head_of_lane k r)) { rows = get_or owns r no_own }) in
+              let n = length-set (list_at segments r) (head_number segments b r) (record (kept_at (list_at segments r) (head_number segments b r)) { rows = get_or owns r no_own }) in
               omega (arith, f, e, n, ls);
           fields = fields;
           each = λ c h. each_kept c (omega (arith, h, ls)) (cases_eq b c);
@@ -177,20 +175,20 @@ module _ (schema : List Relation) (lanes : List KeptLane) (order : List VersionP
 
         fields : (r s : ℕ) → r < length schema → s < length (list_at news r) → (kept_at (list_at news r) s).rows.fields ≡ length (columns_at schema r)
         fields r s g lt =
-            let x : KeptRecords = record (kept_at (list_at segments r) (head_of_lane k r)) { rows = get_or owns r no_own } in
+            let x : KeptRecords = record (kept_at (list_at segments r) (head_number segments b r)) { rows = get_or owns r no_own } in
             let e = put r (in_lists r g) in
             let n = ap (λ (y : KeptList). length y.all) e in
-            let ls = length-set (list_at segments r) (head_of_lane k r) x in
-            ap (λ (y : KeptList). (kept_at y.all s).rows.fields) e ∙ by (omega (arith, lt, n, ls)) (cases_eq (head_of_lane k r) s)
+            let ls = length-set (list_at segments r) (head_number segments b r) x in
+            ap (λ (y : KeptList). (kept_at y.all s).rows.fields) e ∙ by (omega (arith, lt, n, ls)) (cases_eq (head_number segments b r) s)
           where
-            by : s < length (list_at segments r) → (head_of_lane (get_or lanes b no_kept) r ≡ s) ⊎ (head_of_lane (get_or lanes b no_kept) r ≢ s)
-                → (kept_at (set (list_at segments r) (head_of_lane (get_or lanes b no_kept) r) (record (kept_at (list_at segments r) (head_of_lane (get_or lanes b no_kept) r)) { rows = get_or owns r no_own })) s).rows.fields ≡ length (columns_at schema r)
+            by : s < length (list_at segments r) → (head_number segments b r ≡ s) ⊎ (head_number segments b r ≢ s)
+                → (kept_at (set (list_at segments r) (head_number segments b r) (record (kept_at (list_at segments r) (head_number segments b r)) { rows = get_or owns r no_own })) s).rows.fields ≡ length (columns_at schema r)
             by q (inl t) =
-                let x : KeptRecords = record (kept_at (list_at segments r) (head_of_lane k r)) { rows = get_or owns r no_own } in
-                ap (λ y. (kept_at (set (list_at segments r) (head_of_lane k r) x) y).rows.fields) (sym t)
-                ∙ ap (λ (y : KeptRecords). y.rows.fields) (get_or-set_same (list_at segments r) (head_of_lane k r) x no_rows (head_there r g))
+                let x : KeptRecords = record (kept_at (list_at segments r) (head_number segments b r)) { rows = get_or owns r no_own } in
+                ap (λ y. (kept_at (set (list_at segments r) (head_number segments b r) x) y).rows.fields) (sym t)
+                ∙ ap (λ (y : KeptRecords). y.rows.fields) (get_or-set_same (list_at segments r) (head_number segments b r) x no_rows (head_there r g))
                 ∙ (made r g).own_fields
             by q (inr t) =
-                let x : KeptRecords = record (kept_at (list_at segments r) (head_of_lane k r)) { rows = get_or owns r no_own } in
-                ap (λ (y : KeptRecords). y.rows.fields) (get_or-set_other (list_at segments r) (head_of_lane k r) s x no_rows (λ e. t (sym e)))
+                let x : KeptRecords = record (kept_at (list_at segments r) (head_number segments b r)) { rows = get_or owns r no_own } in
+                ap (λ (y : KeptRecords). y.rows.fields) (get_or-set_other (list_at segments r) (head_number segments b r) s x no_rows (λ e. t (sym e)))
                 ∙ is.fields r s g q

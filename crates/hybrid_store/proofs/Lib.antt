@@ -24,3 +24,4 @@ pub mod ViewLemmas
 pub mod ReportLemmas
 pub mod WholeLemmas
 mod ReaderLemmas
+pub mod OwnLemmas

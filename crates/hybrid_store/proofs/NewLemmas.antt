@@ -58,7 +58,7 @@ own columns = record { fields = columns; records = [] }
 abbrev first_segment : ℕ → KeptRecords
 first_segment columns = record { head = Some 0; rows = own columns }
 
-headed : (s : ℕ) → s < 1 → is_head_of 0 (head_at (head_segment 0 ∷ []) s) ≡ (s == head_in (first_row ∷ []))
+headed : (s : ℕ) → s < 1 → is_head_of 0 (head_at (head_segment 0 ∷ []) s) ≡ (s == head_in 0 (head_segment 0 ∷ []))
 headed zero h = refl
 headed (suc s) h = absurd (omega (arith, h))
 
@@ -68,7 +68,7 @@ shown columns (suc i) h = absurd (omega (arith, h))
 
 first_kept : (columns : ℕ) → IsKeptAt (head_segment 0 ∷ []) columns 0 0 (first_row ∷ []) (first_lived (own columns))
 first_kept columns = record {
-  some = omega arith;
+  own = refl;
   headed = headed;
   short = λ i h. short i h;
   shown = record { count = refl; each = shown columns };

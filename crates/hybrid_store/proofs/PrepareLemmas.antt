@@ -1,5 +1,5 @@
 -- What is made ready for a new branch is ready for it.
-use Rattle.std.proofs.Common.{◌≡◌, ◌≢◌, ℕ, suc, ◌+◌, ◌-◌, ◌*◌, ◌^◌, ◌<◌, ◌≤◌, ◌==◌, cond, Bool, true, false, List, [], ◌∷◌, ◌++◌, length, map, set, get_or, Option, Some, None, refl, arith, ap, sym, ◌∙◌, subst}
+use Rattle.std.proofs.Common.{◌≡◌, ◌≢◌, ℕ, ◌+◌, ◌-◌, ◌^◌, ◌<◌, ◌≤◌, ◌==◌, cond, Bool, true, false, List, [], ◌∷◌, ◌++◌, length, map, set, get_or, arith, ap, sym, ◌∙◌, subst}
 use Rattle.std.proofs.lemmas.List.{length-map, length-set, length_push, get_or_push, get_or-map}
 use Rattle.std.proofs.lemmas.Bool.{eqb-true}
 use Rattle.db_value.specs.Relations.{columns_at}
@@ -16,7 +16,7 @@ use Rattle.db_store.proofs.LayoutLaw.{made_there}
 use Rattle.db_store.proofs.LaidLemmas.{laid_stays}
 use Rattle.db_store.proofs.SegmentLemmas.{at_relation}
 use Rattle.db_store.proofs.SoundLemmas.{branch_parts}
-use Rattle.hybrid_view.specs.Live.{Lived, lived_at, piece_at, begun_pieces, IsLived}
+use Rattle.hybrid_view.specs.Live.{Lived, lived_at, begun_pieces, IsLived}
 use Rattle.bit_rows.specs.Rows.{KeptRow, no_kept_row, kept_row_at, laid_row, begun_row, MoreRow}
 use Rattle.bit_rows.specs.Seen.{begun_by}
 use Rattle.bit_rows.proofs.BegunRowsLemmas.{are_begun, begun_carried, begun_whole}
@@ -24,13 +24,13 @@ use Rattle.bit_rows.specs.Kept.{KeptLane, no_kept, kept_rows}
 use Rattle.hybrid_store.specs.Lanes.{segment_of, lane_of, kept_layout}
 use Rattle.bit_rows.specs.Segments.{KeptList, list_at}
 use Rattle.hybrid_store.specs.New.{own_at}
-use Rattle.hybrid_store.specs.Begun.{head_piece, empty_head, lived_begun, lived_turned, turned_row, begun_in, turned_in, AreBegun, AreTurned}
+use Rattle.hybrid_store.specs.Begun.{head_piece, empty_head, lived_begun, lived_turned, turned_row, begun_in, turned_in}
 use Rattle.hybrid_store.specs.Ready.{no_own}
 use Rattle.hybrid_store.specs.ReadyBranch.{short_row, IsBegunAt, IsTurnedAt}
-use Rattle.hybrid_store.specs.Stored.{kept_dataset, Show, AreSmall, IsSeenAt, IsSeen, IsKeptAt, IsStored}
+use Rattle.hybrid_store.specs.Stored.{kept_dataset, Show, IsSeen, IsKeptAt, IsStored}
 use Rattle.hybrid_store.proofs.LayoutLemmas.{lane_kept, segments_kept, rows_kept}
-use Rattle.hybrid_store.proofs.BegunKept.{begun_rows, begun_is_lived, begun_kept, turned_lived, turned_kept}
-use Rattle.hybrid_store.proofs.BranchStored.{with_count, rows_of_lane}
+use Rattle.hybrid_store.proofs.BegunKept.{with_count, begun_rows, begun_is_lived, begun_kept, turned_lived, turned_kept}
+use Rattle.hybrid_store.proofs.BranchStored.{rows_of_lane}
 use Rattle.hybrid_store.proofs.StoredLemmas.{kept_count, kept_base}
 use Rattle.hybrid_store.proofs.TurnedLemmas.{short_rows}
 

@@ -1,5 +1,5 @@
 -- What the readers of a layout tell.
-use Rattle.std.proofs.Common.{◌≡◌, ◌≢◌, ℕ, ◌+◌, ◌<◌, ◌≤◌, ◌==◌, cond, List, [], ◌∷◌, length, map, drop, get_or, Option, Some, None, refl, arith, ap, sym, ◌∙◌}
+use Rattle.std.proofs.Common.{◌≡◌, ◌≢◌, ℕ, ◌+◌, ◌<◌, ◌≤◌, ◌==◌, cond, List, length, map, drop, get_or, Option, Some, None, refl, arith, ap, sym, ◌∙◌}
 use Rattle.std.specs.Prelude.{IfSome}
 use Rattle.std.specs.Option.{unwrap_or}
 use Rattle.std.proofs.lemmas.List.{drop_more, drop_all, length-map, get_or-map}
@@ -54,3 +54,7 @@ deltas_told rows p i e h = sym (ap (deltas_at (map laid_row rows)) e ∙ ap (λ 
 pub deltas_found : (rows : List KeptRow) (p : Option ℕ) → p ≢ None → IfSome p (λ i. i < length rows) → map slots_of (kept_row_at rows (unwrap_or p 0)).deltas ≡ deltas_at (map laid_row rows) p
 deltas_found rows None n w = absurd (n refl)
 deltas_found rows (Some i) n w = deltas_told rows (Some i) i refl w
+
+pub place_below : (rows : List KeptRow) (p : Option ℕ) → p ≢ None → IfSome p (λ i. i < length rows) → unwrap_or p 0 < length rows
+place_below rows None n w = absurd (n refl)
+place_below rows (Some i) n w = w

@@ -5,28 +5,26 @@ use Rattle.std.proofs.lemmas.List.Sums.{sum_by-cons}
 use Rattle.std.proofs.lemmas.List.{length-map, get_or-map, get_or_past}
 use Rattle.std.proofs.lemmas.Bool.{cases_lt, eq-eqb, false≢true}
 use Rattle.db_value.specs.declared.record.Record.{Record}
-use Rattle.db_value.specs.declared.report.LayoutLine.{LayoutLine}
 use Rattle.db_value.specs.declared.report.Live.{Live}
 use Rattle.db_value.specs.declared.schema.Relation.{Relation}
 use Rattle.db_value.specs.declared.version.VersionPlace.{VersionPlace}
 use Rattle.plain_bits.specs.Truth.{bit_of, count_true}
-use Rattle.db_store.specs.Dataset.{Dataset}
 use Rattle.db_store.specs.Sound.{IsSound}
 use Rattle.db_store.specs.LaidOut.{IsLaid, head_at}
 use Rattle.db_store.specs.LayoutGrowth.{is_head_of}
-use Rattle.db_store.specs.Layout.{Segment, Row, Lane, Layout, no_segment, no_lane, lane_at, bit, records_at, live_from, live_of, segments_at, rows_at}
+use Rattle.db_store.specs.Layout.{Segment, Row, Lane, no_segment, no_lane, lane_at, bit, records_at, live_from, live_of, segments_at, rows_at}
 use Rattle.db_store.specs.LayoutGrowth.{last_in}
 use Rattle.db_store.specs.Report.{relation_name, lives_in, lives_at, head_name, segment_line, segment_lines}
 use Rattle.db_store.proofs.BitLemmas.{live_none}
-use Rattle.hybrid_view.specs.Live.{Piece, piece_at, lived_at}
-use Rattle.hybrid_view.specs.RowPlaces.{Shows, AllShow}
+use Rattle.hybrid_view.specs.Live.{Piece, lived_at}
+use Rattle.hybrid_view.specs.RowPlaces.{AllShow}
 use Rattle.hybrid_view.proofs.NextLemmas.{show_all}
 use Rattle.hybrid_view.proofs.PlaceLemmas.{shown_shorter}
 use Rattle.bit_rows.specs.Kept.{KeptLane, no_kept, kept_rows}
 use Rattle.bit_rows.specs.Rows.{laid_row}
-use Rattle.bit_rows.specs.Told.{told_of, lives_of, lives_by, lives_among, name_of_head, line_told, relation_told, all_told, CanTell}
+use Rattle.bit_rows.specs.Told.{lives_of, lives_by, lives_among, name_of_head, line_told, relation_told, all_told, CanTell}
 use Rattle.hybrid_store.specs.Lanes.{segment_of, lane_of, kept_layout}
-use Rattle.bit_rows.specs.Segments.{KeptRecords, KeptList, no_rows, kept_at, list_at}
+use Rattle.bit_rows.specs.Segments.{KeptList, no_rows, kept_at, list_at}
 use Rattle.hybrid_store.specs.Stored.{kept_dataset, IsKept, IsStored}
 use Rattle.hybrid_store.proofs.LayoutLemmas.{lane_kept, segments_kept, rows_kept}
 use Rattle.hybrid_store.proofs.StoredLemmas.{kept_count}

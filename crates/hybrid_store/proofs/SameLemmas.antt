@@ -1,17 +1,17 @@
 -- A second store of the same state keeps what the first one keeps.
-use Rattle.std.proofs.Common.{◌≡◌, ℕ, ◌-◌, ◌<◌, ◌≤◌, List, [], ◌∷◌, length, map, get_or, refl, arith, ap, sym, ◌∙◌, subst}
+use Rattle.std.proofs.Common.{◌≡◌, ℕ, ◌-◌, ◌<◌, List, [], ◌∷◌, length, map, get_or, refl, arith, ap, sym, ◌∙◌, subst}
 use Rattle.std.specs.List.{All}
 use Rattle.std.proofs.lemmas.List.{length-map, get_or-map}
 use Rattle.db_value.specs.Relations.{columns_at}
 use Rattle.db_value.specs.declared.schema.Relation.{Relation}
 use Rattle.db_value.specs.declared.version.VersionPlace.{VersionPlace}
-use Rattle.db_store.specs.Layout.{Lane, by_relation}
+use Rattle.db_store.specs.Layout.{Lane}
 use Rattle.db_store.proofs.LayoutLaw.{same_relations}
 use Rattle.hybrid_view.specs.Live.{lived_at}
 use Rattle.bit_rows.specs.Kept.{KeptLane, no_kept, kept_rows}
 use Rattle.hybrid_store.specs.Lanes.{segment_of, lane_of, kept_layout}
-use Rattle.bit_rows.specs.Segments.{KeptRecords, KeptList, no_list, most_segments, list_at, kept_at, all_of, HasMost}
-use Rattle.hybrid_store.specs.Stored.{roomless, IsKeptAt, IsKept, IsStored}
+use Rattle.bit_rows.specs.Segments.{KeptRecords, KeptList, no_list, list_at, kept_at, all_of, HasMost}
+use Rattle.hybrid_store.specs.Stored.{roomless, IsKeptAt, IsStored}
 
 lanes_roomless : (schema : List Relation) (ks : List KeptLane) → map (lane_of schema) (map roomless ks) ≡ map (lane_of schema) ks
 lanes_roomless schema [] = refl

@@ -1,7 +1,6 @@
 -- What the version at a made place has of a relation, by the rows of its branch.
-use Rattle.std.proofs.Common.{◌≡◌, ◌⊎◌, inl, inr, ℕ, suc, ◌+◌, ◌-◌, ◌^◌, ◌<◌, ◌≤◌, ◌&&◌, nat_le, Bool, true, false, List, [], ◌∷◌, length, map, take, get_or, refl, arith, ap, sym, ◌∙◌, subst}
+use Rattle.std.proofs.Common.{◌≡◌, ℕ, suc, ◌+◌, ◌-◌, ◌<◌, ◌≤◌, ◌&&◌, nat_le, Bool, true, false, List, [], ◌∷◌, length, map, take, get_or, refl, arith, ap, sym, ◌∙◌, subst}
 use Rattle.std.specs.FinMap as finite
-use Rattle.std.proofs.lemmas.Bool.{cases_lt, cases_Bool}
 use Rattle.std.proofs.lemmas.List.{length-map, get_or-map, take_all}
 use Rattle.db_value.specs.Relations.{columns_at}
 use Rattle.db_value.specs.declared.record.Record.{Record}
@@ -11,7 +10,7 @@ use Rattle.db_store.specs.Table.{relation_at}
 use Rattle.db_store.specs.Layout.{Segment, Row, no_segment, bit, records_at, contents_of, live_in, table_in, segments_at, rows_at}
 use Rattle.db_store.specs.LaidOut.{IsLaid, AreRowsOf, row_at, no_row, times, rises as row_rises}
 use Rattle.db_store.proofs.SegmentLemmas.{at_relation}
-use Rattle.hybrid_view.specs.Live.{Piece, Lived, no_piece, piece_at, live_pieces, rises, contents_in, lived_at, IsLived}
+use Rattle.hybrid_view.specs.Live.{Piece, no_piece, piece_at, rises, contents_in, lived_at, IsLived}
 use Rattle.hybrid_view.specs.Deltas.{slots_of}
 use Rattle.hybrid_view.specs.RowPlaces.{Shows, AllShow}
 use Rattle.hybrid_view.proofs.PlaceLemmas.{shown_rows}
@@ -20,7 +19,7 @@ use Rattle.bit_rows.specs.Rows.{KeptRow, no_kept_row, kept_row_at, laid_row}
 use Rattle.bit_rows.specs.Kept.{KeptLane, no_kept, kept_rows}
 use Rattle.bit_rows.specs.Segments.{KeptRecords, KeptList, no_rows, kept_at, list_at}
 use Rattle.bit_rows.specs.Short.{shortest}
-use Rattle.bit_rows.specs.Seen.{deltas_until, piece_of_row, begun_by, pieces_seen, lived_seen, IsThere}
+use Rattle.bit_rows.specs.Seen.{piece_of_row, begun_by, pieces_seen, lived_seen, IsThere}
 use Rattle.bit_rows.proofs.BegunRowsLemmas.{each_begun, begun_few, begun_rise, begun_live}
 use Rattle.bit_rows.proofs.SeenLemmas.{bits_seen, covered_seen}
 use Rattle.bit_rows.proofs.SpotsLemmas.{spots_lived}

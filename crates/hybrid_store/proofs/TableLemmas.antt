@@ -1,5 +1,5 @@
 -- What a branch has after a commit, relation by relation.
-use Rattle.std.proofs.Common.{◌≡◌, ◌⊎◌, inl, inr, ℕ, ◌+◌, ◌-◌, ◌<◌, ◌≤◌, ◌==◌, ◌&&◌, ◌||◌, not, nat_lt, Bool, true, false, cond, List, [], ◌∷◌, ◌++◌, length, get_or, None, refl, arith, ap, sym, ◌∙◌, subst}
+use Rattle.std.proofs.Common.{◌≡◌, ◌⊎◌, inl, inr, ℕ, ◌+◌, ◌<◌, ◌≤◌, ◌==◌, ◌&&◌, ◌||◌, not, nat_lt, Bool, true, false, cond, List, [], ◌∷◌, ◌++◌, length, get_or, None, refl, arith, ap, sym, ◌∙◌, subst}
 use Rattle.std.proofs.lemmas.List.{append-nil, get_or_past, get_or_append_left, get_or_push}
 use Rattle.std.proofs.lemmas.Bool.{cases_lt, lt-ltb, le-ltb}
 use Rattle.db_value.specs.declared.record.Record.{Record}
@@ -11,11 +11,11 @@ use Rattle.hybrid_view.specs.Live.{Piece, Lived, no_lived, piece_at, place_of, l
 use Rattle.hybrid_view.specs.Struck.{struck, touched_places}
 use Rattle.hybrid_view.specs.RowPlaces.{Next, AllNext}
 use Rattle.record_page.specs.Page.{Rows}
-use Rattle.hybrid_store.specs.Ready.{AreLast, no_own}
+use Rattle.hybrid_store.specs.Ready.{AreOwn, no_own}
 use Rattle.commit_history.specs.Runs.{Next as NextDelta}
 use Rattle.bit_rows.specs.Kept.{KeptLane, kept_rows, nexts_at}
 use Rattle.bit_rows.specs.Differences.{AreDifferences}
-use Rattle.hybrid_store.specs.Stored.{AllDifferences, IsNextAt, AllNextIn, AreSmall}
+use Rattle.hybrid_store.specs.Stored.{IsOwnOf, AllDifferences, IsNextAt, AllNextIn, AreSmall}
 
 either_false : (a b : Bool) → (a || b) ≡ false → (a ≡ false) × (b ≡ false)
 either_false true b e = absurd cc
@@ -72,7 +72,7 @@ next_same ps cs r head e covered = record { count = refl; each = one }
 
 -- ---- one relation more
 
-module _ (k : KeptLane) (cs : List Change) (ls : List Lived) (l : Lived) (r : ℕ) (n : length ls ≡ r) where
+module _ (heads : ℕ → ℕ) (k : KeptLane) (cs : List Change) (ls : List Lived) (l : Lived) (r : ℕ) (n : length ls ≡ r) where
   at_old : (q : ℕ) → q < r → lived_at (ls ++ l ∷ []) q ≡ lived_at ls q
   at_old q h = get_or_append_left ls (l ∷ []) no_lived q (omega (arith, h, n))
 
@@ -86,8 +86,8 @@ module _ (k : KeptLane) (cs : List Change) (ls : List Lived) (l : Lived) (r : �
       by (inl k) = subst (P q) (sym (at_old q k)) (f q k)
       by (inr k) = let same : r ≡ q = omega (arith, h, k) in subst (λ y. P y (lived_at (ls ++ l ∷ []) y)) same (subst (P r) (sym at_new) x)
 
-  pub next_more : AllNextIn k cs r ls → IsNextAt k cs r l → AllNextIn k cs (r + 1) (ls ++ l ∷ [])
-  next_more f x = more (λ q y. IsNextAt k cs q y) f x
+  pub next_more : AllNextIn heads k cs r ls → IsNextAt heads k cs r l → AllNextIn heads k cs (r + 1) (ls ++ l ∷ [])
+  next_more f x = more (λ q y. IsNextAt heads k cs q y) f x
 
   pub lived_more : ((q : ℕ) → q < r → IsLived (lived_at ls q)) → IsLived l → (q : ℕ) → q < r + 1 → IsLived (lived_at (ls ++ l ∷ []) q)
   lived_more f x = more (λ q y. IsLived y) f x
@@ -95,12 +95,12 @@ module _ (k : KeptLane) (cs : List Change) (ls : List Lived) (l : Lived) (r : �
   pub small_more : ((q : ℕ) → q < r → AreSmall (lived_at ls q)) → AreSmall l → (q : ℕ) → q < r + 1 → AreSmall (lived_at (ls ++ l ∷ []) q)
   small_more f x = more (λ q y. AreSmall y) f x
 
-pub last_more : (ls : List Lived) (xs : List Rows) (x : Rows) (r : ℕ) → length xs ≡ r → AreLast ls r xs → x ≡ (piece_at (lived_at ls r).pieces (length (lived_at ls r).pieces - 1)).rows → AreLast ls (r + 1) (xs ++ x ∷ [])
-last_more ls xs x r n f e q h = by (cases_lt q r)
+pub own_more : (heads : ℕ → ℕ) (ls : List Lived) (xs : List Rows) (x : Rows) (r : ℕ) → length xs ≡ r → AreOwn heads ls r xs → IsOwnOf (heads r) (lived_at ls r).pieces x → AreOwn heads ls (r + 1) (xs ++ x ∷ [])
+own_more heads ls xs x r n f e q h = by (cases_lt q r)
   where
-    by : (q < r) ⊎ (r ≤ q) → get_or (xs ++ x ∷ []) q no_own ≡ (piece_at (lived_at ls q).pieces (length (lived_at ls q).pieces - 1)).rows
-    by (inl k) = get_or_append_left xs (x ∷ []) no_own q (omega (arith, k, n)) ∙ f q k
-    by (inr k) = let same : r ≡ q = omega (arith, h, k) in subst (λ y. get_or (xs ++ x ∷ []) y no_own ≡ (piece_at (lived_at ls y).pieces (length (lived_at ls y).pieces - 1)).rows) same (get_or_push xs x no_own r n ∙ e)
+    by : (q < r) ⊎ (r ≤ q) → IsOwnOf (heads q) (lived_at ls q).pieces (get_or (xs ++ x ∷ []) q no_own)
+    by (inl k) = subst (IsOwnOf (heads q) (lived_at ls q).pieces) (sym (get_or_append_left xs (x ∷ []) no_own q (omega (arith, k, n)))) (f q k)
+    by (inr k) = let same : r ≡ q = omega (arith, h, k) in subst (λ y. IsOwnOf (heads y) (lived_at ls y).pieces (get_or (xs ++ x ∷ []) y no_own)) same (subst (IsOwnOf (heads r) (lived_at ls r).pieces) (sym (get_or_push xs x no_own r n)) e)
 
 -- what is ready, for one relation more
 pub ready_more : (k : KeptLane) (ls : List Lived) (l : Lived) (ns : List (List NextDelta)) (x : List NextDelta) (r : ℕ) → length ls ≡ r → length ns ≡ r → AllDifferences k ns r ls

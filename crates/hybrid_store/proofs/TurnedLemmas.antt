@@ -2,29 +2,29 @@
 use Rattle.std.proofs.Common.{◌≡◌, ◌≢◌, ◌⊎◌, inl, inr, ℕ, suc, ◌+◌, ◌-◌, ◌*◌, ◌<◌, ◌≤◌, ◌==◌, Bool, true, false, List, [], ◌∷◌, ◌++◌, length, map, set, get_or, Option, Some, None, refl, arith, ap, sym, ◌∙◌, subst}
 use Rattle.std.specs.Prelude.{IfSome}
 use Rattle.std.proofs.lemmas.Bool.{cases_eq, eq-eqb, eqb-true, ne_eqb, false≢true}
-use Rattle.std.proofs.lemmas.List.{length-map, length-set, length-append, length_push, map-append, get_or-map, get_or_push, get_or_append_left, get_or-set_same, get_or-set_other, ext_get_or, set-get_or, append_assoc}
+use Rattle.std.proofs.lemmas.List.{length-map, length-set, length_push, map-append, get_or-map, get_or-set_same, get_or-set_other, ext_get_or, set-get_or, append_assoc}
 use Rattle.db_value.specs.Relations.{columns_at}
 use Rattle.db_value.specs.Schema.{most_relations}
 use Rattle.db_value.specs.declared.schema.Relation.{Relation}
 use Rattle.db_value.specs.declared.version.VersionPlace.{VersionPlace}
 use Rattle.record_page.specs.Page.{Rows}
-use Rattle.db_store.specs.Layout.{Segment, Row, Lane, Layout, no_segment, lane_at, segments_at, rows_at, head_segment, head_row}
+use Rattle.db_store.specs.Layout.{Segment, Row, Lane, Layout, no_segment, lane_at, segments_at, rows_at, head_segment}
 use Rattle.db_store.specs.LayoutGrowth.{is_head_of, internal_if, without_head, segments_with, rows_with, is_last, last_in}
-use Rattle.db_store.specs.LaidOut.{IsLaid, head_at, row_at, no_row}
+use Rattle.db_store.specs.LaidOut.{IsLaid, head_at, row_at}
 use Rattle.hybrid_view.specs.Deltas.{slots_of}
 use Rattle.hybrid_view.specs.Live.{Lived, lived_at}
 use Rattle.bit_rows.specs.Short.{shortest}
-use Rattle.bit_rows.specs.Rows.{KeptRow, no_kept_row, kept_row_at, laid_row}
+use Rattle.bit_rows.specs.Rows.{KeptRow, kept_row_at, laid_row}
 use Rattle.bit_rows.specs.Kept.{KeptLane, no_kept, kept_rows, more_at}
 use Rattle.hybrid_store.specs.Lanes.{segment_of, lane_of, kept_layout}
-use Rattle.bit_rows.specs.Segments.{KeptRecords, KeptList, no_rows, no_list, most_segments, list_at, kept_at, with_head, turned_list}
+use Rattle.bit_rows.specs.Segments.{KeptRecords, KeptList, no_rows, no_list, most_segments, list_at, kept_at}
 use Rattle.hybrid_store.specs.Begun.{turned_row}
 use Rattle.hybrid_store.specs.Ready.{no_own}
-use Rattle.hybrid_store.specs.ReadyBranch.{Turn, short_row, IsTurnedAt, IsTurnedOf, IsTurnedIf, CanTurn, CanTake, HasTurned, TurnsIf}
-use Rattle.hybrid_store.specs.Stored.{head_in, head_of_lane, IsKeptAt, IsKept, IsStored}
+use Rattle.hybrid_store.specs.ReadyBranch.{Turn, short_row, IsTurnedAt, IsTurnedOf, IsTurnedIf, CanTake, TurnsIf}
+use Rattle.hybrid_store.specs.Stored.{head_number, IsKeptAt, IsStored}
 use Rattle.hybrid_store.proofs.LayoutLemmas.{lane_kept, segments_kept, rows_kept}
 use Rattle.hybrid_store.proofs.BegunKept.{kept_with}
-use Rattle.hybrid_store.proofs.BranchStored.{rows_of_lane}
+use Rattle.hybrid_store.proofs.BranchStored.{rows_of_lane, store_head, store_head_there}
 
 -- rows whose deltas are shortest are kept as the layout has them
 pub short_rows : (rows : List KeptRow) → ((i : ℕ) → i < length rows → map shortest (map slots_of (kept_row_at rows i).deltas) ≡ (kept_row_at rows i).deltas) → map short_row (map laid_row rows) ≡ rows
@@ -126,15 +126,8 @@ module _ (schema : List Relation) (lanes : List KeptLane) (order : List VersionP
   rows_there : (r : ℕ) → r < length schema → (i : ℕ) → i < length (map laid_row (kept_rows (get_or lanes origin.branch no_kept) r)) → (row_at (map laid_row (kept_rows (get_or lanes origin.branch no_kept) r)) i).segment < length (map segment_of (list_at segments r))
   rows_there r g i h = ((rows_of_lane schema lanes order segments whole b there r g).are i h).there
 
-  head_there : (r : ℕ) → r < length schema → head_of_lane (get_or lanes origin.branch no_kept) r < length (list_at segments r)
-  head_there r g =
-      let rows : List KeptRow = kept_rows k r in
-      let lm = length-map rows laid_row in
-      let some_rows = (at r g).some in
-      let i : length rows - 1 < length rows = omega (arith, some_rows) in
-      let t = subst (λ (x : Row). x.segment < length (ss r)) (get_or-map laid_row rows (length rows - 1) no_kept_row no_row i) (rows_there r g (length rows - 1) (omega (arith, i, lm))) in
-      let ls = length-map (list_at segments r) segment_of in
-      omega (arith, t, ls)
+  head_there : (r : ℕ) → r < length schema → head_number segments origin.branch r < length (list_at segments r)
+  head_there r g = store_head_there schema lanes order segments is whole origin.branch r there g
 
   turned_at : (t : Turn) → IsTurnedOf (kept_layout schema lanes order segments) origin t → (r : ℕ) → r < length schema
       → IsTurnedAt (map segment_of (list_at segments r)) (length (columns_at schema r)) origin.branch (length lanes) origin.position (map laid_row (kept_rows (get_or lanes origin.branch no_kept) r)) (more_at t.more r) (lived_at t.head r) (get_or t.owns r no_own)
@@ -145,7 +138,7 @@ module _ (schema : List Relation) (lanes : List KeptLane) (order : List VersionP
       (subst (λ n. IsTurnedAt (segments_at l.segments r) columns b n origin.position (rows_at (lane_at l b) r) (more_at t.more r) (lived_at t.head r) (get_or t.owns r no_own)) (length-map lanes (lane_of schema)) (m.at r g)))
 
   -- the branch can take another head that is ready
-  pub can_take : (q : Bool) (o : Option Turn) → length schema ≤ most_relations → length lanes < 1024 → IsTurnedIf q (kept_layout schema lanes order segments) origin o → IfSome o (λ t. CanTake (get_or lanes origin.branch no_kept) segments t)
+  pub can_take : (q : Bool) (o : Option Turn) → length schema ≤ most_relations → length lanes < 1024 → IsTurnedIf q (kept_layout schema lanes order segments) origin o → IfSome o (λ t. CanTake origin.branch (get_or lanes origin.branch no_kept) segments t)
   can_take q None narrow few m = tt
   can_take false (Some t) narrow few m = absurd m
   can_take true (Some t) narrow few m =
@@ -166,8 +159,7 @@ module _ (schema : List Relation) (lanes : List KeptLane) (order : List VersionP
         can = λ r h.
             let g : r < length schema = omega (arith, h, w) in
             record {
-              some = (at r g).some;
-              there = head_there r g;
+              head = store_head schema lanes order segments is whole b r there g;
               room = let f = is.few r g in let x = is.room r g in omega (arith, f, x, few);
             };
       }
@@ -210,7 +202,7 @@ module _ (schema : List Relation) (lanes : List KeptLane) (order : List VersionP
         rows = λ r g. ap (map laid_row) (rows_now r g) ∙ map-append laid_row (kept_rows k r) (turned_row (length (ss r)) origin.position ∷ []);
         long = t.long ∙ w;
         put = λ r g.
-            let h : ℕ = head_of_lane k r in
+            let h : ℕ = head_number segments b r in
             let all : List KeptRecords = list_at segments r in
             let own : Rows = get_or x.owns r no_own in
             let none : own ≡ record { fields = length (columns_at schema r); records = [] } = (turned_at x m r g).empty in
@@ -220,7 +212,7 @@ module _ (schema : List Relation) (lanes : List KeptLane) (order : List VersionP
             (map-append segment_of closed (record { head = Some b; rows = own } ∷ []) ∙ (λ i. list_closed b h all (head_there r g) (at r g).headed i ++ record { head = Some b; records = (none i).records } ∷ []))
             ∙ append_assoc (map (without_head b) (ss r)) (head_segment b ∷ []) (head_segment (length lanes) ∷ []);
         fields = λ r s g lt.
-            let h : ℕ = head_of_lane k r in
+            let h : ℕ = head_number segments b r in
             let all : List KeptRecords = list_at segments r in
             let own : Rows = get_or x.owns r no_own in
             let columns : ℕ = length (columns_at schema r) in
@@ -232,7 +224,7 @@ module _ (schema : List Relation) (lanes : List KeptLane) (order : List VersionP
             (λ s2 lt2. closed_fields b h all (head_there r g) (at r g).headed columns (λ s3 lt3. is.fields r s3 g lt3) s2 (omega (arith, lt2, ls)) (cases_eq h s2)) (ap (λ (y : Rows). y.fields) (turned_at x m r g).empty) s (omega (arith, lt, n));
         room = λ r g. let z = is.room r g in let y = ap (λ (y : KeptList). y.room) (t.put r (in_lists r g)) in omega (arith, z, y);
         few = λ r g.
-            let h : ℕ = head_of_lane k r in
+            let h : ℕ = head_number segments b r in
             let all : List KeptRecords = list_at segments r in
             let f = is.few r g in
             let n = ap (λ (y : KeptList). length y.all) (t.put r (in_lists r g)) in

@@ -1,17 +1,15 @@
 -- Pieces with all records of their segments show the same rows, and they are the parts that the layout tells.
-use Rattle.std.proofs.Common.{◌≡◌, ℕ, suc, ◌+◌, ◌*◌, ◌^◌, ◌<◌, ◌≤◌, ◌&&◌, nat_le, Bool, true, false, cond, List, [], ◌∷◌, ◌++◌, length, map, take, get_or, refl, arith, ap, sym, ◌∙◌, subst}
+use Rattle.std.proofs.Common.{◌≡◌, ℕ, suc, ◌+◌, ◌*◌, ◌^◌, ◌<◌, ◌≤◌, ◌&&◌, nat_le, Bool, true, false, cond, List, [], ◌∷◌, length, map, take, get_or, refl, arith, ap, sym, ◌∙◌, subst}
 use Rattle.std.specs.FinMap as finite
-use Rattle.std.proofs.lemmas.List.{length-map, get_or-map, take_all, length_push}
+use Rattle.std.proofs.lemmas.List.{length-map, get_or-map, take_all}
 use Rattle.db_value.specs.Relations.{columns_at}
 use Rattle.db_value.specs.declared.record.Record.{Record}
 use Rattle.db_value.specs.declared.schema.Relation.{Relation}
 use Rattle.db_value.specs.declared.version.VersionPlace.{VersionPlace}
 use Rattle.plain_bits.specs.Truth.{bit_of}
-use Rattle.db_store.specs.Parts.{Part}
-use Rattle.db_store.specs.Dataset.{IsMade}
-use Rattle.db_store.specs.Layout.{Segment, Row, Lane, Layout, no_segment, bit, records_at, contents_of, segments_at, rows_at, lane_at}
+use Rattle.db_store.specs.Layout.{Segment, Row, Lane, no_segment, bit, records_at, contents_of, segments_at, rows_at, lane_at}
 use Rattle.db_store.specs.LaidOut.{IsLaid, row_at, no_row, times}
-use Rattle.hybrid_view.specs.Live.{Piece, Lived, no_piece, no_lived, piece_at, slots_from, part_of, parts_in, live_pieces, rises, lived_at, IsLived}
+use Rattle.hybrid_view.specs.Live.{Piece, Lived, no_piece, piece_at, slots_from, part_of, parts_in, live_pieces, rises, lived_at, IsLived}
 use Rattle.hybrid_view.specs.RowPlaces.{Shows, AllShow}
 use Rattle.hybrid_view.proofs.PlaceLemmas.{shown_place, shown_rows, shown_shorter}
 use Rattle.hybrid_view.proofs.NextLemmas.{show_all}
@@ -20,12 +18,11 @@ use Rattle.bit_rows.specs.Kept.{KeptLane, no_kept, kept_rows}
 use Rattle.bit_rows.specs.Segments.{KeptRecords, KeptList, no_rows, kept_at, list_at}
 use Rattle.bit_rows.specs.Seen.{is_begun, begun_by}
 use Rattle.bit_rows.proofs.BegunRowsLemmas.{each_begun}
-use Rattle.hybrid_store.specs.Lanes.{segment_of, lane_of, kept_layout}
-use Rattle.hybrid_store.specs.Stored.{kept_dataset, Show, AreSmall, IsSeenAt, IsSeen, IsStored}
+use Rattle.hybrid_store.specs.Lanes.{segment_of, kept_layout}
+use Rattle.hybrid_store.specs.Stored.{Show, AreSmall, IsSeenAt, IsSeen}
 use Rattle.hybrid_store.specs.Sees.{rows_by, part_of_row, parts_at}
 use Rattle.hybrid_store.specs.Whole.{whole_piece, whole_lived, AreThere, AreWhole}
 use Rattle.hybrid_store.proofs.LayoutLemmas.{lane_kept, segments_kept, rows_kept}
-use Rattle.hybrid_store.proofs.NewLemmas.{each_more}
 use Rattle.hybrid_store.proofs.ViewLemmas.{rows_there}
 
 -- ---- one piece

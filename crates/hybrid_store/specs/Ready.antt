@@ -1,5 +1,5 @@
 -- What is ready for a commit: what a branch has after it, and the records of its heads.
-use Rattle.std.specs.Prelude.{◌≡◌, ℕ, suc, ◌-◌, ◌<◌, true, List, [], length, map, Option, Some, None}
+use Rattle.std.specs.Prelude.{◌≡◌, ℕ, suc, ◌<◌, true, List, [], length, map, Option, Some, None}
 use Rattle.std.proofs.Common.{get_or}
 use Rattle.db_value.specs.Relations.{columns_at}
 use Rattle.db_value.specs.declared.version.VersionPlace.{VersionPlace}
@@ -18,7 +18,7 @@ use Rattle.commit_history.specs.Runs.{Next, next_of}
 use Rattle.bit_rows.specs.Short.{shortest}
 use Rattle.bit_rows.specs.Rows.{next_at}
 use Rattle.bit_rows.specs.Kept.{nexts_at}
-use Rattle.hybrid_store.specs.Stored.{AreSmall}
+use Rattle.hybrid_store.specs.Stored.{AreSmall, IsOwnOf}
 
 -- the slots of a row that a commit of branch c changes
 abbrev pub changed_slots : List Segment → ℕ → ℕ → ℕ → List Change → Row → List ℕ
@@ -63,6 +63,6 @@ IsNextOf b third nexts head owns (Some l) (NewBranch name origin) = ⊥
 abbrev pub IsReady : ℕ → Option VersionPlace → List (List Next) → List Lived → List Rows → State → Entry → Type 0
 IsReady b third nexts head owns s e = (fits (dataset_of s) e ≡ true) × IsNextOf b third nexts head owns s.layout e
 
--- these are the records of the last pieces of the first relations
-abbrev pub AreLast : List Lived → ℕ → List Rows → Type 0
-AreLast ls n owns = (r : ℕ) → r < n → get_or owns r no_own ≡ (piece_at (lived_at ls r).pieces (length (lived_at ls r).pieces - 1)).rows
+-- these are the records of the heads, by their numbers, in the first relations
+abbrev pub AreOwn : (ℕ → ℕ) → List Lived → ℕ → List Rows → Type 0
+AreOwn heads ls n owns = (r : ℕ) → r < n → IsOwnOf (heads r) (lived_at ls r).pieces (get_or owns r no_own)

@@ -1,6 +1,6 @@
 -- What is ready for a new branch: what it has, and what its origin has if it gets another head.
 use Rattle.std.specs.Prelude.{◌≡◌, ℕ, ◌<◌, ◌≤◌, ◌++◌, Bool, true, false, List, [], ◌∷◌, length, map, set, Option, Some, None, refl}
-use Rattle.std.specs.Coded.{Coded, code_by, coded×, coded_ℕ, coded_list}
+use Rattle.std.specs.Coded.{Coded, code_by, coded×, coded_list}
 use Rattle.std.proofs.Common.{get_or}
 use Rattle.db_value.specs.Relations.{columns_at}
 use Rattle.db_value.specs.declared.version.VersionPlace.{VersionPlace}
@@ -17,7 +17,7 @@ use Rattle.bit_rows.specs.Rows.{KeptRow, laid_row, MoreRow, more_code}
 use Rattle.bit_rows.specs.Kept.{KeptLane, no_kept, kept_rows, more_at}
 use Rattle.bit_rows.specs.Segments.{KeptList, no_list, turned_list}
 use Rattle.hybrid_store.specs.Begun.{turned_row}
-use Rattle.hybrid_store.specs.Stored.{head_of_lane, IsKeptAt}
+use Rattle.hybrid_store.specs.Stored.{head_number, HasHead, IsKeptAt}
 use Rattle.hybrid_store.specs.Ready.{no_own}
 
 -- what a branch gets with another head: for each relation one row more and the records of the head, and what its last version has
@@ -85,19 +85,18 @@ IsReadyBranch b k owns turned s e = (fits (dataset_of s) e ≡ true) × BeginsOf
 -- ---- another head of a branch
 
 -- the segments of a relation can have another head of the branch
-pub record CanTurn (k : KeptLane) (list : KeptList) (r : ℕ) : Type 0 where
-  pub some : 0 < length (kept_rows k r)
-  pub there : head_of_lane k r < length list.all
+pub record CanTurn (b : ℕ) (k : KeptLane) (list : KeptList) (r : ℕ) : Type 0 where
+  pub head : HasHead b list.all (kept_rows k r)
   pub room : length list.all < list.room
 
 -- a branch and the segments can take what is ready for another head
-pub record CanTake (k : KeptLane) (lists : List KeptList) (t : Turn) : Type 0 where
+pub record CanTake (b : ℕ) (k : KeptLane) (lists : List KeptList) (t : Turn) : Type 0 where
   pub few : length lists ≤ 8
   pub rows : length k.rows ≡ length lists
   pub more : length t.more ≡ length k.rows
   pub owns : length t.owns ≡ length lists
   pub room : (r : ℕ) → r < length k.rows → length (kept_rows k r) < (more_at t.more r).room
-  pub can : (r : ℕ) → r < length lists → CanTurn k (get_or lists r no_list) r
+  pub can : (r : ℕ) → r < length lists → CanTurn b k (get_or lists r no_list) r
 
 -- branch b, and the segments, with another head
 pub record HasTurned (b : ℕ) (t : Turn) (olds : List KeptLane) (lists : List KeptList) (lanes : List KeptLane) (segments : List KeptList) : Type 0 where
@@ -106,7 +105,7 @@ pub record HasTurned (b : ℕ) (t : Turn) (olds : List KeptLane) (lists : List K
   pub count : length (get_or lanes b no_kept).rows ≡ length (get_or olds b no_kept).rows
   pub each : (r : ℕ) → r < length (get_or olds b no_kept).rows → kept_rows (get_or lanes b no_kept) r ≡ kept_rows (get_or olds b no_kept) r ++ (more_at t.more r).row ∷ []
   pub long : length segments ≡ length lists
-  pub put : (r : ℕ) → r < length lists → get_or segments r no_list ≡ turned_list (get_or lists r no_list) (head_of_lane (get_or olds b no_kept) r) b (get_or t.owns r no_own)
+  pub put : (r : ℕ) → r < length lists → get_or segments r no_list ≡ turned_list (get_or lists r no_list) (head_number lists b r) b (get_or t.owns r no_own)
 
 -- the same if something is ready for it; otherwise all stays
 abbrev pub TurnsIf : ℕ → Option Turn → List KeptLane → List KeptList → List KeptLane → List KeptList → Type 0

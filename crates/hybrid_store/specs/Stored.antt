@@ -1,5 +1,6 @@
 -- What holds of what a store keeps.
-use Rattle.std.specs.Prelude.{◌≡◌, ℕ, ◌+◌, ◌*◌, ◌-◌, ◌<◌, ◌≤◌, ◌==◌, ◌^◌, List, Option, length, map}
+use Rattle.std.specs.Prelude.{◌≡◌, ℕ, suc, ◌+◌, ◌*◌, ◌-◌, ◌<◌, ◌≤◌, ◌==◌, ◌^◌, cond, Bool, true, List, [], ◌∷◌, Option, length, map}
+use Rattle.std.specs.List.{list_any}
 use Rattle.std.proofs.Common.{get_or}
 use Rattle.db_value.specs.Relations.{columns_at}
 use Rattle.db_value.specs.declared.schema.Relation.{Relation}
@@ -20,18 +21,39 @@ use Rattle.bit_rows.specs.Rows.{KeptRow, kept_row_at, laid_row}
 use Rattle.bit_rows.specs.Kept.{KeptLane, no_kept, kept_rows, nexts_at}
 use Rattle.bit_rows.specs.Seen.{begun_by}
 use Rattle.hybrid_store.specs.Lanes.{segment_of, kept_layout}
-use Rattle.bit_rows.specs.Segments.{KeptList, no_list, list_at, kept_at, most_segments}
+use Rattle.bit_rows.specs.Segments.{KeptRecords, KeptList, no_list, list_at, kept_at, most_segments}
+use Rattle.record_page.specs.Page.{Rows}
 
 -- the dataset of branches and segments
 abbrev pub kept_dataset : List Relation → List KeptLane → List VersionPlace → List KeptList → Dataset
 kept_dataset schema lanes order segments = dataset_in (kept_layout schema lanes order segments)
 
--- the number of a branch's head: its last row is of it
-abbrev pub head_in : List KeptRow → ℕ
-head_in rows = (kept_row_at rows (length rows - 1)).segment
+-- the number of the first segment that is the head of a branch
+abbrev pub head_in : ℕ → List Segment → ℕ
+head_in b [] = 0
+head_in b (s ∷ ss) = cond (is_head_of b s.head) 0 (suc (head_in b ss))
 
-abbrev pub head_of_lane : KeptLane → ℕ → ℕ
-head_of_lane k r = head_in (kept_rows k r)
+-- the number of a branch's head in a relation
+abbrev pub head_number : List KeptList → ℕ → ℕ → ℕ
+head_number segments b r = head_in b (map segment_of (list_at segments r))
+
+-- one of the rows is of a segment
+abbrev pub has_row : ℕ → List KeptRow → Bool
+has_row s rows = list_any (λ (row : KeptRow). row.segment == s) rows
+
+-- the rows are of these segments, of which one is the head of the branch, and one row is of it
+pub record HasHead (b : ℕ) (ks : List KeptRecords) (rows : List KeptRow) : Type 0 where
+  pub there : (i : ℕ) → i < length rows → (kept_row_at rows i).segment < length ks
+  pub own : has_row (head_in b (map segment_of ks)) rows ≡ true
+  pub headed : (s : ℕ) → s < length (map segment_of ks) → is_head_of b (head_at (map segment_of ks) s) ≡ (s == head_in b (map segment_of ks))
+
+-- one of the pieces is of a segment
+abbrev pub HasPiece : ℕ → List Piece → Type 0
+HasPiece s ps = (i : ℕ) × ((i < length ps) × ((piece_at ps i).segment ≡ s))
+
+-- these are the records of a piece of a segment
+abbrev pub IsOwnOf : ℕ → List Piece → Rows → Type 0
+IsOwnOf s ps own = (i : ℕ) × ((i < length ps) × (((piece_at ps i).segment ≡ s) × (own ≡ (piece_at ps i).rows)))
 
 -- pieces show rows, each the one at its place
 pub record Show (ss : List Segment) (n : ℕ) (rows : List Row) (ps : List Piece) : Type 0 where
@@ -42,13 +64,13 @@ pub record Show (ss : List Segment) (n : ℕ) (rows : List Row) (ps : List Piece
 abbrev pub AreSmall : Lived → Type 0
 AreSmall l = (i : ℕ) → i < length l.pieces → length (piece_at l.pieces i).rows.records < 2 ^ 32
 
--- what a branch has of a relation at its last position: pieces that show its rows, of which the last one is its head's, with all records of it
+-- what a branch has of a relation at its last position: pieces that show its rows, of which one is its head's, with all records of it
 pub record IsKeptAt (ss : List Segment) (columns b n : ℕ) (rows : List KeptRow) (l : Lived) : Type 0 where
-  pub some : 0 < length rows
-  pub headed : (s : ℕ) → s < length ss → is_head_of b (head_at ss s) ≡ (s == head_in rows)
+  pub own : has_row (head_in b ss) rows ≡ true
+  pub headed : (s : ℕ) → s < length ss → is_head_of b (head_at ss s) ≡ (s == head_in b ss)
   pub short : (i : ℕ) → i < length rows → map shortest (map slots_of (kept_row_at rows i).deltas) ≡ (kept_row_at rows i).deltas
   pub shown : Show ss n (map laid_row rows) l.pieces
-  pub whole : IsWhole ss (head_in rows) l.pieces
+  pub whole : IsWhole ss (head_in b ss) l.pieces
   pub lived : IsLived l
   pub small : AreSmall l
   pub fields : (i : ℕ) → i < length l.pieces → (piece_at l.pieces i).rows.fields ≡ columns
@@ -79,13 +101,13 @@ Widens old new = (new ≡ record old { room = new.room }) × (old.room ≤ new.r
 abbrev pub touched_in : KeptLane → List Change → ℕ → List (Option (ℕ × ℕ))
 touched_in k cs r = touched_places (lived_at k.head r).pieces cs r
 
--- what a branch has of a relation after changes, by what it had
-abbrev pub IsNextAt : KeptLane → List Change → ℕ → Lived → Type 0
-IsNextAt k cs r l = AllNext (touched_in k cs r) (head_of_lane k r) (puts cs r) (lived_at k.head r).pieces l.pieces
+-- what a branch has of a relation after changes, by what it had and the numbers of its heads
+abbrev pub IsNextAt : (ℕ → ℕ) → KeptLane → List Change → ℕ → Lived → Type 0
+IsNextAt heads k cs r l = AllNext (touched_in k cs r) (heads r) (puts cs r) (lived_at k.head r).pieces l.pieces
 
 -- the same in the first relations
-abbrev pub AllNextIn : KeptLane → List Change → ℕ → List Lived → Type 0
-AllNextIn k cs n ls = (r : ℕ) → r < n → IsNextAt k cs r (lived_at ls r)
+abbrev pub AllNextIn : (ℕ → ℕ) → KeptLane → List Change → ℕ → List Lived → Type 0
+AllNextIn heads k cs n ls = (r : ℕ) → r < n → IsNextAt heads k cs r (lived_at ls r)
 
 -- and what is ready for its rows
 abbrev pub AllDifferences : KeptLane → List (List Next) → ℕ → List Lived → Type 0

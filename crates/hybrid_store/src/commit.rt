@@ -17,10 +17,11 @@ ghost use Rattle.hybrid_view.specs.Struck.{touched_places};
 ghost use Rattle.bit_rows.specs.Kept.{no_kept, kept_rows};
 ghost use Rattle.hybrid_store.specs.Lanes.{segment_of};
 ghost use Rattle.bit_rows.specs.Segments.{list_at};
-ghost use Rattle.hybrid_store.specs.Ready.{AreLast};
+ghost use Rattle.hybrid_store.specs.Ready.{AreOwn};
 ghost use Rattle.bit_rows.specs.Differences.{AreDifferences};
-ghost use Rattle.hybrid_store.specs.Stored.{head_of_lane, touched_in, AllDifferences, AllNextIn, AreSmall, IsNextAt};
+ghost use Rattle.hybrid_store.specs.Stored.{head_number, touched_in, AllDifferences, AllNextIn, AreSmall, IsNextAt};
 
+use crate::heads::{head_of_rows, own_records};
 use crate::store::HybridStore;
 use bit_rows::{KeptSegments, NextDeltas, next_deltas, rows_put, spots_of};
 use db_value::{Change, VersionPlace};
@@ -60,18 +61,14 @@ impl HybridStore {
     fn head_of(&self, branch: u32, relation: u8) -> (u32, u32)
         requires branch { branch < length self.now.lanes.items }
         requires relation { relation < length self.now.schema }
-        requires fits { (second : Option VersionPlace)
-            × ((changes : List Change)
-            × (fits (dataset_in self.now) (Commit branch second changes) ≡ true)) }
-        ensures segment { result.0
-            ≡ head_of_lane (get_or self.now.lanes.items branch no_kept) relation }
+        ensures segment { result.0 ≡ head_number self.now.segments.items branch relation }
         ensures records { result.1
             ≡ length (records_at (map segment_of (list_at self.now.segments.items relation))
-            (head_of_lane (get_or self.now.lanes.items branch no_kept) relation)) }
+            (head_number self.now.segments.items branch relation)) }
     {
-        let head = self.lane(branch).rows(relation).head();
-        let kept = &self.list(relation).as_slice()[head as usize];
-        (head, kept.records().len())
+        let kept = self.list(relation);
+        let head = head_of_rows(self.lane(branch).rows(relation), kept, branch);
+        (head, kept.segment(head).records().len())
     }
 
     // What a branch has of a relation.
@@ -126,7 +123,8 @@ impl HybridStore {
         requires places { places.now
             ≡ touched_in (get_or self.now.lanes.items branch no_kept) changes.now relation }
         ensures next { IfOk result
-            (λ l. IsNextAt (get_or self.now.lanes.items branch no_kept) changes.now relation l) }
+            (λ l. IsNextAt (head_number self.now.segments.items branch)
+            (get_or self.now.lanes.items branch no_kept) changes.now relation l) }
         ensures small { IfOk result AreSmall }
     {
         let (head, from) = self.head_of(branch, relation);
@@ -155,7 +153,8 @@ impl HybridStore {
         requires places { places.now
             ≡ touched_in (get_or self.now.lanes.items branch no_kept) changes.now relation }
         ensures next { IfOk result
-            (λ l. IsNextAt (get_or self.now.lanes.items branch no_kept) changes.now relation
+            (λ l. IsNextAt (head_number self.now.segments.items branch)
+            (get_or self.now.lanes.items branch no_kept) changes.now relation
             (arc_value l)) }
         ensures small { IfOk result (λ l. AreSmall (arc_value l)) }
         ensures lived { IfOk result (λ l. IsLived (arc_value l)) }
@@ -185,7 +184,8 @@ impl HybridStore {
             × (fits (dataset_in self.now) (Commit branch second changes.now) ≡ true) }
         requires places { places.now
             ≡ touched_in (get_or self.now.lanes.items branch no_kept) changes.now relation }
-        requires next { IsNextAt (get_or self.now.lanes.items branch no_kept) changes.now relation
+        requires next { IsNextAt (head_number self.now.segments.items branch)
+            (get_or self.now.lanes.items branch no_kept) changes.now relation
             live.now }
         ensures { IfOk result (λ nexts.
             AreDifferences (kept_rows (get_or self.now.lanes.items branch no_kept) relation) nexts
@@ -211,7 +211,8 @@ impl HybridStore {
         ensures wide { IfOk result (λ t. length t ≡ length self.now.schema) }
         ensures count { OnOk result (length deltas.new.items ≡ length self.now.schema) }
         ensures next { IfOk result
-            (λ t. AllNextIn (get_or self.now.lanes.items branch no_kept) changes.now
+            (λ t. AllNextIn (head_number self.now.segments.items branch)
+            (get_or self.now.lanes.items branch no_kept) changes.now
             (length self.now.schema) t) }
         ensures deltas { IfOk result
             (λ t. AllDifferences (get_or self.now.lanes.items branch no_kept) deltas.new.items
@@ -230,6 +231,32 @@ impl HybridStore {
         Ok(LiveTable::of(relations))
     }
 
+    // Links to the records of a branch's heads in what it has after changes.
+    fn head_records(
+        &self,
+        branch: u32,
+        changes: &[Change],
+        table: &LiveTable,
+    ) -> Result<Vec<Arc<Segment>>, AllocError>
+        requires branch { branch < length self.now.lanes.items }
+        requires wide { length table.now ≡ length self.now.schema }
+        requires next { AllNextIn (head_number self.now.segments.items branch)
+            (get_or self.now.lanes.items branch no_kept) changes.now (length self.now.schema)
+            table.now }
+        ensures count { IfOk result (λ v. length (map arc_value v.items) ≡ length table.now) }
+        ensures own { IfOk result
+            (λ v. AreOwn (head_number self.now.segments.items branch) table.now (length table.now)
+            (map arc_value v.items)) }
+    {
+        let mut all = Vec::new(self.alloc);
+        for relation in 0..self.width() {
+            let (head, _from) = self.head_of(branch, relation);
+            let records = own_records(table.relation(relation), head)?;
+            all.push(records)?;
+        }
+        Ok(all)
+    }
+
     /// Takes the memory that a commit needs, but for the room to install it.
     pub fn prepare_commit(
         &self,
@@ -244,7 +271,7 @@ impl HybridStore {
         let mut deltas = Vec::new(self.alloc);
         let table = self.table_after(branch, changes, &mut deltas)?;
         table.told();
-        let records = head_records(self.alloc, &table, self.width())?;
+        let records = self.head_records(branch, changes, &table)?;
         let table = Arc::new(self.alloc, table)?;
         let head = HybridView::of(table);
         Ok(HybridPrepared {
@@ -255,35 +282,6 @@ impl HybridStore {
             records,
         })
     }
-}
-
-// A link to the records of the last part of a relation.
-fn last_records(live: &LiveRelation) -> Result<Arc<Segment>, AllocError>
-    requires { 0 < length live.now.pieces }
-    ensures { IfOk result (λ s. arc_value s
-        ≡ (piece_at live.now.pieces (length live.now.pieces - 1)).rows) }
-{
-    live.part(live.parts() - 1).share_records()
-}
-
-// Links to the records of the last part of each relation.
-fn head_records(
-    alloc: Global,
-    table: &LiveTable,
-    width: u8,
-) -> Result<Vec<Arc<Segment>>, AllocError>
-    requires width { width ≡ length table.now }
-    requires some { (r : ℕ) → r < length table.now → 0 < length (lived_at table.now r).pieces }
-    ensures count { IfOk result (λ v. length (map arc_value v.items) ≡ length table.now) }
-    ensures records { IfOk result
-        (λ v. AreLast table.now (length table.now) (map arc_value v.items)) }
-{
-    let mut all = Vec::new(alloc);
-    for relation in 0..width {
-        let records = last_records(table.relation(relation))?;
-        all.push(records)?;
-    }
-    Ok(all)
 }
 
 // Is some change of the relation?

@@ -6,8 +6,9 @@ ghost use Rattle.std.proofs.Common.{get_or};
 ghost use Rattle.bit_rows.specs.Kept.{kept_rows};
 ghost use Rattle.bit_rows.specs.Segments.{no_list, list_at, with_records};
 ghost use Rattle.hybrid_store.specs.Ready.{no_own};
-ghost use Rattle.hybrid_store.specs.Stored.{head_of_lane, HasRoom, Widens};
+ghost use Rattle.hybrid_store.specs.Stored.{head_number, HasHead, HasRoom, Widens};
 
+use crate::heads::head_of_rows;
 use crate::store::HybridStore;
 use bit_rows::{HybridLane, KeptSegments};
 use segment::Segment;
@@ -32,23 +33,23 @@ fn reserve_all(lanes: &mut [HybridLane], more: usize) -> Result<(), AllocError>
 pub(crate) fn put_records(
     segments: &mut Vec<KeptSegments>,
     lane: &HybridLane,
+    branch: u32,
     mut records: Vec<Arc<Segment>>,
 )
     requires few { length segments.old.items ≤ 8 }
     requires count { length records.items ≡ length segments.old.items }
     requires rows { length lane.now.rows ≡ length segments.old.items }
-    requires some { (r : ℕ) → r < length segments.old.items → 0 < length (kept_rows lane.now r) }
-    requires there { (r : ℕ) → r < length segments.old.items
-        → head_of_lane lane.now r < length (list_at segments.old.items r) }
+    requires heads { (r : ℕ) → r < length segments.old.items
+        → HasHead branch (list_at segments.old.items r) (kept_rows lane.now r) }
     ensures count { length segments.new.items ≡ length segments.old.items }
     ensures each { (r : ℕ) → r < length segments.old.items
         → get_or segments.new.items r no_list
-        ≡ with_records (get_or segments.old.items r no_list) (head_of_lane lane.now r)
-        (get_or (map arc_value records.items) r no_own) }
+        ≡ with_records (get_or segments.old.items r no_list)
+        (head_number segments.old.items branch r) (get_or (map arc_value records.items) r no_own) }
 {
     while let Some(own) = records.pop() {
         let relation = records.len();
-        let head = lane.rows(relation as u8).head();
+        let head = head_of_rows(lane.rows(relation as u8), &segments[relation], branch);
         segments[relation].put(head, own);
     }
 }

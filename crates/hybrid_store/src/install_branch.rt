@@ -6,8 +6,9 @@ ghost use Rattle.bit_rows.specs.Kept.{no_kept};
 ghost use Rattle.bit_rows.specs.Segments.{no_list, list_at, with_head, turned_list};
 ghost use Rattle.hybrid_store.specs.Ready.{no_own};
 ghost use Rattle.hybrid_store.specs.ReadyBranch.{CanTurn, CanTake, TurnsIf};
-ghost use Rattle.hybrid_store.specs.Stored.{head_of_lane};
+ghost use Rattle.hybrid_store.specs.Stored.{head_number};
 
+use crate::heads::head_of_rows;
 use bit_rows::{HybridLane, KeptSegments, MoreRows};
 use hybrid_view::HybridView;
 use segment::Segment;
@@ -56,16 +57,16 @@ fn turn_lists(
     requires count { length heads.items ≡ length segments.old.items }
     requires rows { length lane.now.rows ≡ length segments.old.items }
     requires can { (r : ℕ) → r < length segments.old.items
-        → CanTurn lane.now (get_or segments.old.items r no_list) r }
+        → CanTurn branch lane.now (get_or segments.old.items r no_list) r }
     ensures count { length segments.new.items ≡ length segments.old.items }
     ensures each { (r : ℕ) → r < length segments.old.items
         → get_or segments.new.items r no_list
-        ≡ turned_list (get_or segments.old.items r no_list) (head_of_lane lane.now r) branch
-        (get_or (map arc_value heads.items) r no_own) }
+        ≡ turned_list (get_or segments.old.items r no_list) (head_number segments.old.items branch r)
+        branch (get_or (map arc_value heads.items) r no_own) }
 {
     while let Some(own) = heads.pop() {
         let relation = heads.len();
-        let head = lane.rows(relation as u8).head();
+        let head = head_of_rows(lane.rows(relation as u8), &segments[relation], branch);
         segments[relation].turn(head, branch, own);
     }
 }
@@ -96,7 +97,7 @@ pub(crate) fn turn_if(
 )
     requires there { branch < length lanes.old.items }
     requires can { IfSome turned
-        (λ t. CanTake (get_or lanes.old.items branch no_kept) segments.old.items t) }
+        (λ t. CanTake branch (get_or lanes.old.items branch no_kept) segments.old.items t) }
     ensures turned { TurnsIf branch turned lanes.old.items segments.old.items lanes.new.items
         segments.new.items }
     ensures capacity { vec_capacity lanes.old ≤ vec_capacity lanes.new }

@@ -15,11 +15,13 @@
 //! | `specs/Sees.antt`, `src/view.rt` | the views of versions, and the parts that they show |
 //! | `specs/Whole.antt`, `src/whole.rt` | views with all records that their segments have |
 //! | `specs/Readers.antt`, `src/readers.rt` | what the layout has, part by part |
+//! | `src/heads.rt` | the head of a branch |
 //! | `src/same.rt` | the branches of a second store of the same state |
 #![tactic(auto)]
 
 mod begin;
 mod commit;
+mod heads;
 mod install;
 mod install_branch;
 mod made;

@@ -378,7 +378,12 @@ impl Store for HybridStore {
         });
         let other = self.number_if(second);
         add_version(&mut self.graph, first, other);
-        put_records(&mut self.segments, &self.lanes[branch as usize], records);
+        put_records(
+            &mut self.segments,
+            &self.lanes[branch as usize],
+            branch,
+            records,
+        );
         self.lanes[branch as usize].push(second, deltas, head);
         self.order.push_reserved(place);
         self.spare -= 1;

@@ -1,11 +1,9 @@
-use Rattle.std.proofs.Common.{◌≡◌, ◌∙◌, ◌<◌, ◌≤◌, ◌++◌, ◌∷◌, [], ℕ, List, length, map, get_or, arith, ap, sym, subst}
+use Rattle.std.proofs.Common.{◌≡◌, ◌∙◌, ◌<◌, ◌≤◌, ◌++◌, ◌∷◌, [], ℕ, List, length, map, get_or, arith, ap}
 use Rattle.std.specs.Arc.{arc_value}
 use Rattle.std.proofs.lemmas.List.{get_or_default, length-map, map-append}
 use Rattle.record_page.specs.Page.{Rows}
-use Rattle.bit_rows.specs.Rows.{KeptRow}
 use Rattle.bit_rows.specs.Segments.{KeptList, no_list, with_head}
 use Rattle.hybrid_store.specs.Ready.{no_own}
-use Rattle.hybrid_store.specs.Stored.{head_in, head_of_lane}
 use Rattle.bit_rows.proofs.PushLemmas.{push_below, push_there, push_next, push_within, push_count, push_left, push_same, push_done}
 use Rattle.hybrid_store.proofs.install_branch.add_heads.Goals as goal
 

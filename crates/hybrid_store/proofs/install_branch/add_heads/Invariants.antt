@@ -2,7 +2,6 @@ use Rattle.std.proofs.Common.{◌≡◌, ◌≤◌, ◌<◌, ℕ, map, length, g
 use Rattle.std.specs.Arc.{arc_value}
 use Rattle.bit_rows.specs.Segments.{no_list, with_head}
 use Rattle.hybrid_store.specs.Ready.{no_own}
-use Rattle.hybrid_store.specs.Stored.{head_of_lane}
 use Rattle.hybrid_store.proofs.install_branch.add_heads.Given as goal
 
 abbrev pub invariant-loop-own : goal.invariant-loop-own

@@ -3,9 +3,12 @@ use Rattle.std.specs.Arc.{arc_value}
 use Rattle.std.proofs.lemmas.List.{get_or_default, length-map, map-append}
 use Rattle.record_page.specs.Page.{Rows}
 use Rattle.bit_rows.specs.Rows.{KeptRow}
-use Rattle.bit_rows.specs.Segments.{KeptList, no_list, turned_list}
+use Rattle.bit_rows.specs.Segments.{KeptList, no_list, list_at, turned_list}
 use Rattle.hybrid_store.specs.Ready.{no_own}
-use Rattle.hybrid_store.specs.Stored.{head_in, head_of_lane}
+use Rattle.hybrid_store.specs.Stored.{head_in, head_number, HasHead}
+use Rattle.bit_rows.specs.Kept.{kept_rows}
+use Rattle.hybrid_store.specs.Lanes.{segment_of}
+use Rattle.hybrid_store.proofs.OwnLemmas.{has_at}
 use Rattle.bit_rows.proofs.PushLemmas.{push_below, push_there, push_next, push_within, push_count, push_left, push_same, push_done}
 use Rattle.hybrid_store.proofs.install_branch.turn_lists.Goals as goal
 
@@ -29,8 +32,8 @@ rows-requires c =
     let there = push_there no_list no_own lists olds xs ys all next m at split v.count within left same in
     omega (arith, there, v.count, c.requires.rows)
 
-pub head-head-requires : goal.head-head-requires
-head-head-requires c =
+pub head_of_rows-head-requires : goal.head_of_rows-head-requires
+head_of_rows-head-requires c =
     let lists : List KeptList = c.loop-own.segments.items in
     let olds : List KeptList = c.args.segments.now.items in
     let xs : List Rows = map arc_value c.loop-own.heads.items in
@@ -47,7 +50,10 @@ head-head-requires c =
     let at : m ≡ length ys = omega (arith, c.len-relation.ensures, c.pop.new.self.ok.0, lm) in
     let split : xs ≡ ys ++ next ∷ [] = ap (map arc_value) c.in-Some.ensures.items ∙ map-append arc_value c.pop.new.self.items (c.in-Some.own ∷ []) in
     let there = push_there no_list no_own lists olds xs ys all next m at split v.count within left same in
-    subst (λ (rs : List KeptRow). 0 < length rs) (sym c.rows.ensures) ((c.requires.can m (omega (arith, there, v.count))).some)
+    let below = push_below no_list no_own lists olds xs ys all next m at split v.count within left same in
+    let list : c.index.result.now ≡ get_or olds m no_list = c.index.ensures ∙ get_or_default lists m c.index.result.now no_list there ∙ same m below in
+    subst (λ (k : KeptList). HasHead c.args.branch k.all c.rows.result.now) (sym list)
+    (subst (λ (rs : List KeptRow). HasHead c.args.branch (list_at olds m) rs) (sym c.rows.ensures) ((c.requires.can m (omega (arith, there, v.count))).head))
 
 pub turn-requires-clause-segment : goal.turn-requires-clause-segment
 turn-requires-clause-segment c =
@@ -69,8 +75,11 @@ turn-requires-clause-segment c =
     let below = push_below no_list no_own lists olds xs ys all next m at split v.count within left same in
     let there = push_there no_list no_own lists olds xs ys all next m at split v.count within left same in
     let row : c.index_mut.result.now ≡ get_or olds m no_list = c.index_mut.ensures.value ∙ get_or_default lists m c.index_mut.result.now no_list there ∙ same m below in
-    let head : c.head-head.result ≡ head_of_lane c.args.lane.now m = c.head-head.ensures ∙ ap (λ (rs : List KeptRow). head_in rs) c.rows.ensures in
-    let is = (c.requires.can m (omega (arith, there, v.count))).there in
+    let list : c.index.result.now ≡ get_or olds m no_list = c.index.ensures ∙ get_or_default lists m c.index.result.now no_list there ∙ same m below in
+    let head : c.head_of_rows-head.result ≡ head_number olds c.args.branch m = c.head_of_rows-head.ensures ∙ ap (λ (k : KeptList). head_in c.args.branch (map segment_of k.all)) list in
+    let held = (c.requires.can m (omega (arith, there, v.count))).head in
+    let own_at = has_at (head_number olds c.args.branch m) (kept_rows c.args.lane.now m) held.own in
+    let is : head_number olds c.args.branch m < length (list_at olds m) = (let x = held.there own_at.0 own_at.1.0 in let y = own_at.1.1 in omega (arith, x, y)) in
     let long = ap (λ (k : KeptList). length k.all) row in
     omega (arith, is, head, long)
 
@@ -121,13 +130,14 @@ loop-own-preserved c =
     let there = push_there no_list no_own lists olds xs ys all next m at split v.count within left same in
     let is : next ≡ get_or all m no_own = push_next no_list no_own lists olds xs ys all next m at split v.count within left same in
     let row : c.index_mut.result.now ≡ get_or olds m no_list = c.index_mut.ensures.value ∙ get_or_default lists m c.index_mut.result.now no_list there ∙ same m below in
-    let head : c.head-head.result ≡ head_of_lane c.args.lane.now m = c.head-head.ensures ∙ ap (λ (rs : List KeptRow). head_in rs) c.rows.ensures in
-    let now : x ≡ turned_list (get_or olds m no_list) (head_of_lane c.args.lane.now m) c.args.branch (get_or all m no_own) = c.turn.ensures ∙ (λ i. turned_list (row i) (head i) c.args.branch (is i)) in
+    let list : c.index.result.now ≡ get_or olds m no_list = c.index.ensures ∙ get_or_default lists m c.index.result.now no_list there ∙ same m below in
+    let head : c.head_of_rows-head.result ≡ head_number olds c.args.branch m = c.head_of_rows-head.ensures ∙ ap (λ (k : KeptList). head_in c.args.branch (map segment_of k.all)) list in
+    let now : x ≡ turned_list (get_or olds m no_list) (head_number olds c.args.branch m) c.args.branch (get_or all m no_own) = c.turn.ensures ∙ (λ i. turned_list (row i) (head i) c.args.branch (is i)) in
     record {
       count = push_count no_list no_own lists olds xs ys all next m at split v.count within left same x;
       within = let w = push_within no_list no_own lists olds xs ys all next m at split v.count within left same in omega (arith, w, lm);
       left = λ i h. push_left no_list no_own lists olds xs ys all next m at split v.count within left same i (omega (arith, h, lm));
       same = λ i h. push_same no_list no_own lists olds xs ys all next m at split v.count within left same x i (omega (arith, h, lm));
       done = λ i h k. push_done no_list no_own lists olds xs ys all next m at split v.count within left same x
-          (λ r (y : KeptList). y ≡ turned_list (get_or olds r no_list) (head_of_lane c.args.lane.now r) c.args.branch (get_or all r no_own)) (λ r a b. v.done r (omega (arith, a, lx)) b) now i (omega (arith, h, lm)) k;
+          (λ r (y : KeptList). y ≡ turned_list (get_or olds r no_list) (head_number olds c.args.branch r) c.args.branch (get_or all r no_own)) (λ r a b. v.done r (omega (arith, a, lx)) b) now i (omega (arith, h, lm)) k;
     }

@@ -2,7 +2,7 @@ use Rattle.std.proofs.Common.{◌≡◌, ◌≤◌, ◌<◌, ℕ, map, length, g
 use Rattle.std.specs.Arc.{arc_value}
 use Rattle.bit_rows.specs.Segments.{no_list, turned_list}
 use Rattle.hybrid_store.specs.Ready.{no_own}
-use Rattle.hybrid_store.specs.Stored.{head_of_lane}
+use Rattle.hybrid_store.specs.Stored.{head_number}
 use Rattle.hybrid_store.proofs.install_branch.turn_lists.Given as goal
 
 abbrev pub invariant-loop-own : goal.invariant-loop-own
@@ -12,7 +12,7 @@ invariant-loop-own l = record {
   left : (r : ℕ) → r < length l.heads.items → get_or (map arc_value l.heads.items) r no_own ≡ get_or (map arc_value l.initial.heads.items) r no_own;
   same : (r : ℕ) → r < length l.heads.items → get_or l.segments.items r no_list ≡ get_or l.initial.segments.items r no_list;
   done : (r : ℕ) → length l.heads.items ≤ r → r < length l.initial.segments.items
-      → get_or l.segments.items r no_list ≡ turned_list (get_or l.initial.segments.items r no_list) (head_of_lane l.lane r) l.branch (get_or (map arc_value l.initial.heads.items) r no_own);
+      → get_or l.segments.items r no_list ≡ turned_list (get_or l.initial.segments.items r no_list) (head_number l.initial.segments.items l.branch r) l.branch (get_or (map arc_value l.initial.heads.items) r no_own);
 }
 
 abbrev pub decreases-loop-own : goal.decreases-loop-own

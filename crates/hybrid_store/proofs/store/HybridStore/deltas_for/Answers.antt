@@ -5,7 +5,7 @@ use Rattle.hybrid_view.specs.RowPlaces.{AllNext}
 use Rattle.bit_rows.specs.Rows.{KeptRow, kept_row_at}
 use Rattle.bit_rows.specs.Kept.{KeptLane, no_kept, kept_rows}
 use Rattle.bit_rows.specs.Differences.{AreDifferences}
-use Rattle.hybrid_store.specs.Stored.{head_of_lane}
+use Rattle.hybrid_store.specs.Stored.{head_number}
 use Rattle.hybrid_store.proofs.CommitLemmas.{branch_there, pieces_count, deltas_few}
 use Rattle.hybrid_store.proofs.store.HybridStore.deltas_for.Goals as goal
 
@@ -21,11 +21,11 @@ next_deltas-requires-clause-count c =
 pub next_deltas-requires-clause-next : goal.next_deltas-requires-clause-next
 next_deltas-requires-clause-next c =
     let k : KeptLane = get_or c.args.self.now.lanes.items c.args.branch no_kept in (
-      head_of_lane k c.args.relation,
+      head_number c.args.self.now.segments.items c.args.branch c.args.relation,
       (
         puts c.args.changes.now c.args.relation,
-        subst (λ (l : Lived). AllNext c.args.places.now (head_of_lane k c.args.relation) (puts c.args.changes.now c.args.relation) l.pieces c.args.live.now.pieces) (sym c.lived-old.ensures)
-            (subst (λ (os : List (Option (ℕ × ℕ))). AllNext os (head_of_lane k c.args.relation) (puts c.args.changes.now c.args.relation) (lived_at k.head c.args.relation).pieces c.args.live.now.pieces) (sym c.requires.places) c.requires.next),
+        subst (λ (l : Lived). AllNext c.args.places.now (head_number c.args.self.now.segments.items c.args.branch c.args.relation) (puts c.args.changes.now c.args.relation) l.pieces c.args.live.now.pieces) (sym c.lived-old.ensures)
+            (subst (λ (os : List (Option (ℕ × ℕ))). AllNext os (head_number c.args.self.now.segments.items c.args.branch c.args.relation) (puts c.args.changes.now c.args.relation) (lived_at k.head c.args.relation).pieces c.args.live.now.pieces) (sym c.requires.places) c.requires.next),
       ),
     )
 

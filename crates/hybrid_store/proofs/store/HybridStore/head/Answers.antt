@@ -1,4 +1,4 @@
-use Rattle.std.proofs.Common.{◌≡◌, ◌<◌, ◌∙◌, ap, arith, length, List}
+use Rattle.std.proofs.Common.{◌∙◌, ap, arith, length, List}
 use Rattle.db_store.specs.Layout.{Segment}
 use Rattle.bit_rows.specs.Segments.{KeptRecords, kept_at}
 use Rattle.hybrid_store.proofs.ReaderLemmas.{segment_within, segment_told}

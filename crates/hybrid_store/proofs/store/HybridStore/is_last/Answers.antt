@@ -1,4 +1,4 @@
-use Rattle.std.proofs.Common.{◌≡◌, ◌∙◌, ◌-◌, ◌==◌, ap, sym, length, ℕ}
+use Rattle.std.proofs.Common.{◌∙◌, ◌-◌, ◌==◌, ap, sym, length, ℕ}
 use Rattle.db_store.specs.Layout.{Lane}
 use Rattle.bit_rows.specs.Kept.{KeptLane}
 use Rattle.hybrid_store.proofs.LayoutLemmas.{lane_kept}

@@ -1,4 +1,4 @@
-use Rattle.std.proofs.Common.{◌≡◌, ◌<◌, ◌∙◌, ◌∷◌, [], cond, ap, sym, subst, arith, length, map, get_or, ℕ, List, None}
+use Rattle.std.proofs.Common.{◌≡◌, ◌∙◌, ◌∷◌, [], cond, ap, sym, subst, length, map, get_or, List, None}
 use Rattle.std.specs.Arc.{arc_value}
 use Rattle.std.proofs.lemmas.List.{length-map}
 use Rattle.record_page.specs.Page.{Rows}

@@ -4,15 +4,11 @@ use Rattle.hybrid_view.specs.Live.{Lived}
 use Rattle.record_page.specs.Page.{Rows}
 use Rattle.hybrid_store.specs.Store.{layout_of}
 use Rattle.hybrid_store.specs.Ready.{IsMadeOf}
-use Rattle.hybrid_store.proofs.CommitLemmas.{branch_there, next_some, prepared_is}
+use Rattle.hybrid_store.proofs.CommitLemmas.{branch_there, prepared_is}
 use Rattle.hybrid_store.proofs.store.HybridStore.prepare_commit.Goals as goal
 
-pub head_records-requires-clause-some : goal.head_records-requires-clause-some
-head_records-requires-clause-some c =
-    let s = c.args.self.now in
-    let b = branch_there s.schema s.lanes.items s.order.items s.segments.items c.args.branch c.args.second c.args.changes.now c.requires in
-    let w = c.in_ok-table.ensures.wide in
-    λ r h. next_some s.schema s.lanes.items s.segments.items c.args.branch c.args.changes.now c.in_ok-table.table b s.stored c.in_ok-table.ensures.next r (omega (arith, w, h))
+pub head_records-requires-clause-branch : goal.head_records-requires-clause-branch
+head_records-requires-clause-branch c = let s = c.args.self.now in branch_there s.schema s.lanes.items s.order.items s.segments.items c.args.branch c.args.second c.args.changes.now c.requires
 
 pub returns : goal.returns
 returns c =
@@ -25,5 +21,5 @@ returns c =
       subst (λ (hd : List Lived). IsMadeOf (layout_of s) c.args.branch c.args.second c.args.changes.now c.args.branch c.args.second c.table_after.new.deltas.items hd owns) (sym head_eq)
           (prepared_is s.schema s.lanes.items s.order.items s.segments.items c.args.branch c.args.second c.args.changes.now b s.stored s.laid c.requires c.table_after.new.deltas.items c.in_ok-table.table owns
           c.in_ok-table.ensures.count w (c.in_ok-records.ensures.count ∙ w) c.in_ok-table.ensures.next c.in_ok-table.ensures.deltas
-          c.told.ensures (λ r h. c.in_ok-records.ensures.records r (omega (arith, w, h))) c.in_ok-table.ensures.small),
+          c.told.ensures (λ r h. c.in_ok-records.ensures.own r (omega (arith, w, h))) c.in_ok-table.ensures.small),
     )

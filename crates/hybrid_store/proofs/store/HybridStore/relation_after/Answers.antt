@@ -12,7 +12,7 @@ use Rattle.hybrid_view.specs.Live.{Lived, Piece, piece_at, lived_at, contents_in
 use Rattle.bit_rows.specs.Kept.{KeptLane, no_kept}
 use Rattle.hybrid_store.specs.Lanes.{segment_of}
 use Rattle.bit_rows.specs.Segments.{list_at}
-use Rattle.hybrid_store.specs.Stored.{head_of_lane, touched_in}
+use Rattle.hybrid_store.specs.Stored.{head_number, touched_in}
 use Rattle.hybrid_store.proofs.CommitLemmas.{put_fields, put_room, lived_after, small_after, branch_there}
 use Rattle.hybrid_store.proofs.store.HybridStore.relation_after.Goals as goal
 
@@ -42,16 +42,16 @@ after-requires-clause-lived c =
     let k : KeptLane = get_or s.lanes.items c.args.branch no_kept in
     let places : List (Option (ℕ × ℕ)) = touched_in k c.args.changes.now c.args.relation in
     let hd = c.head_of-head.ensures.segment in
-    let sp : c.in_ok-spots.spots ≡ spots (head_of_lane (get_or s.lanes.items c.args.branch no_kept) c.args.relation) (length (records_at (map segment_of (list_at s.segments.items c.args.relation)) (head_of_lane (get_or s.lanes.items c.args.branch no_kept) c.args.relation))) c.args.changes.now c.args.relation =
+    let sp : c.in_ok-spots.spots ≡ spots (head_number s.segments.items c.args.branch c.args.relation) (length (records_at (map segment_of (list_at s.segments.items c.args.relation)) (head_number s.segments.items c.args.branch c.args.relation))) c.args.changes.now c.args.relation =
     c.in_ok-spots.ensures ∙ (λ i. spots (hd i) (c.head_of-head.ensures.records i) c.args.changes.now c.args.relation) in
     let keys : ℕ = len (after c.args.relation (contents_in (lived_at (get_or s.lanes.items c.args.branch no_kept).head c.args.relation)) c.args.changes.now) in
-    let changed : List SpotChange = spots (head_of_lane (get_or s.lanes.items c.args.branch no_kept) c.args.relation) (length (records_at (map segment_of (list_at s.segments.items c.args.relation)) (head_of_lane (get_or s.lanes.items c.args.branch no_kept) c.args.relation))) c.args.changes.now c.args.relation in
+    let changed : List SpotChange = spots (head_number s.segments.items c.args.branch c.args.relation) (length (records_at (map segment_of (list_at s.segments.items c.args.relation)) (head_number s.segments.items c.args.branch c.args.relation))) c.args.changes.now c.args.relation in
     λ qs next.
     subst (λ n. IsLived (record { pieces = qs; places = with_changes c.lived-old.result.now.places c.in_ok-spots.spots; count = n })) (sym c.count_with-count.ensures)
     (subst (λ (xs : List SpotChange). IsLived (record { pieces = qs; places = with_changes c.lived-old.result.now.places xs; count = keys })) (sym sp)
     (subst (λ (l : Lived). IsLived (record { pieces = qs; places = with_changes l.places changed; count = keys })) (sym c.lived-old.ensures)
     (lived_after s.schema s.lanes.items s.order.items s.segments.items c.args.branch c.args.relation c.requires.fits.0 c.args.changes.now b c.requires.relation s.stored s.laid c.requires.fits.1 qs
-    (subst (λ (l : Lived). AllNext places (head_of_lane k c.args.relation) (puts c.args.changes.now c.args.relation) l.pieces qs) c.lived-old.ensures
+    (subst (λ (l : Lived). AllNext places (head_number s.segments.items c.args.branch c.args.relation) (puts c.args.changes.now c.args.relation) l.pieces qs) c.lived-old.ensures
     (subst (λ h. AllNext places h (puts c.args.changes.now c.args.relation) c.lived-old.result.now.pieces qs) hd
     (subst (λ (rows : List Record). AllNext places c.head_of-head.result.0 rows c.lived-old.result.now.pieces qs) c.in_ok-rows.ensures
     (subst (λ (os : List (Option (ℕ × ℕ))). AllNext os c.head_of-head.result.0 c.in_ok-rows.rows c.lived-old.result.now.pieces qs) c.requires.places next)))))))
@@ -62,7 +62,7 @@ returns-clause-next c =
     let k : KeptLane = get_or s.lanes.items c.args.branch no_kept in
     let places : List (Option (ℕ × ℕ)) = touched_in k c.args.changes.now c.args.relation in
     let qs : List Piece = c.in_ok-new.new.pieces in
-    subst (λ (l : Lived). AllNext places (head_of_lane k c.args.relation) (puts c.args.changes.now c.args.relation) l.pieces qs) c.lived-old.ensures
+    subst (λ (l : Lived). AllNext places (head_number s.segments.items c.args.branch c.args.relation) (puts c.args.changes.now c.args.relation) l.pieces qs) c.lived-old.ensures
     (subst (λ h. AllNext places h (puts c.args.changes.now c.args.relation) c.lived-old.result.now.pieces qs) c.head_of-head.ensures.segment
     (subst (λ (rows : List Record). AllNext places c.head_of-head.result.0 rows c.lived-old.result.now.pieces qs) c.in_ok-rows.ensures
     (subst (λ (os : List (Option (ℕ × ℕ))). AllNext os c.head_of-head.result.0 c.in_ok-rows.rows c.lived-old.result.now.pieces qs) c.requires.places c.in_ok-new.ensures.parts)))

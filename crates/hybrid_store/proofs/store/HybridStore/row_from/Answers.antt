@@ -1,6 +1,6 @@
-use Rattle.std.proofs.Common.{◌≡◌, ◌<◌, ◌∙◌, ap, sym, map, get_or, ℕ, List, Option, Some, None}
+use Rattle.std.proofs.Common.{◌≡◌, ◌∙◌, ap, sym, map, get_or, List, Some}
 use Rattle.db_store.specs.Layout.{Row}
-use Rattle.bit_rows.specs.Rows.{KeptRow, kept_row_at, laid_row}
+use Rattle.bit_rows.specs.Rows.{KeptRow, laid_row}
 use Rattle.bit_rows.specs.Kept.{KeptLane, no_kept, kept_rows}
 use Rattle.hybrid_store.specs.Readers.{place_from, from_at, rows_in}
 use Rattle.hybrid_store.specs.Store.{layout_of}

@@ -1,4 +1,4 @@
-use Rattle.std.proofs.Common.{◌≡◌, ◌<◌, ◌∙◌, ap, sym, arith, length, get_or, List}
+use Rattle.std.proofs.Common.{◌∙◌, ap, arith, length, List}
 use Rattle.record_page.specs.Page.{Rows}
 use Rattle.db_store.specs.Layout.{Segment}
 use Rattle.bit_rows.specs.Segments.{KeptRecords, kept_at}

@@ -1,5 +1,5 @@
 use Rattle.std.proofs.Common.{◌<◌, sym, subst, arith, length, ℕ, List}
-use Rattle.hybrid_view.specs.Live.{Lived, lived_at}
+use Rattle.hybrid_view.specs.Live.{Lived}
 use Rattle.bit_rows.specs.Segments.{KeptRecords, list_at}
 use Rattle.hybrid_store.specs.Whole.{AreThere}
 use Rattle.hybrid_store.proofs.ViewLemmas.{made_kept}

@@ -5,7 +5,7 @@ use Rattle.commit_history.specs.Runs.{Next}
 use Rattle.hybrid_view.specs.Live.{Lived, lived_at, IsLived}
 use Rattle.bit_rows.specs.Kept.{KeptLane, no_kept, kept_rows}
 use Rattle.bit_rows.specs.Differences.{AreDifferences}
-use Rattle.hybrid_store.specs.Stored.{AllNextIn, AllDifferences, AreSmall}
+use Rattle.hybrid_store.specs.Stored.{head_number, AllNextIn, AllDifferences, AreSmall}
 use Rattle.hybrid_store.proofs.TableLemmas.{next_more, lived_more, small_more, ready_more}
 use Rattle.hybrid_store.proofs.store.HybridStore.table_after.Goals as goal
 
@@ -14,6 +14,7 @@ loop-relation-preserved c =
     let s = c.args.self.now in
     let k : KeptLane = get_or s.lanes.items c.args.branch no_kept in
     let cs = c.args.changes.now in
+    let heads : ℕ → ℕ = head_number s.segments.items c.args.branch in
     let r : ℕ = c.loop-relation.relation in
     let ls : List Lived = map arc_value c.loop-relation.relations.items in
     let l : Lived = arc_value c.in_ok-live.live in
@@ -30,11 +31,11 @@ loop-relation-preserved c =
     record {
       count = omega (arith, long, p, n);
       ready = omega (arith, ln, pn, m);
-      next = subst (AllNextIn k cs (r + 1)) (sym is) (next_more k cs ls l r n c.loop-relation.invariant.next c.in_ok-live.ensures.next);
+      next = subst (AllNextIn heads k cs (r + 1)) (sym is) (next_more heads k cs ls l r n c.loop-relation.invariant.next c.in_ok-live.ensures.next);
       deltas = subst (λ (xs : List Lived). AllDifferences k c.push.new.self.items (r + 1) xs) (sym is)
           (subst (λ (ys : List (List Next)). AllDifferences k ys (r + 1) (ls ++ l ∷ [])) (sym nexts)
           (ready_more k ls l ns x r n m c.loop-relation.invariant.deltas
           (subst (λ (y : Lived). AreDifferences (kept_rows k r) x (lived_at k.head r).pieces y.pieces) c.deref-in-loop-relation-2.ensures c.in_ok-nexts.ensures)));
-      lived = subst (λ (xs : List Lived). (q : ℕ) → q < r + 1 → IsLived (lived_at xs q)) (sym is) (lived_more k cs ls l r n c.loop-relation.invariant.lived c.in_ok-live.ensures.lived);
-      small = subst (λ (xs : List Lived). (q : ℕ) → q < r + 1 → AreSmall (lived_at xs q)) (sym is) (small_more k cs ls l r n c.loop-relation.invariant.small c.in_ok-live.ensures.small);
+      lived = subst (λ (xs : List Lived). (q : ℕ) → q < r + 1 → IsLived (lived_at xs q)) (sym is) (lived_more heads k cs ls l r n c.loop-relation.invariant.lived c.in_ok-live.ensures.lived);
+      small = subst (λ (xs : List Lived). (q : ℕ) → q < r + 1 → AreSmall (lived_at xs q)) (sym is) (small_more heads k cs ls l r n c.loop-relation.invariant.small c.in_ok-live.ensures.small);
     }

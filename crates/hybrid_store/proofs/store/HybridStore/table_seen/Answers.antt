@@ -2,7 +2,7 @@ use Rattle.std.proofs.Common.{◌≡◌, ℕ, ◌+◌, ◌<◌, ◌^◌, ◌++�
 use Rattle.std.specs.Arc.{arc_value}
 use Rattle.std.proofs.lemmas.List.{map-append, length_push}
 use Rattle.db_value.specs.Relations.{columns_at}
-use Rattle.hybrid_view.specs.Live.{Lived, no_piece, lived_at, IsLived}
+use Rattle.hybrid_view.specs.Live.{Lived, no_piece, IsLived}
 use Rattle.bit_rows.specs.Rows.{KeptRow, kept_row_at, laid_row}
 use Rattle.bit_rows.specs.Kept.{KeptLane, no_kept, kept_rows}
 use Rattle.bit_rows.specs.Segments.{KeptRecords, list_at}

@@ -2,7 +2,7 @@ use Rattle.std.proofs.Common.{◌≡◌, ◌<◌, ◌+◌, ◌-◌, ◌++◌, �
 use Rattle.std.specs.Arc.{arc_value}
 use Rattle.std.proofs.lemmas.List.{map-append, length-map, get_or-map}
 use Rattle.record_page.specs.Page.{Rows}
-use Rattle.hybrid_view.specs.Live.{Lived, IsLived, lived_at}
+use Rattle.hybrid_view.specs.Live.{Lived, IsLived}
 use Rattle.bit_rows.specs.Kept.{KeptLane, no_kept, kept_rows}
 use Rattle.bit_rows.specs.Rows.{KeptRow, laid_row, MoreRow}
 use Rattle.hybrid_store.specs.Begun.{head_piece, lived_turned, turned_row, turned_in, AreTurned}

@@ -6,7 +6,7 @@ use Rattle.db_value.specs.declared.schema.Relation.{Relation}
 use Rattle.record_page.specs.Page.{Rows}
 use Rattle.db_store.specs.LayoutGrowth.{is_last}
 use Rattle.hybrid_view.specs.Live.{Lived, lived_at, IsLived}
-use Rattle.bit_rows.specs.Kept.{KeptLane, no_kept, kept_rows, more_at}
+use Rattle.bit_rows.specs.Kept.{KeptLane, no_kept, more_at}
 use Rattle.hybrid_store.specs.Begun.{turned_in, turned_row, AreTurned}
 use Rattle.bit_rows.specs.Segments.{list_at}
 use Rattle.hybrid_store.specs.New.{own_at}

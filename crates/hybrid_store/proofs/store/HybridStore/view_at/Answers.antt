@@ -1,4 +1,4 @@
-use Rattle.std.proofs.Common.{◌≡◌, ◌<◌, ◌∙◌, ap, sym, subst, length, ℕ, List}
+use Rattle.std.proofs.Common.{◌≡◌, ◌∙◌, ap, sym, subst, List}
 use Rattle.std.specs.Arc.{arc_value}
 use Rattle.hybrid_view.specs.Live.{Lived, lived_at, parts_in}
 use Rattle.bit_rows.specs.Segments.{list_at}

@@ -21,12 +21,11 @@ use Rattle.store_catalogue.specs.ByName.{AreNumbers}
 use Rattle.bit_rows.specs.Rows.{kept_row_at, next_at, pushed_row}
 use Rattle.bit_rows.specs.Kept.{KeptLane, no_kept, kept_rows, nexts_at}
 use Rattle.hybrid_store.specs.Lanes.{kept_layout}
-use Rattle.bit_rows.specs.Segments.{KeptList, no_list, list_at, with_records}
-use Rattle.hybrid_store.specs.Ready.{no_own}
-use Rattle.hybrid_store.specs.Stored.{head_of_lane, kept_dataset, HasRoom}
+use Rattle.bit_rows.specs.Segments.{KeptList, list_at}
+use Rattle.hybrid_store.specs.Stored.{HasHead, kept_dataset, HasRoom}
 use Rattle.hybrid_store.specs.Store.{layout_of, dataset_in}
 use Rattle.hybrid_store.proofs.AddedLemmas.{parts, ready_there, ready_second, last_place, last_made, numbers_added, lineage_added, layout_added, state_added, dataset_added, stored_added, room_after, less_room}
-use Rattle.hybrid_store.proofs.GrownLemmas.{head_there, rows_some, ready_count, ready_counts, ready_each}
+use Rattle.hybrid_store.proofs.GrownLemmas.{rows_head, ready_count, ready_counts, ready_each}
 use Rattle.hybrid_store.proofs.store.HybridStoreStore.install.Goals as goal
 
 pub lane-requires : goal.lane-requires
@@ -95,8 +94,8 @@ put_records-requires-clause-rows c =
     let lane_now : c.index.result.now ≡ get_or s.lanes.items b no_kept = c.index.ensures ∙ get_or_default s.lanes.items b c.index.result.now no_kept there in
     ap (λ (k : KeptLane). length k.rows) lane_now ∙ (s.stored.each b there).rows ∙ sym s.stored.wide
 
-pub put_records-requires-clause-some : goal.put_records-requires-clause-some
-put_records-requires-clause-some c =
+pub put_records-requires-clause-heads : goal.put_records-requires-clause-heads
+put_records-requires-clause-heads c =
     let s = c.args.self.now in
     let p = c.args.prepared in
     let b = p.branch in
@@ -108,22 +107,7 @@ put_records-requires-clause-some c =
     let there : b < length s.lanes.items = ready_there s.schema s.lanes.items s.order.items s.segments.items b p.second nexts head owns s.stored s.laid s.sound e r in
     let lane_now : c.index.result.now ≡ get_or s.lanes.items b no_kept = c.index.ensures ∙ get_or_default s.lanes.items b c.index.result.now no_kept there in
     let w = s.stored.wide in
-    subst (λ (k : KeptLane). (q : ℕ) → q < length s.segments.items → 0 < length (kept_rows k q)) (sym lane_now) (λ q h. rows_some s.schema s.lanes.items s.order.items s.segments.items b p.second (parts s.schema s.lanes.items s.order.items s.segments.items b p.second nexts head owns s.stored s.laid s.sound e r).changes nexts head owns there s.stored s.laid (parts s.schema s.lanes.items s.order.items s.segments.items b p.second nexts head owns s.stored s.laid s.sound e r).made q (omega (arith, h, w)))
-
-pub put_records-requires-clause-there : goal.put_records-requires-clause-there
-put_records-requires-clause-there c =
-    let s = c.args.self.now in
-    let p = c.args.prepared in
-    let b = p.branch in
-    let nexts : List (List Next) = p.deltas.items in
-    let head : List Lived = arc_value p.head.table in
-    let owns : List Rows = map arc_value p.records.items in
-    let e = c.requires.ready.0 in
-    let r = c.requires.ready.1 in
-    let there : b < length s.lanes.items = ready_there s.schema s.lanes.items s.order.items s.segments.items b p.second nexts head owns s.stored s.laid s.sound e r in
-    let lane_now : c.index.result.now ≡ get_or s.lanes.items b no_kept = c.index.ensures ∙ get_or_default s.lanes.items b c.index.result.now no_kept there in
-    let w = s.stored.wide in
-    subst (λ (k : KeptLane). (q : ℕ) → q < length s.segments.items → head_of_lane k q < length (list_at s.segments.items q)) (sym lane_now) (λ q h. head_there s.schema s.lanes.items s.order.items s.segments.items b p.second (parts s.schema s.lanes.items s.order.items s.segments.items b p.second nexts head owns s.stored s.laid s.sound e r).changes nexts head owns there s.stored s.laid (parts s.schema s.lanes.items s.order.items s.segments.items b p.second nexts head owns s.stored s.laid s.sound e r).made q (omega (arith, h, w)))
+    subst (λ (k : KeptLane). (q : ℕ) → q < length s.segments.items → HasHead b (list_at s.segments.items q) (kept_rows k q)) (sym lane_now) (λ q h. rows_head s.schema s.lanes.items s.order.items s.segments.items b p.second (parts s.schema s.lanes.items s.order.items s.segments.items b p.second nexts head owns s.stored s.laid s.sound e r).changes nexts head owns there s.stored s.laid (parts s.schema s.lanes.items s.order.items s.segments.items b p.second nexts head owns s.stored s.laid s.sound e r).made q (omega (arith, h, w)))
 
 pub push-requires-clause-room : goal.push-requires-clause-room
 push-requires-clause-room c =
@@ -202,7 +186,7 @@ invariant_of-self c =
     let wide = c.push.ensures.count ∙ ap (λ (k : KeptLane). length k.rows) old in
     let counts = subst (λ (k : KeptLane). (q : ℕ) → q < length k.rows → length (kept_rows new q) ≡ length (kept_rows k q)) old c.push.ensures.counts in
     let each = subst (λ (k : KeptLane). (q i : ℕ) → q < length k.rows → i < length (kept_rows k q) → kept_row_at (kept_rows new q) i ≡ pushed_row (kept_row_at (kept_rows k q) i) (next_at (nexts_at nexts q) i)) old c.push.ensures.each in
-    let put = subst (λ (k : KeptLane). (q : ℕ) → q < length s.segments.items → get_or news q no_list ≡ with_records (get_or s.segments.items q no_list) (head_of_lane k q) (get_or owns q no_own)) lane_now c.put_records.ensures.each in
+    let put = c.put_records.ensures.each in
     let place : c.count-position.result ≡ length (get_or s.lanes.items b no_kept).seconds = c.count-position.ensures ∙ ap (λ (k : KeptLane). length k.seconds) c.lane.ensures.lane in
     let order : c.push_reserved.new.self.items ≡ s.order.items ++ record { branch = b; position = length (get_or s.lanes.items b no_kept).seconds } ∷ [] =
     c.push_reserved.ensures.items ∙ ap (λ n. s.order.items ++ record { branch = b; position = n } ∷ []) place in
@@ -254,7 +238,7 @@ returns-clause-grown c =
     let wide = c.push.ensures.count ∙ ap (λ (k : KeptLane). length k.rows) old in
     let counts = subst (λ (k : KeptLane). (q : ℕ) → q < length k.rows → length (kept_rows new q) ≡ length (kept_rows k q)) old c.push.ensures.counts in
     let each = subst (λ (k : KeptLane). (q i : ℕ) → q < length k.rows → i < length (kept_rows k q) → kept_row_at (kept_rows new q) i ≡ pushed_row (kept_row_at (kept_rows k q) i) (next_at (nexts_at nexts q) i)) old c.push.ensures.each in
-    let put = subst (λ (k : KeptLane). (q : ℕ) → q < length s.segments.items → get_or news q no_list ≡ with_records (get_or s.segments.items q no_list) (head_of_lane k q) (get_or owns q no_own)) lane_now c.put_records.ensures.each in
+    let put = c.put_records.ensures.each in
     let place : c.count-position.result ≡ length (get_or s.lanes.items b no_kept).seconds = c.count-position.ensures ∙ ap (λ (k : KeptLane). length k.seconds) c.lane.ensures.lane in
     let order : c.push_reserved.new.self.items ≡ s.order.items ++ record { branch = b; position = length (get_or s.lanes.items b no_kept).seconds } ∷ [] =
     c.push_reserved.ensures.items ∙ ap (λ n. s.order.items ++ record { branch = b; position = n } ∷ []) place in

@@ -1,8 +1,8 @@
-use Rattle.std.proofs.Common.{◌≡◌, ◌<◌, ◌≤◌, ℕ, ◌++◌, ◌∷◌, [], ◌∙◌, ap, sym, subst, arith, List, Option, length, map, get_or}
+use Rattle.std.proofs.Common.{◌≡◌, ◌<◌, ◌≤◌, ℕ, [], ◌∙◌, ap, sym, subst, arith, List, Option, length, map, get_or}
 use Rattle.std.specs.Arc.{arc_value}
 use Rattle.std.specs.FinMap.{insert, len}
 use Rattle.std.proofs.lemmas.List.{length-map, length_push}
-use Rattle.std.proofs.lemmas.List.Elements.{All-same, All-push, All-weaker, All-set}
+use Rattle.std.proofs.lemmas.List.Elements.{All-same, All-push}
 use Rattle.record_page.specs.Page.{Rows}
 use Rattle.db_store.specs.Dataset.{Dataset, apply, branch_named}
 use Rattle.db_store.specs.Fits.{most_branches}
@@ -18,14 +18,13 @@ use Rattle.db_store.proofs.CountedLemmas.{counted_stays}
 use Rattle.db_store.proofs.LaidLemmas.{laid_stays}
 use Rattle.store_catalogue.specs.ByName.{Numbers, KeptNames, AreNumbers}
 use Rattle.store_catalogue.proofs.BranchLemmas.{count_more}
-use Rattle.bit_rows.specs.Kept.{KeptLane, no_kept}
+use Rattle.bit_rows.specs.Kept.{KeptLane}
 use Rattle.hybrid_store.specs.Lanes.{kept_layout}
 use Rattle.bit_rows.specs.Segments.{KeptList, no_list, with_head}
 use Rattle.hybrid_store.specs.Ready.{no_own}
 use Rattle.hybrid_store.specs.ReadyBranch.{Turn, TurnsIf}
 use Rattle.hybrid_store.specs.Stored.{kept_dataset, HasRoom, IsStored}
 use Rattle.hybrid_store.specs.Store.{layout_of, dataset_in}
-use Rattle.hybrid_store.proofs.AddedLemmas.{less_room}
 use Rattle.hybrid_store.proofs.AddedBranch.{parts, lanes_few, from_there, takes, name_new, heads_count, heads_room, news_count, branch_is_stored, branch_layout_is, branch_state, branch_dataset, branch_numbers, branch_lineage, rooms_after}
 use Rattle.hybrid_store.proofs.store.HybridStoreStore.install_branch.Goals as goal
 

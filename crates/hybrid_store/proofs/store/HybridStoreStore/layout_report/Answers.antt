@@ -1,4 +1,4 @@
-use Rattle.std.proofs.Common.{◌≡◌, ◌<◌, ◌≤◌, ◌∙◌, ap, sym, subst, arith, length, List}
+use Rattle.std.proofs.Common.{◌∙◌, ap, sym, subst, arith, length, List}
 use Rattle.bit_rows.specs.Kept.{KeptLane}
 use Rattle.bit_rows.specs.Segments.{KeptList, list_at}
 use Rattle.bit_rows.specs.Told.{all_told, CanTell}

@@ -1,8 +1,7 @@
-use Rattle.std.proofs.Common.{◌≡◌, ◌∙◌, true, get_or, map, ap, sym, subst, List}
+use Rattle.std.proofs.Common.{◌≡◌, ◌∙◌, true, map, sym, subst}
 use Rattle.std.specs.Arc.{arc_value}
 use Rattle.db_value.specs.declared.entry.Entry.{Entry}
 use Rattle.db_value.specs.declared.entry.Entry.TheVariants.{Branch as NewBranch}
-use Rattle.db_store.specs.Dataset.{IsMade}
 use Rattle.db_store.specs.Fits.{fits}
 use Rattle.db_store.proofs.SoundLemmas.{branch_parts}
 use Rattle.hybrid_store.specs.Store.{dataset_in, state_of}
