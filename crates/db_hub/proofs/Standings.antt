@@ -2,7 +2,7 @@
 use Rattle.std.proofs.Common.{◌≡◌, inl, ℕ, List, [], ◌∷◌, ◌++◌, map, refl, sym, ap, ◌∙◌, subst, append-nil}
 use Rattle.std.proofs.lemmas.List.{map-append}
 use Rattle.std.proofs.lemmas.Bool.{false≢true}
-use Rattle.std.specs.Prelude.{IfSome, IfOk, Option, Some, None, Result, Ok, Err, Bool, true, false, is_some}
+use Rattle.std.specs.Prelude.{IfSome, Option, Some, None, Bool, true, false, is_some}
 use Rattle.db_store.specs.Dataset.{Dataset}
 use Rattle.lock_table.specs.Rows.{Row}
 use Rattle.stmt_text.specs.declared.stmt.Stmt.{Stmt}
@@ -12,7 +12,7 @@ use Rattle.db_core.specs.Sits.{IsOpenFor, Sits}
 use Rattle.atomic_table.specs.Seated.{TableId}
 use Rattle.history_note.specs.Shown.{AtPass}
 use Rattle.history_note.specs.Places.{places}
-use Rattle.db_hub.specs.Seats.{PassFits, SeatCaughtUp, SeatClosed, AtSeat, seat_at, with_desk, SeatFits}
+use Rattle.db_hub.specs.Seats.{PassFits, SeatCaughtUp, SeatClosed, AtSeat, seat_at, with_desk, SeatFits, IsPassOf}
 use Rattle.db_value.specs.declared.step.Step.{Step}
 use Rattle.db_store.specs.State.{State, dataset_of}
 use Rattle.db_store.specs.Sound.{IsSound}
@@ -51,10 +51,10 @@ agrees_now b k o seen rest lines a stands e f g others =
     other_lines_law (kept_at o (steps_of seen)) b k (saids (steps_of rest)) a stands e
     (ap saids (f ∙ ap steps_of g ∙ steps_append seen rest) ∙ map-append said_step (steps_of seen) (steps_of rest)) others
 
--- what holds where there is a value, from what holds there
-pub if_some : {A : Type 0} (o : Option A) (P Q : A → Type 0) → IfSome o P → ((a : A) → P a → Q a) → IfSome o Q
-if_some None P Q h f = tt
-if_some (Some a) P Q h f = f a h
+-- what holds where there is a value, from two facts that hold there
+pub both_some : {A : Type 0} (o : Option A) (P Q R : A → Type 0) → IfSome o P → IfSome o Q → ((a : A) → P a → Q a → R a) → IfSome o R
+both_some None P Q R h i f = tt
+both_some (Some a) P Q R h i f = f a h i
 
 -- a seat that has its pass
 pub seen_agrees : (named : TableId) (o : State) (numbers : List (ℕ × ℕ)) (since : ℕ → ℕ) (n : ℕ) (pass : Option AtPass) (k : AtDesk) (s : AtSeat) → SeatFits named o numbers since n pass k → seat_at n pass k ≡ s → s.there ≡ true
@@ -64,6 +64,14 @@ seen_agrees named o numbers since n (Some p) k s h e there = (
   subst (λ (x : AtSeat). Agrees (kept_at o (steps_of x.seen)) x.desk) e h.1.agree,
   ap (λ (x : AtSeat). x.desk) e,
 )
+
+-- the pass of a seat, if it is there
+pub pass_of : (named : TableId) (o : State) (numbers : List (ℕ × ℕ)) (since : ℕ → ℕ) (n : ℕ) (pass : Option AtPass) (k : AtDesk) (s : AtSeat) → SeatFits named o numbers since n pass k → seat_at n pass k ≡ s → IfSome pass (IsPassOf named o since s)
+pass_of named o numbers since n None k s h e = tt
+pass_of named o numbers since n (Some p) k s h e = subst (λ (x : AtSeat). IsPassOf named o since x p) e (refl, h.1)
+
+pub pass_lost : (n : ℕ) (pass : Option AtPass) (k : AtDesk) (s : AtSeat) → seat_at n pass k ≡ s → pass ≡ None → s.there ≡ false
+pass_lost n pass k s e none = sym (ap (λ (x : AtSeat). x.there) e) ∙ ap (λ (p : Option AtPass). (seat_at n p k).there) none
 
 -- a session has an open transaction where lines of one are there
 open_for : (d : Dataset) (rows : List Row) (s b : ℕ) (lines : List Stmt) (tx : Option Granted) → IsOpenFor d rows s b lines tx → is_open lines ≡ is_some tx
@@ -91,7 +99,7 @@ idle_now named o since n k p s f none is shut =
     ∙ sits_open (world_of (entered (kept_at o (steps_of p.seen)) k)) k.session k.current k.skipping k.open_tx f.agree.sits ∙ shut
 
 -- a seat that was given up when it had caught up
-pub closed_by : (named : TableId) (o : State) (since : ℕ → ℕ) (old s : AtSeat) (p : AtPass) → SeatCaughtUp old s → is_some old.desk.open_tx ≡ false → (s ≡ seat_at s.number (Some p) s.desk) × PassFits named o since s.number s.desk p → SeatClosed named o old p
+pub closed_by : (named : TableId) (o : State) (since : ℕ → ℕ) (old s : AtSeat) (p : AtPass) → SeatCaughtUp old s → is_some old.desk.open_tx ≡ false → IsPassOf named o since s p → SeatClosed named o old p
 closed_by named o since old s p u shut h =
     let e = h.0 in
     let f = h.1 in
@@ -108,8 +116,3 @@ closed_by named o since old s p u shut h =
       mine_is = sym (ap (λ (x : AtSeat). x.mine) e) ∙ u.mine_is ∙ ap (λ (x : AtSeat). places old.number x.seen) e;
       idle = idle_now named o since s.number s.desk p old.desk.session f u.none u.session (ap is_some u.open_tx ∙ shut);
     }
-
--- what holds where a call was done, from what holds there
-pub if_ok : {A E : Type 0} (r : Result A E) (P Q : A → Type 0) → IfOk r P → ((a : A) → P a → Q a) → IfOk r Q
-if_ok (Ok a) P Q h f = f a h
-if_ok (Err e) P Q h f = tt

@@ -13,6 +13,7 @@ use Rattle.history_note.specs.declared.view.NotedLine.{NotedLine}
 use Rattle.history_note.specs.declared.view.PassView.{PassView}
 use Rattle.history_note.specs.Places.{places, places_from, owed_to, IsNoted, IsIssued}
 use Rattle.history_note.specs.Shown.{AtNote, AtPen, AtPass, carrying, known, FitsPen}
+use Rattle.reply_text.specs.Reply.{NamesItsRows}
 use Rattle.db_core.specs.Order.{Said, said_as, said_of, reply_in}
 use Rattle.db_core.specs.Laws.{AllHaveRoom}
 use Rattle.db_core.specs.Kept.{Kept, Logged, Stands, step_of, world_of, saids}
@@ -214,13 +215,14 @@ module _ (named : TableId) (numbers : List (ℕ × ℕ)) (o : State) (since : �
         own_is = given.mine_is ∙ ap (λ (m : ℕ). places m p2.seen) (given.number ∙ pf.number_is)
 
         -- where the line was answered
-        pub visited : (text : List ℕ) (failed : Bool) (r : Reply) → more ≡ k.waiting ++ step_of text failed r ∷ [] → ((later : List Said) → AllHaveRoom later → r ≡ reply_in (world_of (entered board k)) (said_of text failed) later) → k1.waiting ≡ []
+        pub visited : (text : List ℕ) (failed : Bool) (r : Reply) → more ≡ k.waiting ++ step_of text failed r ∷ [] → ((later : List Said) → AllHaveRoom later → r ≡ reply_in (world_of (entered board k)) (said_of text failed) later) → NamesItsRows r → k1.waiting ≡ []
             → SeatVisited o (seat_at n (Some q) k) (seat_at n (Some p2) k1) text r
-        visited text failed r e told none = record {
+        visited text failed r e told names none = record {
           failed = failed;
           front = pen0.lines;
           begins = begins;
           seen = seen_now ∙ ap (λ (ss : List Step). pen0.lines ++ lines_of n ss) e;
+          names = names;
           told = λ later roomy. told later roomy ∙ (λ j. reply_in (world_after (rf.opening_is j) (rf.steps_are j ++ k.waiting)) (said_of text failed) later);
           was_open = (λ j. is_open_after (sym rf.opening_is j) (sym rf.steps_are j ++ k.waiting) k.session) ∙ sits_open (world_of (entered board k)) k.session k.current k.skipping k.open_tx agree.sits;
           mine = mine_now ∙ ap (λ (ss : List Step). q.mine ++ places_from n (length pen0.lines) (lines_of n ss)) e;
@@ -276,10 +278,10 @@ module _ (named : TableId) (numbers : List (ℕ × ℕ)) (o : State) (since : �
         t
 
     module _ (pen2 : AtPen) (from : ℕ) (from_is : from ≡ length board.steps) (grown : PenGrown pen1 pen2 n (drop from c.steps)) (p2 : AtPass) (given : PassGrown pen1 (known q) p2 (drop from c.steps)) where
-      pub visited_told : {E : Type 0} → (r : Result Reply E) → Told board k c k1 text r → IfOk r (λ y. SeatVisited o (seat_at n (Some q) k) (seat_at n (Some p2) k1) text y)
-      visited_told (Ok y) t =
-          visited c (k.waiting ++ step_of text t.0.0 y ∷ []) (grows_line board c k text t.0.0 y x agree said t.0.1) now.stands pen2 from from_is grown k1 same now p2 given text t.0.0 y refl t.0.1.reply t.1
-      visited_told (Err e) t = tt
+      pub visited_told : {E : Type 0} → (r : Result Reply E) → Told board k c k1 text r → IfOk r NamesItsRows → IfOk r (λ y. SeatVisited o (seat_at n (Some q) k) (seat_at n (Some p2) k1) text y)
+      visited_told (Ok y) t names =
+          visited c (k.waiting ++ step_of text t.0.0 y ∷ []) (grows_line board c k text t.0.0 y x agree said t.0.1) now.stands pen2 from from_is grown k1 same now p2 given text t.0.0 y refl t.0.1.reply names t.1
+      visited_told (Err e) t names = tt
 
       pub failed_told : {E : Type 0} → (r : Result Reply E) → Told board k c k1 text r → OnErr r (SeatFailed (seat_at n (Some q) k) (seat_at n (Some p2) k1))
       failed_told (Ok y) t = tt

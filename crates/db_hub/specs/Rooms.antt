@@ -1,11 +1,11 @@
 -- Steps that are written to the note, and what lies under the lock.
-use Rattle.std.specs.Prelude.{◌≡◌, ◌<◌, ◌+◌, ◌^◌, ◌-◌, ℕ, true, List, [], ◌∷◌, ◌++◌, length}
+use Rattle.std.specs.Prelude.{◌≡◌, ◌<◌, ◌≤◌, ◌+◌, ◌^◌, ◌-◌, ℕ, true, List, [], ◌∷◌, ◌++◌, length, Some}
 use Rattle.atomic_table.specs.Seated.{TableId}
 use Rattle.db_value.specs.declared.step.Step.{Step}
 use Rattle.db_store.specs.State.{State, dataset_of}
 use Rattle.history_note.specs.declared.view.PassView.{PassView}
 use Rattle.history_note.specs.Shown.{AtNote, AtPen, AtPass, writing, noting}
-use Rattle.history_note.specs.Places.{places, places_from, IsNoted}
+use Rattle.history_note.specs.Places.{places, places_from, IsNoted, IsIssued}
 use Rattle.db_core.specs.Kept.{Kept, Logged, Stands, saids}
 use Rattle.db_hub.specs.Entered.{steps_of, lines_of}
 use Rattle.db_core.specs.Desk.{AllOthers, new_desk}
@@ -39,6 +39,15 @@ pub record RoomFits (named : TableId) (numbers : List (ℕ × ℕ)) (opened : St
 abbrev pub written_all : ℕ → List Step → AtPen → AtPen
 written_all n [] p = p
 written_all n (s ∷ ss) p = written_all n ss (writing n s p)
+
+-- The steps from a place on may be written with the number and its pass handed out: the pen carries that pass and owes nothing, and its list is as long as
+-- the steps before the place.
+pub record MayWrite (pen : AtPen) (number : ℕ) (steps : List Step) (from : ℕ) : Type 0 where
+  pub issued : IsIssued pen.noted number
+  pub carried : (c : PassView State) × (pen.carried ≡ Some c) × (c.number ≡ number)
+  pub owes_nothing : pen.owed ≡ []
+  pub within : from ≤ length steps
+  pub at : length pen.lines ≡ from
 
 -- what steps that are written with the carried pass's number change of the pen
 pub record PenGrown (old new : AtPen) (n : ℕ) (steps : List Step) : Type 0 where

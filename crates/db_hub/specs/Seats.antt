@@ -7,6 +7,7 @@ use Rattle.db_store.specs.State.{State}
 use Rattle.history_note.specs.declared.view.NotedLine.{NotedLine}
 use Rattle.history_note.specs.Shown.{AtPass}
 use Rattle.history_note.specs.Places.{places, places_from, IsNoted}
+use Rattle.reply_text.specs.Reply.{NamesItsRows}
 use Rattle.db_core.specs.Order.{Said, said_of, reply_in}
 use Rattle.db_core.specs.Laws.{AllHaveRoom}
 use Rattle.db_core.specs.Kept.{Kept, Stands, step_of, world_of, saids}
@@ -45,11 +46,20 @@ PassFitsIf note opened since n k (Some p) = PassFits note opened since n k p
 abbrev pub SeatFits : TableId → State → List (ℕ × ℕ) → (ℕ → ℕ) → ℕ → Option AtPass → AtDesk → Type 0
 SeatFits note opened numbers since n pass k = IsNoted numbers n k.session × PassFitsIf note opened since n k pass
 
+-- the pass of a seat
+abbrev pub IsPassOf : TableId → State → (ℕ → ℕ) → AtSeat → AtPass → Type 0
+IsPassOf note opened since seat p =
+    (seat ≡ seat_at seat.number (Some p) seat.desk) × PassFits note opened since seat.number seat.desk p
+
 -- in whatever list the line stands in the end, behind lines of other sessions that came between, r is the reply of its whole transaction
 abbrev pub IsReplyAnywhere : State → AtSeat → List ℕ → Reply → Type 0
 IsReplyAnywhere opened seat text r =
     (c : Kept) (lines later : List Said) → Stands c → c.opening ≡ opened → saids c.steps ≡ saids (steps_of seat.seen) ++ lines
     → AllOthers seat.desk.session lines → AllHaveRoom later → r ≡ reply_in (world_of (entered c seat.desk)) (said_of text false) later
+
+-- the seat's session is told this reply by itself: it is that, and its rows are named
+abbrev pub IsToldHere : State → AtSeat → List ℕ → Reply → Type 0
+IsToldHere opened seat text r = IsReplyAnywhere opened seat text r × NamesItsRows r
 
 -- the seat after it answered a line by itself, but for its desk
 abbrev pub with_desk : AtSeat → AtDesk → AtSeat
@@ -57,13 +67,14 @@ with_desk seat k = record seat { desk = k }
 
 -- A line of the seat was entered and answered, with the mark or without. It is the last that the seat has seen: before it stand the lines
 -- that waited at the desk, and before those a list that begins with what the seat had seen. The reply is that of the line's whole
--- transaction in this list, whatever lines come later. Just before the line its session has an open transaction if the desk had
+-- transaction in this list, whatever lines come later, and its rows are named. Just before the line its session has an open transaction if the desk had
 -- one, and after it if the desk has one then. The seat's own lines grow by these alone.
 pub record SeatVisited (opened : State) (old new : AtSeat) (text : List ℕ) (r : Reply) : Type 0 where
   pub failed : Bool
   pub front : List NotedLine
   pub begins : IsFront old.seen front
   pub seen : new.seen ≡ front ++ lines_of old.number (old.desk.waiting ++ step_of text failed r ∷ [])
+  pub names : NamesItsRows r
   pub told : (later : List Said) → AllHaveRoom later → r ≡ reply_in (world_after opened (steps_of front ++ old.desk.waiting)) (said_of text failed) later
   pub was_open : is_open_after opened (steps_of front ++ old.desk.waiting) old.desk.session ≡ is_some old.desk.open_tx
   pub mine : new.mine ≡ old.mine ++ places_from old.number (length front) (lines_of old.number (old.desk.waiting ++ step_of text failed r ∷ []))

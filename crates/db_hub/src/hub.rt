@@ -1,6 +1,5 @@
 //! The room under a lock.
-ghost use Rattle.std.specs.Prelude.{◌≡◌, [], false, is_some, IfOk, OnErr};
-ghost use Rattle.reply_text.specs.Reply.{NamesItsRows};
+ghost use Rattle.std.specs.Prelude.{◌≡◌, [], false, is_some, IfOk, IfErr, OnErr};
 ghost use Rattle.db_core.specs.Order.{said_of};
 ghost use Rattle.db_core.specs.Sits.{heard};
 ghost use Rattle.db_core.specs.Kept.{Stands};
@@ -44,20 +43,29 @@ impl<St: Store, J: Log<St>, T: Tag> Hub<St, J, T> {
     ) -> Result<Reply, AllocError>
         requires { said_of text.now false ≡ heard seat.old.desk.session stmt.now }
         ensures seat { IfOk result (SeatVisited T.opened seat.old seat.new text.now) }
-        ensures named { IfOk result NamesItsRows }
         ensures failed { OnErr result (SeatFailed seat.old seat.new) }
     {
         self.lock.lock(rt).visit(seat, text, stmt)
     }
 
     /// Enters the lines that wait at the seat's desk, and gives the seat up. A seat whose session has a
-    /// transaction open can't be given up.
-    pub fn close<R: Wait>(&self, rt: &R, mut seat: Seat<St, T>) -> Result<Pass<St>, AllocError>
+    /// transaction open can't be given up. After want of memory the seat comes back.
+    pub fn close<R: Wait>(
+        &self,
+        rt: &R,
+        mut seat: Seat<St, T>,
+    ) -> Result<Pass<St>, (AllocError, Seat<St, T>)>
         requires { is_some seat.desk.open_tx ≡ false }
-        ensures { IfOk result (SeatClosed T.note T.opened seat) }
+        ensures ok { IfOk result (SeatClosed T.note T.opened seat) }
+        ensures failed { IfErr result (λ e. SeatFailed seat e.1) }
     {
-        self.lock.lock(rt).catch_up(&mut seat)?;
-        seat.into_pass()
+        match self.lock.lock(rt).catch_up(&mut seat) {
+            Err(stop) => Err((stop, seat)),
+            Ok(()) => match seat.into_pass() {
+                None => unreachable!(),
+                Some(pass) => Ok(pass),
+            },
+        }
     }
 
     /// The board, the note and its pen, whose list is that of the board's steps.

@@ -1,6 +1,5 @@
 //! What lies under the lock: a board, and a note that says what stands in its list.
 ghost use Rattle.std.specs.Prelude.{◌≡◌, [], false, true, IfOk, OnOk, OnErr};
-ghost use Rattle.reply_text.specs.Reply.{NamesItsRows};
 ghost use Rattle.history_note.specs.Shown.{new_pen};
 ghost use Rattle.db_core.specs.Order.{said_of};
 ghost use Rattle.db_core.specs.Kept.{Stands};
@@ -118,7 +117,6 @@ impl<St: Store, J: Log<St>, T: Tag> Room<St, J, T> {
     ) -> Result<Reply, AllocError>
         requires { said_of text.now false ≡ heard seat.old.desk.session stmt.now }
         ensures seat { IfOk result (SeatVisited T.opened seat.old seat.new text.now) }
-        ensures named { IfOk result NamesItsRows }
         ensures answered { IfOk result (Ran J.faults J.Keeps J.generation J.moment J.opens_since
             J.Quiet (record self.old.board { kept = entered self.old.board.kept seat.old.desk })
             self.new.board text.now) }

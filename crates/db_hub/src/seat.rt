@@ -1,12 +1,11 @@
 //! A session's place at the hub.
 ghost use Rattle.std.specs.Prelude.{◌≡◌, ◌++◌, ◌∷◌, List, [], None, Some, true, false, is_some, IfOk, IfSome, OnErr};
 ghost use Rattle.std.specs.Option.{option_copied};
-ghost use Rattle.reply_text.specs.Reply.{NamesItsRows};
 ghost use Rattle.db_core.specs.Desk.{said_by, waits, waiting_step};
 ghost use Rattle.db_core.specs.Order.{said_of};
 ghost use Rattle.history_note.specs.Places.{IsNoted};
 ghost use Rattle.db_hub.specs.Entered.{steps_of, is_open_after};
-ghost use Rattle.db_hub.specs.Seats.{seat_at, PassFits, IsReplyAnywhere, with_desk};
+ghost use Rattle.db_hub.specs.Seats.{IsPassOf, IsToldHere, with_desk};
 
 use crate::tag::Tag;
 use db_core::Desk;
@@ -82,9 +81,7 @@ impl<St: Store, T: Tag> Seat<St, T> {
             (is_some o ≡ waits self.old.desk (option_copied stmt.entry))
             × (o ≡ None → self.new ≡ self.old)) }
         ensures reply { IfOk result (λ o. IfSome o (λ r. self.old.there ≡ true
-            → IsReplyAnywhere T.opened self.old text.now r)) }
-        ensures named { IfOk result (λ o. IfSome o (λ r.
-            self.old.there ≡ true → NamesItsRows r)) }
+            → IsToldHere T.opened self.old text.now r)) }
         ensures waiting { IfOk result (λ o. IfSome o (λ r. self.new.desk.waiting
             ≡ self.old.desk.waiting ++ waiting_step text.now r ∷ [])) }
         ensures seat { (self.new ≡ with_desk self.old self.new.desk)
@@ -96,15 +93,13 @@ impl<St: Store, T: Tag> Seat<St, T> {
         Ok(told)
     }
 
-    // Its pass, if it wasn't lost.
-    pub(crate) fn into_pass(self) -> Result<Pass<St>, AllocError>
-        ensures { IfOk result (λ p. (self ≡ seat_at self.number (Some p) self.desk)
-            × PassFits T.note T.opened T.since self.number self.desk p) }
+    /// Gives the seat up and its pass back, unless that was lost. Lines that wait at the desk are never
+    /// entered then.
+    pub fn into_pass(self) -> Option<Pass<St>>
+        ensures lost { result ≡ None → self.there ≡ false }
+        ensures pass { IfSome result (IsPassOf T.note T.opened T.since self) }
     {
         let Seat { pass, .. } = self;
-        match pass {
-            None => Err(AllocError),
-            Some(pass) => Ok(pass),
-        }
+        pass
     }
 }

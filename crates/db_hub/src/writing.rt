@@ -1,10 +1,10 @@
 //! Steps that are written to the note with the number of the carried pass.
-ghost use Rattle.std.specs.Prelude.{◌≡◌, ◌≤◌, [], length, drop, false, IfOk, OnOk, Some, None};
+ghost use Rattle.std.specs.Prelude.{◌≡◌, ◌≤◌, length, drop, false, IfOk, OnOk, Some};
 ghost use Rattle.db_store.specs.State.{State};
 ghost use Rattle.history_note.specs.declared.view.PassView.{PassView};
 ghost use Rattle.history_note.specs.Places.{IsIssued};
 ghost use Rattle.history_note.specs.Shown.{is_carrying};
-ghost use Rattle.db_hub.specs.Rooms.{written_all, PenGrown, PassGrown};
+ghost use Rattle.db_hub.specs.Rooms.{written_all, MayWrite, PenGrown, PassGrown};
 
 use db_store::Store;
 use db_value::Step;
@@ -39,11 +39,7 @@ pub fn write_and_give<St: Store>(
     from: usize,
 ) -> Result<Pass<St>, AllocError>
     requires note { pen.old.note ≡ note.now.note }
-    requires issued { IsIssued pen.old.noted number }
-    requires carried { (c : PassView State) × (pen.old.carried ≡ Some c)
-        × (c.number ≡ number) }
-    requires owes_nothing { pen.old.owed ≡ [] }
-    requires from { (from ≤ length steps.now) × (length pen.old.lines ≡ from) }
+    requires ready { MayWrite pen.old number steps.now from }
     ensures pen { PenGrown pen.old pen.new number (drop from steps.now) }
     ensures free { OnOk result (is_carrying pen.new ≡ false) }
     ensures pass { IfOk result (λ p. (c : PassView State) → pen.old.carried ≡ Some c

@@ -33,77 +33,8 @@ enter-told-requires g c =
     let fits = c.take_in.ensures.fits in
     agree named numbers o since note pen0 board out issued rf n k q pf pen1 taken fits
 
-pub write_and_give-requires-clause-issued : goal.write_and_give-requires-clause-issued
-write_and_give-requires-clause-issued g c =
-    let named = g.T.Tag.note in
-    let numbers : List (ℕ × ℕ) = g.T.Tag.numbers in
-    let o = g.T.Tag.opened in
-    let since = g.T.Tag.since in
-    let board : Kept = c.self.inside.board.kept in
-    let pen0 : AtPen = c.self.inside.pen in
-    let note = c.self.inside.note in
-    let out : List (ℕ × ℕ) = c.self.inside.out.items in
-    let issued : ℕ = c.self.inside.issued in
-    let rf = c.self.invariant.0 in
-    let k : AtDesk = c.seat.inside.desk in
-    let n : ℕ = c.seat.inside.number in
-    let q : AtPass = c.in-Some.pass in
-    let eq : c.seat.inside.pass ≡ Some q = sym c.take.ensures.value ∙ c.in-Some.is in
-    let pf : PassFits named o since n k q = subst (PassFitsIf named o since n k) eq c.seat.invariant.1 in
-    let seat_is : seat_at n (Some q) k ≡ c.args.seat.now = ap (λ (p : Option AtPass). seat_at n p k) (sym eq) ∙ c.seat.view_is in
-    let pen1 : AtPen = c.take_in.new.pen in
-    let taken = c.take_in.ensures.taken in
-    let fits = c.take_in.ensures.fits in
-    issued_now named numbers o since note pen0 board out issued rf n k q pf pen1 taken fits
-
-pub write_and_give-requires-clause-carried : goal.write_and_give-requires-clause-carried
-write_and_give-requires-clause-carried g c =
-    let named = g.T.Tag.note in
-    let numbers : List (ℕ × ℕ) = g.T.Tag.numbers in
-    let o = g.T.Tag.opened in
-    let since = g.T.Tag.since in
-    let board : Kept = c.self.inside.board.kept in
-    let pen0 : AtPen = c.self.inside.pen in
-    let note = c.self.inside.note in
-    let out : List (ℕ × ℕ) = c.self.inside.out.items in
-    let issued : ℕ = c.self.inside.issued in
-    let rf = c.self.invariant.0 in
-    let k : AtDesk = c.seat.inside.desk in
-    let n : ℕ = c.seat.inside.number in
-    let q : AtPass = c.in-Some.pass in
-    let eq : c.seat.inside.pass ≡ Some q = sym c.take.ensures.value ∙ c.in-Some.is in
-    let pf : PassFits named o since n k q = subst (PassFitsIf named o since n k) eq c.seat.invariant.1 in
-    let seat_is : seat_at n (Some q) k ≡ c.args.seat.now = ap (λ (p : Option AtPass). seat_at n p k) (sym eq) ∙ c.seat.view_is in
-    let pen1 : AtPen = c.take_in.new.pen in
-    let taken = c.take_in.ensures.taken in
-    let fits = c.take_in.ensures.fits in
-    carries_it named numbers o since note pen0 board out issued rf n k q pf pen1 taken fits
-
-pub write_and_give-requires-clause-owes_nothing : goal.write_and_give-requires-clause-owes_nothing
-write_and_give-requires-clause-owes_nothing g c =
-    let named = g.T.Tag.note in
-    let numbers : List (ℕ × ℕ) = g.T.Tag.numbers in
-    let o = g.T.Tag.opened in
-    let since = g.T.Tag.since in
-    let board : Kept = c.self.inside.board.kept in
-    let pen0 : AtPen = c.self.inside.pen in
-    let note = c.self.inside.note in
-    let out : List (ℕ × ℕ) = c.self.inside.out.items in
-    let issued : ℕ = c.self.inside.issued in
-    let rf = c.self.invariant.0 in
-    let k : AtDesk = c.seat.inside.desk in
-    let n : ℕ = c.seat.inside.number in
-    let q : AtPass = c.in-Some.pass in
-    let eq : c.seat.inside.pass ≡ Some q = sym c.take.ensures.value ∙ c.in-Some.is in
-    let pf : PassFits named o since n k q = subst (PassFitsIf named o since n k) eq c.seat.invariant.1 in
-    let seat_is : seat_at n (Some q) k ≡ c.args.seat.now = ap (λ (p : Option AtPass). seat_at n p k) (sym eq) ∙ c.seat.view_is in
-    let pen1 : AtPen = c.take_in.new.pen in
-    let taken = c.take_in.ensures.taken in
-    let fits = c.take_in.ensures.fits in
-    owes_still named numbers o since note pen0 board out issued rf n k q pf pen1 taken fits
-
-pub write_and_give-requires-clause-from : goal.write_and_give-requires-clause-from
-write_and_give-requires-clause-from g c =
+pub write_and_give-requires-clause-ready : goal.write_and_give-requires-clause-ready
+write_and_give-requires-clause-ready g c =
     let named = g.T.Tag.note in
     let numbers : List (ℕ × ℕ) = g.T.Tag.numbers in
     let o = g.T.Tag.opened in
@@ -131,7 +62,13 @@ write_and_give-requires-clause-from g c =
     let more = grows_caught named numbers o since note pen0 board out issued rf n k q pf pen1 taken fits grown2 k1 same now c.enter-told.result caught in
     let from : ℕ = length c.steps-from.result.now in
     let from_is : from ≡ length board.steps = ap (λ (ss : List Step). length ss) c.steps-from.ensures in
-    (subst (λ (m : ℕ). m ≤ length c.steps.result.now) (sym from_is) (subst (λ (ss : List Step). length board.steps ≤ length ss) (sym c.steps.ensures) (room_for named numbers o since note pen0 board out issued rf n k q pf pen1 taken fits grown2 more.0 more.1 now.stands)), as_many named numbers o since note pen0 board out issued rf n k q pf pen1 taken fits ∙ sym from_is)
+    record {
+      issued = issued_now named numbers o since note pen0 board out issued rf n k q pf pen1 taken fits;
+      carried = carries_it named numbers o since note pen0 board out issued rf n k q pf pen1 taken fits;
+      owes_nothing = owes_still named numbers o since note pen0 board out issued rf n k q pf pen1 taken fits;
+      within = subst (λ (m : ℕ). m ≤ length c.steps.result.now) (sym from_is) (subst (λ (ss : List Step). length board.steps ≤ length ss) (sym c.steps.ensures) (room_for named numbers o since note pen0 board out issued rf n k q pf pen1 taken fits grown2 more.0 more.1 now.stands));
+      at = as_many named numbers o since note pen0 board out issued rf n k q pf pen1 taken fits ∙ sym from_is;
+    }
 
 pub invariant_of-self : goal.invariant_of-self
 invariant_of-self g c =

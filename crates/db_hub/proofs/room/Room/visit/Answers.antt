@@ -59,77 +59,8 @@ visit-told-requires-clause-line g c =
     let fits = c.take_in.ensures.fits in
     subst (λ (s : AtSeat). said_of c.args.text.now false ≡ heard s.desk.session c.args.stmt.now) (sym seat_is) c.requires
 
-pub write_and_give-requires-clause-issued : goal.write_and_give-requires-clause-issued
-write_and_give-requires-clause-issued g c =
-    let named = g.T.Tag.note in
-    let numbers : List (ℕ × ℕ) = g.T.Tag.numbers in
-    let o = g.T.Tag.opened in
-    let since = g.T.Tag.since in
-    let board : Kept = c.self.inside.board.kept in
-    let pen0 : AtPen = c.self.inside.pen in
-    let note = c.self.inside.note in
-    let out : List (ℕ × ℕ) = c.self.inside.out.items in
-    let issued : ℕ = c.self.inside.issued in
-    let rf = c.self.invariant.0 in
-    let k : AtDesk = c.seat.inside.desk in
-    let n : ℕ = c.seat.inside.number in
-    let q : AtPass = c.in-Some.pass in
-    let eq : c.seat.inside.pass ≡ Some q = sym c.take.ensures.value ∙ c.in-Some.is in
-    let pf : PassFits named o since n k q = subst (PassFitsIf named o since n k) eq c.seat.invariant.1 in
-    let seat_is : seat_at n (Some q) k ≡ c.args.seat.now = ap (λ (p : Option AtPass). seat_at n p k) (sym eq) ∙ c.seat.view_is in
-    let pen1 : AtPen = c.take_in.new.pen in
-    let taken = c.take_in.ensures.taken in
-    let fits = c.take_in.ensures.fits in
-    issued_now named numbers o since note pen0 board out issued rf n k q pf pen1 taken fits
-
-pub write_and_give-requires-clause-carried : goal.write_and_give-requires-clause-carried
-write_and_give-requires-clause-carried g c =
-    let named = g.T.Tag.note in
-    let numbers : List (ℕ × ℕ) = g.T.Tag.numbers in
-    let o = g.T.Tag.opened in
-    let since = g.T.Tag.since in
-    let board : Kept = c.self.inside.board.kept in
-    let pen0 : AtPen = c.self.inside.pen in
-    let note = c.self.inside.note in
-    let out : List (ℕ × ℕ) = c.self.inside.out.items in
-    let issued : ℕ = c.self.inside.issued in
-    let rf = c.self.invariant.0 in
-    let k : AtDesk = c.seat.inside.desk in
-    let n : ℕ = c.seat.inside.number in
-    let q : AtPass = c.in-Some.pass in
-    let eq : c.seat.inside.pass ≡ Some q = sym c.take.ensures.value ∙ c.in-Some.is in
-    let pf : PassFits named o since n k q = subst (PassFitsIf named o since n k) eq c.seat.invariant.1 in
-    let seat_is : seat_at n (Some q) k ≡ c.args.seat.now = ap (λ (p : Option AtPass). seat_at n p k) (sym eq) ∙ c.seat.view_is in
-    let pen1 : AtPen = c.take_in.new.pen in
-    let taken = c.take_in.ensures.taken in
-    let fits = c.take_in.ensures.fits in
-    carries_it named numbers o since note pen0 board out issued rf n k q pf pen1 taken fits
-
-pub write_and_give-requires-clause-owes_nothing : goal.write_and_give-requires-clause-owes_nothing
-write_and_give-requires-clause-owes_nothing g c =
-    let named = g.T.Tag.note in
-    let numbers : List (ℕ × ℕ) = g.T.Tag.numbers in
-    let o = g.T.Tag.opened in
-    let since = g.T.Tag.since in
-    let board : Kept = c.self.inside.board.kept in
-    let pen0 : AtPen = c.self.inside.pen in
-    let note = c.self.inside.note in
-    let out : List (ℕ × ℕ) = c.self.inside.out.items in
-    let issued : ℕ = c.self.inside.issued in
-    let rf = c.self.invariant.0 in
-    let k : AtDesk = c.seat.inside.desk in
-    let n : ℕ = c.seat.inside.number in
-    let q : AtPass = c.in-Some.pass in
-    let eq : c.seat.inside.pass ≡ Some q = sym c.take.ensures.value ∙ c.in-Some.is in
-    let pf : PassFits named o since n k q = subst (PassFitsIf named o since n k) eq c.seat.invariant.1 in
-    let seat_is : seat_at n (Some q) k ≡ c.args.seat.now = ap (λ (p : Option AtPass). seat_at n p k) (sym eq) ∙ c.seat.view_is in
-    let pen1 : AtPen = c.take_in.new.pen in
-    let taken = c.take_in.ensures.taken in
-    let fits = c.take_in.ensures.fits in
-    owes_still named numbers o since note pen0 board out issued rf n k q pf pen1 taken fits
-
-pub write_and_give-requires-clause-from : goal.write_and_give-requires-clause-from
-write_and_give-requires-clause-from g c =
+pub write_and_give-requires-clause-ready : goal.write_and_give-requires-clause-ready
+write_and_give-requires-clause-ready g c =
     let named = g.T.Tag.note in
     let numbers : List (ℕ × ℕ) = g.T.Tag.numbers in
     let o = g.T.Tag.opened in
@@ -159,7 +90,13 @@ write_and_give-requires-clause-from g c =
     let more = grows_told named numbers o since note pen0 board out issued rf n k q pf pen1 taken fits grown2 k1 same now text c.args.stmt.now said c.visit-told.result told in
     let from : ℕ = length c.steps-from.result.now in
     let from_is : from ≡ length board.steps = ap (λ (ss : List Step). length ss) c.steps-from.ensures in
-    (subst (λ (m : ℕ). m ≤ length c.steps.result.now) (sym from_is) (subst (λ (ss : List Step). length board.steps ≤ length ss) (sym c.steps.ensures) (room_for named numbers o since note pen0 board out issued rf n k q pf pen1 taken fits grown2 more.0 more.1 now.stands)), as_many named numbers o since note pen0 board out issued rf n k q pf pen1 taken fits ∙ sym from_is)
+    record {
+      issued = issued_now named numbers o since note pen0 board out issued rf n k q pf pen1 taken fits;
+      carried = carries_it named numbers o since note pen0 board out issued rf n k q pf pen1 taken fits;
+      owes_nothing = owes_still named numbers o since note pen0 board out issued rf n k q pf pen1 taken fits;
+      within = subst (λ (m : ℕ). m ≤ length c.steps.result.now) (sym from_is) (subst (λ (ss : List Step). length board.steps ≤ length ss) (sym c.steps.ensures) (room_for named numbers o since note pen0 board out issued rf n k q pf pen1 taken fits grown2 more.0 more.1 now.stands));
+      at = as_many named numbers o since note pen0 board out issued rf n k q pf pen1 taken fits ∙ sym from_is;
+    }
 
 pub invariant_of-self : goal.invariant_of-self
 invariant_of-self g c =
@@ -385,7 +322,7 @@ returns-clause-seat g c =
     let grown : PenGrown pen1 pen2 n (drop from grown2.steps) = subst (λ (ss : List Step). PenGrown pen1 pen2 n (drop from ss)) c.steps.ensures c.write_and_give.ensures.pen in
     let p2 : AtPass = c.in_ok-pass.pass in
     let given : PassGrown pen1 (known q) p2 (drop from grown2.steps) = subst (λ (ss : List Step). PassGrown pen1 (known q) p2 (drop from ss)) c.steps.ensures (c.in_ok-pass.ensures.pass (known q) (ap (λ (p : AtPen). p.carried) taken)) in
-    subst (λ (s : AtSeat). IfOk c.visit-told.result (λ y. SeatVisited o s (seat_at n (Some p2) k1) text y)) seat_is (visited_told named numbers o since note pen0 board out issued rf n k q pf pen1 taken fits grown2 k1 same now text c.args.stmt.now said pen2 from from_is grown p2 given c.visit-told.result told)
+    subst (λ (s : AtSeat). IfOk c.visit-told.result (λ y. SeatVisited o s (seat_at n (Some p2) k1) text y)) seat_is (visited_told named numbers o since note pen0 board out issued rf n k q pf pen1 taken fits grown2 k1 same now text c.args.stmt.now said pen2 from from_is grown p2 given c.visit-told.result told c.visit-told.ensures.named)
 
 pub returns-clause-failed : goal.returns-clause-failed
 returns-clause-failed g c =
