@@ -2,7 +2,7 @@
 
 A block of tests/blocks/ stands after a line `## ` with its name. Its schema stands before its first echoed line, or is USUAL. Blocks of the
 file of a stage (`STAGES` in tests/model.py) are asked of the program if that stage is built, and those of `first` always. In a page of docs/
-each fenced block with an echoed line is a block; in a story each goes on where the one before it ended, unless it has a schema.
+each fenced block with an echoed line is a block; in a story each goes on where the one before it ended, from the table that the story imports.
 """
 import os, re
 
@@ -29,15 +29,22 @@ def fenced(text):
     return re.findall(rb"^```[a-z]*\n(.*?)^```$", text, re.MULTILINE | re.DOTALL)
 
 
+def imported(text):
+    """The schema that a story shows, the relation into which it imports, and its table."""
+    schema, table = (re.search(rb"^```%s\n(.*?)^```$" % kind, text, re.MULTILINE | re.DOTALL).group(1) for kind in (b"schema", b"csv"))
+    return schema, re.search(rb"^./decibel import \w+ (\w+) <", text, re.MULTILINE).group(1), table
+
+
+def lines_of_import(relation, table):
+    """What an import runs, as lines with their replies, where it makes the first version."""
+    inserts = b"".join(b"> 1 insert %s %s\nok\n" % (relation, row.replace(b",", b" ")) for row in table.split())
+    return b"> 1 begin 65536\nok\n" + inserts + b"> 1 commit\nok master@1\n"
+
+
 def shown_in(page, text):
-    """The worked blocks of a page of docs/, those of a story put together."""
+    """The worked blocks of a page of docs/. Those of a story are put together, behind its import."""
     shown = [block for block in fenced(text) if re.search(rb"^> ", block, re.MULTILINE)]
     if page not in STORIES:
         return shown
-    runs = []
-    for block in shown:
-        if block.startswith(b"> ") and runs:
-            runs[-1] += block
-        else:
-            runs.append(block)
-    return runs
+    schema, relation, table = imported(text)
+    return [schema + lines_of_import(relation, table) + b"".join(shown)]

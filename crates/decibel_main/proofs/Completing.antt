@@ -1,8 +1,12 @@
 -- A call without a fault, of words, input and files that break no rule.
 use Rattle.std.proofs.Common.{◌≡◌, ◌⊎◌, inl, inr, ◌∙◌, ◌-◌, ◌^◌, ◌<◌, List, ℕ, length, refl, sym, ap, arith, Option, Some, None}
+use Rattle.std.specs.Prelude.{Err}
+use Rattle.std.specs.Result.{is_ok}
 use Rattle.db_value.specs.declared.entry.Entry.{Entry}
 use Rattle.db_value.specs.declared.version.VersionName.{VersionName}
 use Rattle.db_store.specs.State.{State, dataset_of}
+use Rattle.csv_port.specs.declared.stop.ImportStop.{ImportStop}
+use Rattle.csv_port.specs.Import.{import_told}
 use Rattle.db_outside.specs.Device.{Rose}
 use Rattle.db_outside.specs.declared.disk.Disk.{Ghosts}
 use Rattle.gate_journal.specs.declared.cause.Cause.{Cause}
@@ -12,10 +16,11 @@ use Rattle.generations.specs.Files.{counts, no_header, damaged, opened, reads}
 use Rattle.generations.specs.Pairs.{RoseInOne}
 use Rattle.decibel_main.specs.Ends.{Completes}
 use Rattle.decibel_main.specs.Exports.{export_text}
+use Rattle.decibel_main.specs.Imports.{Imports}
 use Rattle.decibel_main.specs.Scripts.{Scripts}
-use Rattle.decibel_main.specs.Top.{Did, ReadsInput, TellsFaults, IsGoodFor, IsShortInput, NoFault, GiveState, HaveRows}
+use Rattle.decibel_main.specs.Top.{Did, ReadsInput, TellsFaults, IsGoodFor, IsShortInput, NoFault, GiveState, HaveRows, TakeRows}
 use Rattle.decibel_main.specs.declared.command.Command.{Command}
-use Rattle.decibel_main.specs.declared.command.Command.TheVariants.{Try, Create, Script, Check, Load, Export}
+use Rattle.decibel_main.specs.declared.command.Command.TheVariants.{Try, Create, Script, Check, Load, Import, Export}
 use Rattle.decibel_main.specs.declared.status.Status.{Status}
 use Rattle.decibel_main.specs.declared.status.Status.TheVariants.{Done, Usage, NotDataset, Damaged, ReadFault, WriteFault, DiskFault, TooLong, Memory, AlreadyThere, BadLine}
 
@@ -52,6 +57,17 @@ has_rows relation version c d h file g s es at is none =
     let same : h.2 ≡ s = cc (sym h.5 ∙ is) in
     absurd (cc (sym h.7 ∙ ap (λ (x : State). export_text (dataset_of x) relation version) same ∙ none))
 
+-- so do files into whose state rows can be imported
+take_state : (relation input : List ℕ) (c d : List ℕ) → TakeRows relation input c d → GiveState c d
+take_state relation input c d h = (h.0, h.1, h.2, h.3, h.4, h.5)
+
+-- and no row is refused then
+takes_rows : {P : Type 0} (relation input : List ℕ) (c d : List ℕ) → TakeRows relation input c d → (file g : ℕ) (s : State) (es : List Entry) (at : ℕ) → reads c d ≡ counts file g (opened s es at)
+    → (stop : ImportStop) → import_told s relation input ≡ Err stop → P
+takes_rows relation input c d h file g s es at is stop told =
+    let same : h.2 ≡ s = cc (sym h.5 ∙ is) in
+    absurd (cc (sym (ap is_ok told) ∙ ap (λ (x : State). is_ok (import_told x relation input)) (sym same) ∙ h.6))
+
 module _ {D : Type 0} (g : Ghosts D) (left left' before after : Option (List ℕ)) (disks disks' : Pair D) where
   -- of words that are a form another status than that of usage is told
   pub not_usage : (c : Command) → Did g (Some c) left left' before after disks disks' Usage → ⊥
@@ -60,6 +76,7 @@ module _ {D : Type 0} (g : Ghosts D) (left left' before after : Option (List ℕ
   not_usage Script d = neither d.1.ends
   not_usage Check d = d.ends
   not_usage (Load lines) d = d.ends
+  not_usage (Import relation) d = neither d.1.ends
   not_usage (Export relation version) d = d.ends
 
 module _ {D : Type 0} (g : Ghosts D) (left left' before after : Option (List ℕ)) (disks disks' : Pair D) (s s' k k' : ℕ) (n : NoFault g s s' k k' disks disks') where
@@ -158,10 +175,39 @@ module _ {D : Type 0} (g : Ghosts D) (left left' before after : Option (List ℕ
   exports relation version Usage d t good = absurd d.ends
   exports relation version AlreadyThere d t good = absurd d.ends
 
+  unopened : {P : Type 0} (relation input : List ℕ) (c e : List ℕ) → GiveState c e → Imports g disks disks' relation input NotDataset before after c e → P
+  unopened relation input c e good (inl run) = absurd run.ends
+  unopened relation input c e good (inr stop) = has_header c e good stop.why
+
+  unwhole : {P : Type 0} (relation input : List ℕ) (file at : ℕ) (c e : List ℕ) → GiveState c e → Imports g disks disks' relation input (Damaged file at) before after c e → P
+  unwhole relation input file at c e good (inl run) = absurd run.ends
+  unwhole relation input file at c e good (inr stop) = is_whole c e good file stop.why.0 at stop.why.1 stop.why.2
+
+  refused : {P : Type 0} (relation input : List ℕ) (m : ℕ) (c e : List ℕ) → TakeRows relation input c e → Imports g disks disks' relation input (BadLine m) before after c e → P
+  refused relation input m c e good (inl run) = takes_rows relation input c e good run.file run.generation run.state run.entries run.at run.opens run.ends.0 run.ends.1
+  refused relation input m c e good (inr stop) = absurd stop.why
+
+  imports : (relation : List ℕ) (status : Status) → Did g (Some (Import relation)) left left' before after disks disks' status → TellsFaults g s s' k k' disks disks' status → IsGoodFor g (Import relation) left disks → Completes status
+  imports relation Done d t good = tt
+  imports relation Memory d t good = tt
+  imports relation ReadFault d t good = no_rise s s' (t.read_fault refl) n.source_same n.source_counts
+  imports relation WriteFault d t good = no_rise k k' (t.write_fault refl) n.sink_same n.sink_counts
+  imports relation DiskFault d t good = no_fault (t.disk_fault refl)
+  imports relation TooLong d t good = not_long left left' good.0 d.0
+  imports relation NotDataset d t good =
+      unopened relation good.0.input good.1.first good.1.second (take_state relation good.0.input good.1.first good.1.second good.1.good) (d.1.rows tt good.0.input good.0.told good.1.first good.1.second good.1.first_told good.1.second_told)
+  imports relation (Damaged file at) d t good =
+      unwhole relation good.0.input file at good.1.first good.1.second (take_state relation good.0.input good.1.first good.1.second good.1.good) (d.1.rows tt good.0.input good.0.told good.1.first good.1.second good.1.first_told good.1.second_told)
+  imports relation (BadLine m) d t good =
+      refused relation good.0.input m good.1.first good.1.second good.1.good (d.1.rows tt good.0.input good.0.told good.1.first good.1.second good.1.first_told good.1.second_told)
+  imports relation Usage d t good = neither d.1.ends
+  imports relation AlreadyThere d t good = neither d.1.ends
+
   pub completes : (c : Command) (status : Status) → Did g (Some c) left left' before after disks disks' status → TellsFaults g s s' k k' disks disks' status → IsGoodFor g c left disks → Completes status
   completes Try status d t good = tries status d t good
   completes Create status d t good = creates status d t good
   completes Script status d t good = scripts status d t good
   completes Check status d t good = checks status d t good
   completes (Load lines) status d t good = loads lines status d t
+  completes (Import relation) status d t good = imports relation status d t good
   completes (Export relation version) status d t good = exports relation version status d t good

@@ -18,14 +18,14 @@ use Rattle.generations.specs.Pairs.{moments_of, AreAllOnDisk, RoseInOne, BothOnl
 use Rattle.generations.specs.Reopens.{StaysQuiet}
 use Rattle.script_run.specs.declared.run.RunStop.{RunStop}
 use Rattle.script_run.specs.declared.run.RunStop.TheVariants.{Fault, Memory as NoMemory}
-use Rattle.script_run.specs.Output.{failures, world_after}
-use Rattle.script_run.specs.Acknowledged.{acknowledged, begun, GivesAny, GivesDuring}
+use Rattle.script_run.specs.Output.{Marked, failures, world_after}
+use Rattle.script_run.specs.Acknowledged.{acknowledged, begun, GivesAny, GivesDuring, StoresAll}
 use Rattle.script_run.specs.Runs.{RunsAll, RunsCut, RunsWhole}
 use Rattle.script_run.proofs.OutputLemmas.{out_end}
 use Rattle.script_run.proofs.StoreLemmas.{stores_none, may_any}
 use Rattle.decibel_main.specs.Ends.{IsEndOf}
 use Rattle.decibel_main.specs.Images.{OpensNow, OpensSince, faults_in}
-use Rattle.decibel_main.specs.Scripts.{RunsLog, RunsScript}
+use Rattle.decibel_main.specs.Scripts.{RunsLog, RunsOn, RunsScript}
 use Rattle.decibel_main.specs.declared.status.Status.{Status}
 use Rattle.decibel_main.specs.declared.status.Status.TheVariants.{Done, Usage, NotDataset, Damaged, ReadFault, WriteFault, DiskFault, TooLong, Memory, AlreadyThere, BadLine}
 use Rattle.decibel_main.proofs.FileLemmas.{keeps_pairs, faults_are, one_rose}
@@ -122,49 +122,55 @@ module _ {L : Type 0} (faults : L → ℕ) (Keeps : L → State → List Entry �
 -- ---- on two files
 
 module _ {D : Type 0} (g : Ghosts D) where
-  abbrev faults_l : Dataset D g → ℕ
+  abbrev pub faults_l : Dataset D g → ℕ
   faults_l l = g.faults l.file.disk + g.faults l.beside
 
-  module _ (disks : Pair D) (a b : Dataset D g) (s : State) (es : List Entry) (all : List (List ℕ)) (status : Status) (before written : Option (List ℕ)) (only : BothOnlyRead g disks (pair_in a)) (kept : KeepsIn a s es None)
-      (r : RunsLog faults_l KeepsIn generation_in moment_in OpensSinceIn QuietIn (opening s) a b all status before written) where
-    few : faults_in g (pair_in b) < 2 ^ 64 - 1 → failures r.ran + faults_in g disks ≤ faults_in g (pair_in b)
+  -- lines that were run, and what a log did for them
+  module _ (disks : Pair D) (a b : Dataset D g) (s : State) (es : List Entry) (only : BothOnlyRead g disks (pair_in a)) (kept : KeepsIn a s es None) (ran : List Marked)
+      (stores : StoresAll faults_l KeepsIn generation_in moment_in OpensSinceIn QuietIn (opening s) ran a b) where
+    few : faults_in g (pair_in b) < 2 ^ 64 - 1 → failures ran + faults_in g disks ≤ faults_in g (pair_in b)
     few below =
-        omega (arith, faults_are g a, faults_are g b, only.first.later, only.second.later, r.stores.few (omega (arith, below, faults_are g b)))
+        omega (arith, faults_are g a, faults_are g b, only.first.later, only.second.later, stores.few (omega (arith, below, faults_are g b)))
 
-    now : OpensNow g (pair_in b) (GivesAny (generation_in a) (world_after (opening s) r.ran).state (es ++ acknowledged (opening s) r.ran) (begun (opening s) [] r.ran))
+    now : OpensNow g (pair_in b) (GivesAny (generation_in a) (world_after (opening s) ran).state (es ++ acknowledged (opening s) ran) (begun (opening s) [] ran))
     now = λ c d hc hd.
-        let k = r.stores.kept es None kept in
-        may_any (generation_in a) (world_after (opening s) r.ran).state (es ++ acknowledged (opening s) r.ran) k.0 (begun (opening s) [] r.ran) (opening_of (reads c d)) k.1
-        (subst (λ (n : ℕ). MayGive n (world_after (opening s) r.ran).state (es ++ acknowledged (opening s) r.ran) k.0 (opening_of (reads c d))) r.stores.generation_stays
-        (keeps_pairs g b (world_after (opening s) r.ran).state (es ++ acknowledged (opening s) r.ran) k.0 k.2 c d hc hd))
+        let k = stores.kept es None kept in
+        may_any (generation_in a) (world_after (opening s) ran).state (es ++ acknowledged (opening s) ran) k.0 (begun (opening s) [] ran) (opening_of (reads c d)) k.1
+        (subst (λ (n : ℕ). MayGive n (world_after (opening s) ran).state (es ++ acknowledged (opening s) ran) k.0 (opening_of (reads c d))) stores.generation_stays
+        (keeps_pairs g b (world_after (opening s) ran).state (es ++ acknowledged (opening s) ran) k.0 k.2 c d hc hd))
 
     -- before the first line was run
-    at_first : (o : Opening) → o ≡ gives (generation_in a) s es → GivesDuring (generation_in a) (opening s) es None r.ran o
-    at_first o is = ([], r.ran, refl, inl (is ∙ ap (λ (l : List Entry). gives (generation_in a) s l) (sym (append-nil es))))
+    at_first : (o : Opening) → o ≡ gives (generation_in a) s es → GivesDuring (generation_in a) (opening s) es None ran o
+    at_first o is = ([], ran, refl, inl (is ∙ ap (λ (l : List Entry). gives (generation_in a) s l) (sym (append-nil es))))
 
     any_moment : (c d : List ℕ) → reads c d ≡ counts (counted_in a) (generation_in a) (opened s es (place_in a)) → StaysQuiet (moments_of g disks) a c d
-        → OpensSince g (moments_of g disks) (pair_in b) (GivesDuring (generation_in a) (opening s) es None r.ran)
+        → OpensSince g (moments_of g disks) (pair_in b) (GivesDuring (generation_in a) (opening s) es None ran)
     any_moment c d is quiet = λ x y hx hy.
         let o = opening_of (reads x y) in
         ⊎_elim (λ was. at_first o (quiet.opens o was ∙ ap opening_of is)) (λ during. during)
-        ((r.stores.any_moment es None kept).adds (moments_of g disks) (only.first.any_moment.later, only.second.any_moment.later) quiet.quiet o (x, y, hx, hy, refl))
+        ((stores.any_moment es None kept).adds (moments_of g disks) (only.first.any_moment.later, only.second.any_moment.later) quiet.quiet o (x, y, hx, hy, refl))
 
-    -- a count that rose in the run
-    pub rose : faults_l a < faults_l b → RoseInOne g disks (pair_in b)
-    rose less = one_rose g disks (pair_in b) (omega (arith, less, faults_are g a, faults_are g b, only.first.later, only.second.later))
+    pub runs_on : (c d : List ℕ) → reads c d ≡ counts (counted_in a) (generation_in a) (opened s es (place_in a)) → (AreAllOnDisk g disks → StaysQuiet (moments_of g disks) a c d) → RunsOn g disks (pair_in b) (generation_in a) s es ran
+    runs_on c d is quiet = record { few = few; now = now; any_moment = λ durable. any_moment c d is (quiet durable) }
 
-    pub runs_files : (c d : List ℕ) → reads c d ≡ counts (counted_in a) (generation_in a) (opened s es (place_in a)) → (AreAllOnDisk g disks → StaysQuiet (moments_of g disks) a c d) → RunsScript g disks (pair_in b) all status before written c d
-    runs_files c d is quiet = record {
-      file = counted_in a;
-      generation = generation_in a;
-      state = s;
-      entries = es;
-      at = place_in a;
-      opens = is;
-      ran = r.ran;
-      rest = r.rest;
-      lines = r.lines;
-      runs = record { few = few; now = now; any_moment = λ durable. any_moment c d is (quiet durable) };
-      answers = r.answers;
-      unfailed = λ done below. r.unfailed done (omega (arith, below, faults_are g b));
-    }
+  -- a count that rose in the run
+  pub rose : (disks : Pair D) (a b : Dataset D g) → BothOnlyRead g disks (pair_in a) → faults_l a < faults_l b → RoseInOne g disks (pair_in b)
+  rose disks a b only less = one_rose g disks (pair_in b) (omega (arith, less, faults_are g a, faults_are g b, only.first.later, only.second.later))
+
+  pub runs_files : (disks : Pair D) (a b : Dataset D g) (s : State) (es : List Entry) (all : List (List ℕ)) (status : Status) (before written : Option (List ℕ)) → BothOnlyRead g disks (pair_in a) → KeepsIn a s es None
+      → RunsLog faults_l KeepsIn generation_in moment_in OpensSinceIn QuietIn (opening s) a b all status before written
+      → (c d : List ℕ) → reads c d ≡ counts (counted_in a) (generation_in a) (opened s es (place_in a)) → (AreAllOnDisk g disks → StaysQuiet (moments_of g disks) a c d) → RunsScript g disks (pair_in b) all status before written c d
+  runs_files disks a b s es all status before written only kept r c d is quiet = record {
+    file = counted_in a;
+    generation = generation_in a;
+    state = s;
+    entries = es;
+    at = place_in a;
+    opens = is;
+    ran = r.ran;
+    rest = r.rest;
+    lines = r.lines;
+    runs = runs_on disks a b s es only kept r.ran r.stores c d is quiet;
+    answers = r.answers;
+    unfailed = λ done below. r.unfailed done (omega (arith, below, faults_are g b));
+  }

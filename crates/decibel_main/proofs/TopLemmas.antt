@@ -10,14 +10,15 @@ use Rattle.generations.specs.Pairs.{IfTold, BothOnlyRead}
 use Rattle.script_run.specs.Device.{Appends, AppendsFront, TakesAll, most_bytes}
 use Rattle.script_run.specs.Output.{lines_run}
 use Rattle.decibel_main.specs.Output.{output_of}
-use Rattle.decibel_main.specs.Ends.{BreaksOffIn, IsBadLineOrBefore, IsUnread, IsRunStatus, IsCreateStatus, IsOpenStatus}
+use Rattle.decibel_main.specs.Ends.{BreaksOffIn, IsBadLineOrBefore, IsUnread, IsRunStatus, IsCreateStatus, IsOpenStatus, IsRowsStatus}
 use Rattle.decibel_main.specs.Creates.{schema_alone, CreatesFiles, FindsFiles, WritesCreated}
 use Rattle.decibel_main.specs.Scripts.{Scripts, Stops}
-use Rattle.decibel_main.specs.Top.{Did, ReadsInput, TellsFaults, Tries, Creates, RunsLines}
+use Rattle.decibel_main.specs.Top.{Did, ReadsInput, TellsFaults, Tries, Creates, RunsLines, ImportsRows}
 use Rattle.decibel_main.specs.Words.{has_input}
-use Rattle.decibel_main.specs.Inputs.{CarriesOut, IsWhyUnread, TriesInput, CreatesInput, RunsInput}
+use Rattle.decibel_main.specs.Imports.{Imports}
+use Rattle.decibel_main.specs.Inputs.{CarriesOut, IsWhyUnread, TriesInput, CreatesInput, RunsInput, ImportsInput}
 use Rattle.decibel_main.specs.declared.command.Command.{Command}
-use Rattle.decibel_main.specs.declared.command.Command.TheVariants.{Try, Create, Script, Check, Load, Export}
+use Rattle.decibel_main.specs.declared.command.Command.TheVariants.{Try, Create, Script, Check, Load, Import, Export}
 use Rattle.decibel_main.specs.declared.status.Status.{Status}
 use Rattle.decibel_main.specs.declared.status.Status.TheVariants.{Done, Usage, NotDataset, Damaged, ReadFault, WriteFault, DiskFault, TooLong, Memory, AlreadyThere, BadLine}
 
@@ -61,6 +62,20 @@ bad_unread n WriteFault u = absurd u
 bad_unread n DiskFault u = absurd u
 bad_unread n AlreadyThere u = absurd u
 bad_unread n (BadLine m) u = absurd u
+
+-- of the statuses of an input that wasn't read this leaves want of memory
+is_memory : (P : Status → Type 0) → (P ReadFault → ⊥) → (P TooLong → ⊥) → (status : Status) → IsUnread status → P status → status ≡ Memory
+is_memory P fault long Memory u p = refl
+is_memory P fault long ReadFault u p = absurd (fault p)
+is_memory P fault long TooLong u p = absurd (long p)
+is_memory P fault long Done u p = absurd u
+is_memory P fault long Usage u p = absurd u
+is_memory P fault long NotDataset u p = absurd u
+is_memory P fault long (Damaged file at) u p = absurd u
+is_memory P fault long WriteFault u p = absurd u
+is_memory P fault long DiskFault u p = absurd u
+is_memory P fault long AlreadyThere u p = absurd u
+is_memory P fault long (BadLine m) u p = absurd u
 
 pub faults_unread : {D : Type 0} (g : Ghosts D) (left : Option (List ℕ)) (a b k : ℕ) (disks : Pair D) (status : Status) → IsWhyUnread left a b status → TellsFaults g a b k k disks disks status
 faults_unread g left a b k disks status why = record {
@@ -134,27 +149,21 @@ module _ {D : Type 0} (g : Ghosts D) (left before : Option (List ℕ)) (disks : 
     bad_line_only = λ n input told e. bad_unread n status u;
   }
 
-  scripts_unread : (status : Status) → IsUnread status → IsOpenStatus status → (c d : List ℕ) → Stops g disks disks status before before c d
-  scripts_unread Memory u opens c d = record { why = tt; only_read = still; quiet = refl }
-  scripts_unread ReadFault u opens c d = absurd opens
-  scripts_unread TooLong u opens c d = absurd opens
-  scripts_unread Done u opens c d = absurd u
-  scripts_unread Usage u opens c d = absurd u
-  scripts_unread NotDataset u opens c d = absurd u
-  scripts_unread (Damaged file at) u opens c d = absurd u
-  scripts_unread WriteFault u opens c d = absurd u
-  scripts_unread DiskFault u opens c d = absurd u
-  scripts_unread AlreadyThere u opens c d = absurd u
-  scripts_unread (BadLine m) u opens c d = absurd u
+  memory_stops : (status : Status) → status ≡ Memory → (c d : List ℕ) → Stops g disks disks status before before c d
+  memory_stops status is c d = subst (λ (t : Status). Stops g disks disks t before before c d) (sym is) (record { why = tt; only_read = still; quiet = refl })
 
   runs_unread : (status : Status) → IsUnread status → RunsLines g left before before disks disks status
-  runs_unread status u = record { ends = inl u; lines = λ opens input told c d hc hd. inr (scripts_unread status u opens c d) }
+  runs_unread status u = record { ends = inl u; lines = λ opens input told c d hc hd. inr (memory_stops status (is_memory IsOpenStatus (λ x. x) (λ x. x) status u opens) c d) }
+
+  imports_unread : (relation : List ℕ) (status : Status) → IsUnread status → ImportsRows g relation left before before disks disks status
+  imports_unread relation status u = record { ends = inl u; rows = λ ends input told c d hc hd. inr (memory_stops status (is_memory IsRowsStatus (λ x. x) (λ x. x) status u ends) c d) }
 
   pub did_unread : (c : Command) (left' : Option (List ℕ)) (a b : ℕ) (status : Status) → has_input c ≡ true → IsWhyUnread left a b status → Did g (Some c) left left' before before disks disks status
   did_unread Try left' a b status asks why = (reads_unread left left' a b status why, tries_unread status (why_unread left a b status why))
   did_unread Create left' a b status asks why = (reads_unread left left' a b status why, creates_unread status (why_unread left a b status why))
   did_unread Script left' a b status asks why = (reads_unread left left' a b status why, runs_unread status (why_unread left a b status why))
   did_unread Check left' a b status asks why = absurd (cc asks)
+  did_unread (Import relation) left' a b status asks why = (reads_unread left left' a b status why, imports_unread relation status (why_unread left a b status why))
   did_unread (Load n) left' a b status asks why = absurd (cc asks)
   did_unread (Export relation version) left' a b status asks why = absurd (cc asks)
 
@@ -195,11 +204,18 @@ module _ {D : Type 0} (g : Ghosts D) (left left' before after : Option (List ℕ
     lines = λ opens input told. subst (λ (x : List ℕ). IfTold g disks (Scripts g disks disks' (lines_run (lines x)) status before after)) (all input told).1 t.lines;
   }
 
+  imports_taken : (relation : List ℕ) → ImportsInput g relation taken before after disks disks' status → ImportsRows g relation left before after disks disks' status
+  imports_taken relation t = record {
+    ends = inr t.ends;
+    rows = λ ends input told. subst (λ (x : List ℕ). IfTold g disks (Imports g disks disks' relation x status before after)) (all input told).1 t.rows;
+  }
+
   pub did_taken : (c : Command) → has_input c ≡ true → CarriesOut g c taken before after disks disks' status → Did g (Some c) left left' before after disks disks' status
   did_taken Try asks t = (reads_taken left left' taken status all short (λ is. subst IsRunStatus is t.ends), tries_taken t)
   did_taken Create asks t = (reads_taken left left' taken status all short (λ is. subst IsCreateStatus is t.ends), creates_taken t)
   did_taken Script asks t = (reads_taken left left' taken status all short (λ is. subst IsOpenStatus is t.ends), runs_taken t)
   did_taken Check asks t = absurd (cc asks)
+  did_taken (Import relation) asks t = (reads_taken left left' taken status all short (λ is. subst IsRowsStatus is t.ends), imports_taken relation t)
   did_taken (Load n) asks t = absurd (cc asks)
   did_taken (Export relation version) asks t = absurd (cc asks)
 
@@ -212,4 +228,5 @@ did_alone g (Load n) left left' input before after disks disks' status asks t = 
 did_alone g (Export relation version) left left' input before after disks disks' status asks t = t
 did_alone g Try left left' input before after disks disks' status asks t = absurd (cc asks)
 did_alone g Create left left' input before after disks disks' status asks t = absurd (cc asks)
+did_alone g (Import relation) left left' input before after disks disks' status asks t = absurd (cc asks)
 did_alone g Script left left' input before after disks disks' status asks t = absurd (cc asks)

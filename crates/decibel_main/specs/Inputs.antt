@@ -9,12 +9,13 @@ use Rattle.generations.specs.Pairs.{IfTold}
 use Rattle.script_run.specs.Device.{Appends, AppendsFront, most_bytes}
 use Rattle.script_run.specs.Output.{lines_run}
 use Rattle.decibel_main.specs.Output.{output_of}
-use Rattle.decibel_main.specs.Ends.{BreaksOffIn, TellsBadLine, IsRunStatus, IsCreateStatus, IsOpenStatus}
+use Rattle.decibel_main.specs.Ends.{BreaksOffIn, TellsBadLine, IsRunStatus, IsCreateStatus, IsOpenStatus, IsRowsStatus}
 use Rattle.decibel_main.specs.Creates.{schema_alone, CreatesFiles, FindsFiles, WritesCreated}
 use Rattle.decibel_main.specs.Scripts.{Scripts}
+use Rattle.decibel_main.specs.Imports.{Imports}
 use Rattle.decibel_main.specs.Top.{ChecksFiles, Loads, ExportsFiles, OfInput}
 use Rattle.decibel_main.specs.declared.command.Command.{Command}
-use Rattle.decibel_main.specs.declared.command.Command.TheVariants.{Try, Create, Script, Check, Load, Export}
+use Rattle.decibel_main.specs.declared.command.Command.TheVariants.{Try, Create, Script, Check, Load, Import, Export}
 use Rattle.decibel_main.specs.declared.status.Status.{Status}
 use Rattle.decibel_main.specs.declared.status.Status.TheVariants.{Done, ReadFault, WriteFault, TooLong, Memory}
 
@@ -47,6 +48,11 @@ pub record RunsInput {D : Type 0} (g : Ghosts D) (input : List ℕ) (before afte
   pub ends : IsOpenStatus status
   pub lines : IfTold g disks (Scripts g disks disks' (lines_run (lines input)) status before after)
 
+-- `import` of this input
+pub record ImportsInput {D : Type 0} (g : Ghosts D) (relation input : List ℕ) (before after : Option (List ℕ)) (disks disks' : Pair D) (status : Status) : Type 0 where
+  pub ends : IsRowsStatus status
+  pub rows : IfTold g disks (Imports g disks disks' relation input status before after)
+
 -- a command, carried out on this input if it has one
 abbrev pub CarriesOut : {D : Type 0} → Ghosts D → Command → List ℕ → Option (List ℕ) → Option (List ℕ) → Pair D → Pair D → Status → Type 0
 CarriesOut g Try input before after disks disks' status = TriesInput input before after disks disks' status
@@ -54,4 +60,5 @@ CarriesOut g Create input before after disks disks' status = CreatesInput g inpu
 CarriesOut g Script input before after disks disks' status = RunsInput g input before after disks disks' status
 CarriesOut g Check input before after disks disks' status = ChecksFiles g before after disks disks' status
 CarriesOut g (Load n) input before after disks disks' status = Loads n before after disks disks' status
+CarriesOut g (Import relation) input before after disks disks' status = ImportsInput g relation input before after disks disks' status
 CarriesOut g (Export relation version) input before after disks disks' status = ExportsFiles g relation version before after disks disks' status

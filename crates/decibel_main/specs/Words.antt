@@ -2,12 +2,12 @@
 use Rattle.std.specs.Prelude.{◌≡◌, ◌&&◌, ◌==◌, ℕ, not, nat_le, cond, codes, Bool, true, false, List, [], ◌∷◌, length, Option, Some, None}
 use Rattle.std.specs.Int.{is_in_range}
 use Rattle.std.specs.List.{list_all}
-use Rattle.db_value.specs.Text.{same}
+use Rattle.db_value.specs.Text.{is_name, same}
 use Rattle.stmt_text.specs.Steps.{◌>>=◌}
 use Rattle.stmt_text.specs.Number.{key_of}
 use Rattle.stmt_text.specs.Parts.{name_of, version_of}
 use Rattle.decibel_main.specs.declared.command.Command.{Command}
-use Rattle.decibel_main.specs.declared.command.Command.TheVariants.{Try, Create, Script, Check, Load, Export}
+use Rattle.decibel_main.specs.declared.command.Command.TheVariants.{Try, Create, Script, Check, Load, Import, Export}
 
 -- a byte from the space to the tilde
 abbrev pub is_printable : ℕ → Bool
@@ -34,6 +34,14 @@ load_if (Some n) = cond (nat_le 1 n && nat_le n 20000) (Some (Load n)) None
 abbrev pub pair_of : List ℕ → List ℕ → Option Command
 pair_of w x = cond (same w (codes "load")) (load_if (key_of x)) (cond (is_base x) (verb_of w) None)
 
+-- `import` into a relation, by its name
+abbrev pub import_of : List ℕ → Option Command
+import_of relation = name_of relation >>= (λ r. Some (Import r))
+
+-- the command that a word, a base and one word after it give
+abbrev pub triple_of : List ℕ → List ℕ → List ℕ → Option Command
+triple_of w base relation = cond (same w (codes "import")) (cond (is_base base) (import_of relation) None) None
+
 -- `export` of a relation in a version, each by its name
 abbrev pub export_of : List ℕ → List ℕ → Option Command
 export_of relation version = name_of relation >>= (λ r. version_of version >>= (λ v. Some (Export r v)))
@@ -47,7 +55,7 @@ abbrev pub command_of : List (List ℕ) → Option Command
 command_of [] = None
 command_of (w ∷ []) = cond (same w (codes "try")) (Some Try) None
 command_of (w ∷ x ∷ []) = pair_of w x
-command_of (w ∷ x ∷ y ∷ []) = None
+command_of (w ∷ base ∷ relation ∷ []) = triple_of w base relation
 command_of (w ∷ base ∷ relation ∷ version ∷ []) = quad_of w base relation version
 command_of (w ∷ x ∷ y ∷ z ∷ more ∷ rest) = None
 
@@ -70,4 +78,10 @@ has_input Create = true
 has_input Script = true
 has_input Check = false
 has_input (Load n) = false
+has_input (Import relation) = true
 has_input (Export relation version) = false
+
+-- the relation of an import has a name
+abbrev pub IsNamed : Command → Type 0
+IsNamed (Import relation) = is_name relation ≡ true
+IsNamed _ = Unit {0}

@@ -1,9 +1,9 @@
 //! The command that the words give.
-ghost use Rattle.std.specs.Prelude.{◌≡◌, ◌∷◌, [], map};
+ghost use Rattle.std.specs.Prelude.{◌≡◌, ◌∷◌, [], map, IfSome};
 ghost use Rattle.std.specs.String.{string_bytes};
 ghost use Rattle.std.specs.List.{list_all};
 ghost use Rattle.db_value.specs.Text.{same};
-ghost use Rattle.decibel_main.specs.Words.{is_printable, begins_with_dash, is_base, verb_of, load_if, export_of, command_of, has_input};
+ghost use Rattle.decibel_main.specs.Words.{is_printable, begins_with_dash, is_base, verb_of, load_if, import_of, export_of, command_of, has_input, IsNamed};
 
 use db_value::{Name, VersionName};
 use stmt_text::{read_key, read_name, read_version};
@@ -26,6 +26,10 @@ pub enum Command {
     Load {
         lines: u32,
     },
+    /// Rows as CSV into a relation of two files, as one version of master.
+    Import {
+        relation: Name,
+    },
     /// The rows of a relation in a version of two files, as CSV.
     Export {
         relation: Name,
@@ -43,6 +47,7 @@ pub fn has_input(command: &Command) -> bool
         Command::Script => true,
         Command::Check => false,
         Command::Load { lines: _ } => false,
+        Command::Import { relation: _ } => true,
         Command::Export {
             relation: _,
             version: _,
@@ -136,6 +141,24 @@ fn with_one(word: &[u8], next: &[u8]) -> Option<Command>
     None
 }
 
+fn import_of(relation: &[u8]) -> Option<Command>
+    ensures { result ≡ import_of relation.now }
+{
+    match read_name(relation) {
+        None => None,
+        Some(relation) => Some(Command::Import { relation }),
+    }
+}
+
+fn with_two(word: &[u8], base: &[u8], relation: &[u8]) -> Option<Command>
+    ensures { result ≡ command_of (word.now ∷ base.now ∷ relation.now ∷ []) }
+{
+    if is_word(word, b"import") && is_base(base) {
+        return import_of(relation);
+    }
+    None
+}
+
 fn export_of(relation: &[u8], version: &[u8]) -> Option<Command>
     ensures { result ≡ export_of relation.now version.now }
 {
@@ -159,11 +182,15 @@ fn with_three(word: &[u8], base: &[u8], relation: &[u8], version: &[u8]) -> Opti
 
 /// The command that these words give, by one table.
 pub fn command_of(words: &[String]) -> Option<Command>
-    ensures { result ≡ command_of (map string_bytes words.now) }
+    ensures is { result ≡ command_of (map string_bytes words.now) }
+    ensures named { IfSome result IsNamed }
 {
     match words {
         [word] => alone(word.as_bytes()),
         [word, next] => with_one(word.as_bytes(), next.as_bytes()),
+        [word, base, relation] => {
+            with_two(word.as_bytes(), base.as_bytes(), relation.as_bytes())
+        }
         [word, base, relation, version] => with_three(
             word.as_bytes(),
             base.as_bytes(),

@@ -7,8 +7,8 @@ ghost use Rattle.db_store.specs.State.{dataset_of};
 ghost use Rattle.db_store.specs.Table.{relation_at, rows_of};
 ghost use Rattle.generations.specs.Files.{reads};
 ghost use Rattle.generations.specs.Pairs.{IfTold, RoseInOne, BothOnlyRead};
-ghost use Rattle.decibel_main.specs.Ends.{IsQuiet};
-ghost use Rattle.decibel_main.specs.Exports.{export_text, IsNoText, WritesText, Exports, IsExportStatus};
+ghost use Rattle.decibel_main.specs.Ends.{IsQuiet, IsRowsStatus};
+ghost use Rattle.decibel_main.specs.Exports.{export_text, IsNoText, WritesText, Exports};
 
 use crate::script::status_of;
 use crate::status::{Finish, Status};
@@ -70,7 +70,7 @@ fn export_rows<St: Store, K: Sink>(
     version: &VersionName,
     sink: &mut K,
 ) -> Status
-    ensures ends { IsExportStatus result }
+    ensures ends { IsRowsStatus result }
     ensures writes { WritesText result
         (export_text (dataset_of (St.state store.now)) relation.now version.now)
         (K.written sink.old) (K.written sink.new) }
@@ -92,7 +92,7 @@ pub fn export_files<K: Sink, D: Disk + Drop>(
     sink: &mut K,
     disks: Pair<D>,
 ) -> Finish<D>
-    ensures ends { IsExportStatus result.status }
+    ensures ends { IsRowsStatus result.status }
     ensures tells { IfTold D.Disk disks (λ c d. Exports result.status relation.now version.now
         (reads c d) (K.written sink.old) (K.written sink.new)) }
     ensures quiet { IsQuiet result.status → sink.new ≡ sink.old }

@@ -11,7 +11,7 @@ returns-in-Ok-clause-done g c =
     did_taken g.D.Disk (g.S.Source.left c.args.source.now) (g.S.Source.left c.read_input.new.source) (g.K.Sink.written c.args.sink.now) (g.K.Sink.written c.with_input.new.sink) c.deref.result.now c.args.disks c.with_input.result.disks c.with_input.result.status
     (subst (λ (t : List ℕ). TakesAll (g.S.Source.left c.args.source.now) (g.S.Source.left c.read_input.new.source) t) (sym same) c.in-Ok.ensures.all)
     (subst (λ (t : List ℕ). length t ≤ most_bytes) (sym same) c.in-Ok.ensures.short)
-    c.args.command c.requires c.with_input.ensures.done
+    c.args.command c.requires.asks c.with_input.ensures.done
 
 pub returns-in-Ok-clause-faults : goal.returns-in-Ok-clause-faults
 returns-in-Ok-clause-faults g c = faults_taken g.D.Disk (g.S.Source.faults c.args.source.now) (g.S.Source.faults c.read_input.new.source) (g.K.Sink.faults c.args.sink.now) (g.K.Sink.faults c.with_input.new.sink) c.args.disks c.with_input.result.disks c.with_input.result.status c.with_input.ensures.faults
@@ -19,7 +19,7 @@ returns-in-Ok-clause-faults g c = faults_taken g.D.Disk (g.S.Source.faults c.arg
 pub returns-in-Err-clause-done : goal.returns-in-Err-clause-done
 returns-in-Err-clause-done g c =
     did_unread g.D.Disk (g.S.Source.left c.args.source.now) (g.K.Sink.written c.args.sink.now) c.args.disks (both_still g.D.Disk c.args.disks (λ disk b h. g.met.D.Disk.only_now disk b h))
-    c.args.command (g.S.Source.left c.read_input.new.source) (g.S.Source.faults c.args.source.now) (g.S.Source.faults c.read_input.new.source) c.in-Err.status c.requires c.in-Err.ensures.why
+    c.args.command (g.S.Source.left c.read_input.new.source) (g.S.Source.faults c.args.source.now) (g.S.Source.faults c.read_input.new.source) c.in-Err.status c.requires.asks c.in-Err.ensures.why
 
 pub returns-in-Err-clause-untouched : goal.returns-in-Err-clause-untouched
 returns-in-Err-clause-untouched g c = λ t. both_still g.D.Disk c.args.disks (λ disk b h. g.met.D.Disk.only_now disk b h)

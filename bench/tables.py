@@ -1,0 +1,71 @@
+#!/usr/bin/env python3
+"""What `import` and `export` of a table cost in the built program, beside sqlite3 if it is installed: bench/tables.py [PROGRAM].
+
+The table has 65,536 rows of four columns. Files are in memory, so that a sync costs nothing: of each figure the least of some runs counts.
+"""
+import os, random, shutil, subprocess, sys, tempfile, time
+
+TOP = os.path.dirname(os.path.dirname(os.path.abspath(__file__)))
+PROGRAM = sys.argv[1] if len(sys.argv) > 1 else os.path.join(TOP, "crates", "decibel_main", "out", "decibel_main")
+ROWS, RUNS = 65536, 7
+
+
+def run(command, given, output):
+    """Milliseconds of the wall and of a processor, and MB at most."""
+    start = time.monotonic()
+    child = os.fork()
+    if child == 0:
+        os.dup2(os.open(given, os.O_RDONLY), 0)
+        os.dup2(os.open(output, os.O_WRONLY | os.O_CREAT | os.O_TRUNC), 1)
+        os.execvp(command[0], command)
+    _, status, used = os.wait4(child, 0)
+    if status:
+        raise SystemExit("%s ended with %d" % (command, status))
+    return (time.monotonic() - start) * 1e3, (used.ru_utime + used.ru_stime) * 1e3, used.ru_maxrss / 1024
+
+
+def least(name, runs):
+    print("%s: %.1f ms, %.1f ms of a processor, %.1f MB at most" % (name, *(min(r[i] for r in runs) for i in range(3))))
+
+
+def removed(*paths):
+    for path in paths:
+        if os.path.exists(path):
+            os.unlink(path)
+
+
+def main():
+    source = random.Random(5)
+    folder = tempfile.mkdtemp(dir="/dev/shm")
+    try:
+        table, base, out, db = (os.path.join(folder, name) for name in ("rows.csv", "base", "out.csv", "db"))
+        with open(table, "w") as f:
+            for key in source.sample(range(10 ** 9), ROWS):
+                f.write("%d,%d,%d,%d,%d\n" % (key, *(source.randrange(-10 ** 6, 10 ** 6) for _ in range(4))))
+        print("a table of %d rows of four columns: %d bytes" % (ROWS, os.path.getsize(table)))
+        schema = os.path.join(folder, "schema")
+        with open(schema, "w") as f:
+            f.write("relation t a b c d\nend\n")
+        imports, exports, peers, answers = [], [], [], []
+        for _ in range(RUNS):
+            removed(base + ".0", base + ".1", db)
+            run([PROGRAM, "create", base], schema, out)
+            imports.append(run([PROGRAM, "import", base, "t"], table, os.devnull))
+            exports.append(run([PROGRAM, "export", base, "t", "master"], os.devnull, out))
+            if shutil.which("sqlite3"):
+                subprocess.run(["sqlite3", db, "create table t (key integer primary key, a integer, b integer, c integer, d integer)"], check=True)
+                peers.append(run(["sqlite3", db, ".mode csv", ".import %s t" % table], os.devnull, os.devnull))
+                answers.append(run(["sqlite3", db, ".mode csv", "select * from t order by key"], os.devnull, out + ".peer"))
+        least("import", imports)
+        if peers:
+            least("import by sqlite3", peers)
+        least("export", exports)
+        if answers:
+            least("export by sqlite3", answers)
+            with open(out, "rb") as ours, open(out + ".peer", "rb") as theirs:
+                print("the same rows: %s" % (ours.read() == theirs.read().replace(b"\r\n", b"\n")))
+    finally:
+        shutil.rmtree(folder)
+
+
+main()

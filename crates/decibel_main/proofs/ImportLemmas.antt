@@ -1,0 +1,202 @@
+-- An import on a log, and on two files.
+use Rattle.std.proofs.Common.{◌≡◌, ◌∙◌, ◌-◌, ◌^◌, ◌<◌, [], ◌∷◌, List, ℕ, Bool, true, false, cond, nat_lt, map, refl, sym, ap, subst, arith, Option, None}
+use Rattle.std.specs.Prelude.{Result, Ok, Err, OnOk, IfErr}
+use Rattle.std.specs.Result.{is_ok}
+use Rattle.std.proofs.lemmas.Bool.{ltb-true, ltb-false}
+use Rattle.db_value.specs.declared.entry.Entry.{Entry}
+use Rattle.db_store.specs.State.{State}
+use Rattle.db_outside.specs.Count.{counted}
+use Rattle.db_outside.specs.declared.disk.Disk.{Ghosts}
+use Rattle.entry_codec.specs.Logs.{Opening}
+use Rattle.db_core.specs.Order.{World, opening}
+use Rattle.db_core.specs.Kept.{Kept, Logged, world_of, new_kept}
+use Rattle.csv_port.specs.declared.imports.Imported.{Imported}
+use Rattle.csv_port.specs.declared.stop.ImportStop.{ImportStop}
+use Rattle.csv_port.specs.declared.stop.ImportStop.TheVariants.{BadRow, NoRelation, KeyThere, Full, DiskFault as LogFailed, Memory as NoMemory}
+use Rattle.csv_port.specs.Import.{import_told, lines_told, Tells}
+use Rattle.csv_port.specs.Ran.{RunsFirst, RunsToEnd, StopsAs}
+use Rattle.generations.specs.declared.dataset.Dataset.{Dataset}
+use Rattle.generations.specs.declared.pair.Pair.{Pair}
+use Rattle.generations.specs.Datasets.{pair_in, generation_in, counted_in, place_in, KeepsIn, moment_in, OpensSinceIn, QuietIn}
+use Rattle.generations.specs.Files.{opened, counts, reads}
+use Rattle.generations.specs.Pairs.{moments_of, AreAllOnDisk, BothOnlyRead}
+use Rattle.generations.specs.Reopens.{StaysQuiet}
+use Rattle.script_run.specs.Device.{Appends, AppendsShort}
+use Rattle.script_run.specs.Output.{Marked, failures, lines_of, unmarked}
+use Rattle.script_run.specs.Acknowledged.{StoresAll}
+use Rattle.script_run.specs.Runs.{Runs}
+use Rattle.script_run.proofs.StoreLemmas.{stores_none}
+use Rattle.decibel_main.specs.Ends.{IsRowsStatus, IsUntouched}
+use Rattle.decibel_main.specs.Imports.{imported_text, line_refused, stop_status, TellsMade, EndedBy, EndsImport, ImportsAll, ImportsLog, RunsImport}
+use Rattle.decibel_main.specs.declared.status.Status.{Status}
+use Rattle.decibel_main.specs.declared.status.Status.TheVariants.{Done, Usage, NotDataset, Damaged, ReadFault, WriteFault, DiskFault, TooLong, Memory, AlreadyThere, BadLine}
+use Rattle.decibel_main.proofs.ScriptLemmas.{faults_l, runs_on}
+
+-- a count that is told to be greater is greater
+pub counted_less : (a b : ℕ) → counted a < counted b → a < b
+counted_less a b less = by (nat_lt a (2 ^ 64 - 1)) refl (nat_lt b (2 ^ 64 - 1)) refl
+  where
+    value : (n : ℕ) (q : Bool) → nat_lt n (2 ^ 64 - 1) ≡ q → counted n ≡ cond q n (2 ^ 64 - 1)
+    value n q is = ap (λ (c : Bool). cond c n (2 ^ 64 - 1)) is
+
+    by : (p : Bool) → nat_lt a (2 ^ 64 - 1) ≡ p → (q : Bool) → nat_lt b (2 ^ 64 - 1) ≡ q → a < b
+    by true ia true ib = omega (arith, less, value a true ia, value b true ib)
+    by true ia false ib = omega (arith, less, value a true ia, value b false ib, ltb-false b (2 ^ 64 - 1) ib)
+    by false ia true ib = omega (arith, less, value a false ia, value b true ib, ltb-true b (2 ^ 64 - 1) ib)
+    by false ia false ib = omega (arith, less, value a false ia, value b false ib)
+
+-- lines without marks have none
+none_marked : (lines : List (List ℕ)) → failures (map unmarked lines) ≡ 0
+none_marked [] = refl
+none_marked (line ∷ lines) = none_marked lines
+
+module _ (told : Result Imported ImportStop) (ran : List Marked) (rest : List (List ℕ)) (before after : Option (List ℕ)) where
+  -- rows were imported
+  ends_made : (made : Imported) (rose : Bool) (status : Status) → ImportsAll made told ran rest → EndedBy (Ok made) rose status before after → EndsImport status told ran rest before after
+  ends_made made true status all e = subst (λ (t : Status). EndsImport t told ran rest before after) (sym e.0) (ap is_ok all.0, e.1)
+  ends_made made false Done all e = (made, all, e)
+  ends_made made false WriteFault all e = (made, all, e)
+  ends_made made false Memory all e = e
+  ends_made made false Usage all e = absurd e
+  ends_made made false NotDataset all e = absurd e
+  ends_made made false (Damaged file at) all e = absurd e
+  ends_made made false ReadFault all e = absurd e
+  ends_made made false DiskFault all e = absurd e
+  ends_made made false TooLong all e = absurd e
+  ends_made made false AlreadyThere all e = absurd e
+  ends_made made false (BadLine n) all e = absurd e
+
+  -- the import stopped
+  ends_stop : (stop : ImportStop) (rose : Bool) → Tells told (Err stop) → after ≡ before → EndsImport (stop_status rose stop) told ran rest before after
+  ends_stop (BadRow row) rose tells quiet = (BadRow row, tells, refl, quiet)
+  ends_stop NoRelation rose tells quiet = (NoRelation, tells, refl, quiet)
+  ends_stop (KeyThere row) rose tells quiet = (KeyThere row, tells, refl, quiet)
+  ends_stop (Full row) rose tells quiet = (Full row, tells, refl, quiet)
+  ends_stop LogFailed true tells quiet = (tells, quiet)
+  ends_stop LogFailed false tells quiet = quiet
+  ends_stop NoMemory rose tells quiet = quiet
+
+-- it ends so
+pub rows_status : (told : Result Imported ImportStop) (ran : List Marked) (rest : List (List ℕ)) (before after : Option (List ℕ)) (status : Status) → EndsImport status told ran rest before after → IsRowsStatus status
+rows_status told ran rest before after Done e = tt
+rows_status told ran rest before after WriteFault e = tt
+rows_status told ran rest before after (BadLine n) e = tt
+rows_status told ran rest before after DiskFault e = tt
+rows_status told ran rest before after Memory e = tt
+rows_status told ran rest before after Usage e = absurd e
+rows_status told ran rest before after NotDataset e = absurd e
+rows_status told ran rest before after (Damaged file at) e = absurd e
+rows_status told ran rest before after ReadFault e = absurd e
+rows_status told ran rest before after TooLong e = absurd e
+rows_status told ran rest before after AlreadyThere e = absurd e
+
+-- no row that was imported is refused
+made_row : {P : Type 0} (made : Imported) (rose : Bool) (n : ℕ) (status : Status) (before after : Option (List ℕ)) → status ≡ BadLine n → EndedBy (Ok made) rose status before after → P
+made_row made true n status before after is e = absurd (cc (sym is ∙ e.0))
+made_row made false n status before after is e = absurd (subst (λ (t : Status). TellsMade made t before after) is e)
+
+module _ {L : Type 0} (faults : L → ℕ) (Keeps : L → State → List Entry → Option (List ℕ) → Type 0) (generation : L → ℕ) (moment : L → ℕ × ℕ) (opens_since : L → ℕ × ℕ → Opening → Type 0) (Quiet : L → ℕ × ℕ → Type 0) where
+  -- a row that is refused spares the log
+  row_spares : (old new : Logged L) (stop : ImportStop) (rose : Bool) (n : ℕ) → stop_status rose stop ≡ BadLine n → StopsAs faults old new stop → new.log ≡ old.log
+  row_spares old new (BadRow row) rose n is s = s.1
+  row_spares old new NoRelation rose n is s = s.1
+  row_spares old new (KeyThere row) rose n is s = s.1
+  row_spares old new (Full row) rose n is s = s.1
+  row_spares old new LogFailed true n is s = absurd (cc is)
+  row_spares old new LogFailed false n is s = absurd (cc is)
+  row_spares old new NoMemory rose n is s = absurd (cc is)
+
+  abbrev Log : State → L → L → List ℕ → List ℕ → Status → Option (List ℕ) → Option (List ℕ) → Type 0
+  Log s old new relation input status before after = ImportsLog faults Keeps generation moment opens_since Quiet s old new relation input status before after
+
+  -- if no disk was to be written, the log was not called
+  pub untouched_log : (s : State) (old new : L) (relation input : List ℕ) (status : Status) (before after : Option (List ℕ)) → IsUntouched status → Log s old new relation input status before after → new ≡ old
+  untouched_log s old new relation input (BadLine n) before after u r = r.spared n refl
+  untouched_log s old new relation input Usage before after u r = absurd r.ends
+  untouched_log s old new relation input NotDataset before after u r = absurd r.ends
+  untouched_log s old new relation input (Damaged file at) before after u r = absurd r.ends
+  untouched_log s old new relation input ReadFault before after u r = absurd r.ends
+  untouched_log s old new relation input TooLong before after u r = absurd r.ends
+  untouched_log s old new relation input AlreadyThere before after u r = absurd r.ends
+  untouched_log s old new relation input Done before after u r = absurd u
+  untouched_log s old new relation input WriteFault before after u r = absurd u
+  untouched_log s old new relation input DiskFault before after u r = absurd u
+  untouched_log s old new relation input Memory before after u r = absurd u
+
+  -- nothing was run
+  pub imports_none : (s : State) (log : L) (relation input : List ℕ) (before : Option (List ℕ)) → Log s log log relation input Memory before before
+  imports_none s log relation input before = record {
+    ran = [];
+    rest = lines_told s relation input;
+    lines = refl;
+    stores = stores_none faults Keeps generation moment opens_since Quiet (opening s) log;
+    ends = refl;
+    spared = λ n is. absurd (cc is);
+  }
+
+  module _ (s : State) (k m : Logged L) (relation input : List ℕ) (rose : Bool) (status : Status) (before after : Option (List ℕ)) (world : world_of k.kept ≡ opening s) where
+    abbrev lines : List (List ℕ)
+    lines = lines_told s relation input
+
+    stores_at : (ran : List Marked) (rest : List (List ℕ)) → Runs faults Keeps generation moment opens_since Quiet k m lines ran rest → StoresAll faults Keeps generation moment opens_since Quiet (opening s) ran k.log m.log
+    stores_at ran rest r = subst (λ (w : World). StoresAll faults Keeps generation moment opens_since Quiet w ran k.log m.log) world r.stores
+
+    by_result : (imported : Result Imported ImportStop) → Tells (import_told s relation input) imported
+        → RunsFirst faults Keeps generation moment opens_since Quiet k m lines
+        → OnOk imported (RunsToEnd faults Keeps generation moment opens_since Quiet k m lines)
+        → IfErr imported (StopsAs faults k m)
+        → EndedBy imported rose status before after
+        → Log s k.log m.log relation input status before after
+    by_result (Ok made) tells first all stops e = record {
+      ran = map unmarked lines;
+      rest = [];
+      lines = all.lines;
+      stores = stores_at (map unmarked lines) [] all;
+      ends = ends_made (import_told s relation input) (map unmarked lines) [] before after made rose status (tells, refl, none_marked lines) e;
+      spared = λ n is. made_row made rose n status before after is e;
+    }
+    by_result (Err stop) tells first all stops e = record {
+      ran = first.0;
+      rest = first.1;
+      lines = first.2.lines;
+      stores = stores_at first.0 first.1 first.2;
+      ends = subst (λ (t : Status). EndsImport t (import_told s relation input) first.0 first.1 before after) (sym e.0) (ends_stop (import_told s relation input) first.0 first.1 before after stop rose tells e.1);
+      spared = λ n is. row_spares k m stop rose n (sym e.0 ∙ is) stops;
+    }
+
+  -- an import into a core on which nothing was run before
+  pub imports_told : (k m : Logged L) (s : State) (n : ℕ) (log log' : L) (relation input : List ℕ) (rose : Bool) (status : Status) (before after : Option (List ℕ)) (imported : Result Imported ImportStop)
+      → k.kept ≡ new_kept s n → k.log ≡ log → log' ≡ m.log
+      → Tells (import_told k.kept.now relation input) imported
+      → RunsFirst faults Keeps generation moment opens_since Quiet k m (lines_told k.kept.now relation input)
+      → OnOk imported (RunsToEnd faults Keeps generation moment opens_since Quiet k m (lines_told k.kept.now relation input))
+      → IfErr imported (StopsAs faults k m)
+      → EndedBy imported rose status before after
+      → Log s log log' relation input status before after
+  imports_told k m s n log log' relation input rose status before after imported kept same after_is tells first all stops e =
+      let now : k.kept.now ≡ s = ap (λ (x : Kept). x.now) kept in
+      subst (λ (p : L × L). Log s p.0 p.1 relation input status before after) (λ i. (same i, sym after_is i))
+      (by_result s k m relation input rose status before after (ap (λ (x : Kept). world_of x) kept) imported
+      (subst (λ (x : State). Tells (import_told x relation input) imported) now tells)
+      (subst (λ (x : State). RunsFirst faults Keeps generation moment opens_since Quiet k m (lines_told x relation input)) now first)
+      (subst (λ (x : State). OnOk imported (RunsToEnd faults Keeps generation moment opens_since Quiet k m (lines_told x relation input))) now all)
+      stops e)
+
+-- ---- on two files
+
+module _ {D : Type 0} (g : Ghosts D) (disks : Pair D) (a b : Dataset D g) (s : State) (es : List Entry) (relation input : List ℕ) (status : Status) (before after : Option (List ℕ)) (only : BothOnlyRead g disks (pair_in a)) where
+  pub imports_files : KeepsIn a s es None → ImportsLog (faults_l g) KeepsIn generation_in moment_in OpensSinceIn QuietIn s a b relation input status before after
+      → (c d : List ℕ) → reads c d ≡ counts (counted_in a) (generation_in a) (opened s es (place_in a)) → (AreAllOnDisk g disks → StaysQuiet (moments_of g disks) a c d) → RunsImport g disks (pair_in b) relation input status before after c d
+  imports_files kept r c d is quiet = record {
+    file = counted_in a;
+    generation = generation_in a;
+    state = s;
+    entries = es;
+    at = place_in a;
+    opens = is;
+    ran = r.ran;
+    rest = r.rest;
+    lines = r.lines;
+    runs = runs_on g disks a b s es only kept r.ran r.stores c d is quiet;
+    ends = r.ends;
+  }

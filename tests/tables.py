@@ -1,0 +1,237 @@
+"""The program on files of rows: `import` and `export`, of texts as spreadsheets, pandas and sqlite3 write them.
+
+What a text's rows are was written by hand. What `export` writes is read back by Python's csv, and by sqlite3 where it is installed.
+"""
+import csv, io, os, random, re, resource, shutil, subprocess, tempfile, time
+
+from on_files import Base
+
+MARK = b"\xef\xbb\xbf"
+TWO = b"1,10,20\n2,-5,0\n"
+MOST = 65536
+
+# What a text has, the text, and the rows that it is, as `export` writes them.
+TAKEN = (
+    ("rows as pandas writes them", TWO, TWO),
+    ("rows as spreadsheets write them, CRLF", b"1,10,20\r\n2,-5,0\r\n", TWO),
+    ("a byte order mark", MARK + TWO, TWO),
+    ("every field quoted", b'"1","10","20"\n"2","-5","0"\n', TWO),
+    ("some fields quoted", b'1,"10",20\n"2",-5,"0"\n', TWO),
+    ("no end of the last line", TWO[:-1], TWO),
+    ("CR alone", b"1,10,20\r2,-5,0\r", TWO),
+    ("empty lines", b"\n\n1,10,20\n\r\n\n2,-5,0\n\n", TWO),
+    ("keys in another order", b"2,-5,0\n1,10,20\n", TWO),
+    ("the ends of the types", b"18446744073709551615,-9223372036854775808,9223372036854775807\n0,0,0\n",
+     b"0,0,0\n18446744073709551615,-9223372036854775808,9223372036854775807\n"),
+    ("no byte", b"", b""),
+    ("a byte order mark alone", MARK, b""),
+    ("empty lines alone", b"\r\n\n", b""),
+)
+
+# What a text has, the text, and its first row that is refused.
+REFUSED = (
+    ("a header", b"key,a,b\n" + TWO, 1),
+    ("a header behind a mark", MARK + b"key,a,b\n" + TWO, 1),
+    ("a column more", b"1,10,20\n2,-5,0,0\n", 2),
+    ("a column less", b"1,10,20\n2,-5\n", 2),
+    ("an empty field, as sqlite3 writes NULL", b"1,10,20\n2,,0\n", 2),
+    ("an empty field at the end", b"1,10,20\n2,-5,\n", 2),
+    ("an index as pandas writes it", b",key,a,b\n0,1,10,20\n", 1),
+    ("a number with a point, as pandas writes a column with gaps", b"1,10.0,20\n", 1),
+    ("a number with an exponent", b"1,1e3,20\n", 1),
+    ("semicolons", b"1;10;20\n", 1),
+    ("tabs", b"1\t10\t20\n", 1),
+    ("a space behind a comma", b"1, 10,20\n", 1),
+    ("a space at the end of a line", b"1,10,20 \n", 1),
+    ("a plus sign", b"1,+10,20\n", 1),
+    ("a leading zero", b"01,10,20\n", 1),
+    ("minus zero", b"1,-0,20\n", 1),
+    ("a key below 0", b"-1,10,20\n", 1),
+    ("a key past its end", b"18446744073709551616,0,0\n", 1),
+    ("a value past its end", b"1,9223372036854775808,0\n", 1),
+    ("a text", b"1,ten,20\n", 1),
+    ("a separator of thousands", b'1,"1,000",20\n', 1),
+    ("a field with a newline", b'1,10,"20\n"\n2,-5,0\n', 1),
+    ("a field with a newline in row 2, which is no line of its own", b'1,10,20\n2,"-5\n",0\n3,1,1\n', 2),
+    ("row 3 behind empty lines", b"1,10,20\n\n\n2,-5,0\n\nx\n", 3),
+    ("a quote that isn't closed", b'1,10,20\n2,"-5,0\n3,1,1\n', 2),
+    ("a quote within a field", b'1,1"0,20\n', 1),
+    ("a comment", b"# rows\n1,10,20\n", 1),
+    ("bytes that are no text", b"1,10,\xff\n", 1),
+    ("a mark in the second row", b"1,10,20\n" + MARK + b"2,-5,0\n", 2),
+    ("a key twice", b"1,10,20\n2,-5,0\n1,10,20\n", 3),
+    ("a key twice, and a later row that is none", b"1,10,20\n1,10,20\nx\n", 3),
+)
+
+
+def imported(rows, position):
+    return 0, b"imported %d master@%d\n" % (rows, position) if rows else b"imported 0\n", b""
+
+
+def refused(row):
+    return 11, b"", b"decibel: bad line %d\n" % row
+
+
+def rows_of(count, columns=2, first=0):
+    return b"".join(b",".join(b"%d" % (k + c) for c in range(columns + 1)) + b"\n" for k in range(first, first + count))
+
+
+def taken(base):
+    for name, text, rows in TAKEN:
+        for file in (0, 1):
+            if os.path.exists(base.path(file)):
+                os.unlink(base.path(file))
+        base.made()
+        yield "import of " + name, base.run("import", text, ("items",)), imported(rows.count(b"\n"), 1)
+        yield "rows of " + name, base.run("export", b"", ("items", "master")), (0, rows, b"")
+
+
+def not_taken(base):
+    base.made(b"1 insert items 7 7 7\n")
+    files = base.read(0), base.read(1)
+    for name, text, row in REFUSED:
+        yield "import of " + name, base.run("import", text, ("items",)), refused(row)
+        yield "nothing is lost after " + name, (base.read(0), base.read(1)), files
+    yield "a key that is there", base.run("import", b"6,0,0\n7,0,0\n", ("items",)), refused(2)
+    yield "no relation", base.run("import", b"no row\n", ("notes",)), refused(0)
+    for form in (("Items",), ("key",), ("",), ("items", "master"), ()):
+        yield "import %s" % (form,), base.run("import", TWO, form), (2, b"", b"decibel: usage\n")
+    yield "nothing is lost after all", (base.read(0), base.read(1)), files
+
+
+def again(base):
+    """Two rows, exported, and the same import once more."""
+    yield "import into no files", base.run("import", TWO, ("items",)), (3, b"", b"decibel: not a dataset\n")
+    base.made()
+    yield "two rows", base.run("import", TWO, ("items",)), imported(2, 1)
+    yield "two rows exported", base.run("export", b"", ("items", "master")), (0, TWO, b"")
+    yield "the same rows again", base.run("import", TWO, ("items",)), refused(1)
+    yield "no rows make no version", base.run("import", b"", ("items",)), imported(0, 0)
+    yield "check of two rows", base.run("check"), (0, b"ok generation 1 branches 1 versions 2 entries 1\n", b"")
+    yield "a script behind an import", base.run("script", b"1 update items 2 a=7\n1 minus items master master@1\n"), (
+        0, b"> 1 update items 2 a=7\nok master@2\n> 1 minus items master master@1\nrow 2 7 0\nrows 1\n", b"")
+    base.write(0, base.read(0)[:150])
+    yield "import into a damaged file", base.run("import", TWO, ("items",)), (4, b"", b"decibel: damaged file 0 at 124\n")
+
+
+def most_rows(base):
+    base.made()
+    most = rows_of(MOST)
+    yield "a row too many", base.run("import", rows_of(MOST + 1), ("items",)), refused(MOST + 1)
+    yield "a row too many that is none", base.run("import", most + b"x\n", ("items",)), refused(MOST + 1)
+    for turn in range(4):
+        yield "65,536 rows, time %d" % (turn + 1), base.run("import", rows_of(MOST, 2, turn * MOST), ("items",)), imported(MOST, turn + 1)
+    yield "a full relation", base.run("import", b"300000,0,0\n", ("items",)), refused(1)
+    yield "262,144 rows", base.run("export", b"", ("items", "master")), (0, rows_of(4 * MOST), b"")
+    yield "of the second version", base.run("export", b"", ("items", "master@2")), (0, rows_of(2 * MOST), b"")
+
+
+def all_versions(base):
+    base.made(b"1 insert items 1 0 0\n" + b"".join(b"1 update items 1 a=%d\n" % n for n in range(1, 65535)))
+    yield "a branch without a place for a version", base.run("import", b"2,0,0\n", ("items",)), refused(1)
+
+
+def devices(base):
+    base.made()
+    files = base.read(0), base.read(1)
+
+    def by_shell(streams):
+        done = subprocess.run(["sh", "-c", '"$0" import "$1" items ' + streams, base.program, base.name], input=TWO, stdout=subprocess.PIPE, stderr=subprocess.PIPE)
+        return done.returncode, done.stdout, done.stderr
+
+    yield "import of a closed input", by_shell("<&-"), (5, b"", b"decibel: read fault\n")
+    yield "import of too many bytes", base.run("import", b"\n" * 16_777_217, ("items",)), (8, b"", b"decibel: too long\n")
+    yield "no byte of it in the files", (base.read(0), base.read(1)), files
+    yield "import of 16,777,216 bytes", base.run("import", b"\n" * (16_777_216 - len(TWO)) + TWO, ("items",)), imported(2, 1)
+    yield "what was acknowledged stays after a write fault", by_shell(">/dev/full"), (11, b"", b"decibel: bad line 1\n")
+    for file in (0, 1):
+        os.unlink(base.path(file))
+    base.made()
+    yield "import to a full device", by_shell(">/dev/full"), (6, b"", b"decibel: write fault\n")
+    yield "its rows are there", base.run("export", b"", ("items", "master")), (0, TWO, b"")
+
+
+def no_room(base):
+    """A disk that takes no more: nothing is put, and the rows aren't there."""
+    base.made()
+    room = len(base.read(0)) + 100
+    done = subprocess.run([base.program, "import", base.name, "items"], input=rows_of(1000), stdout=subprocess.PIPE, stderr=subprocess.PIPE, restore_signals=False,
+                          preexec_fn=lambda: resource.setrlimit(resource.RLIMIT_FSIZE, (room, room)))
+    yield "import to a disk without room", (done.returncode, done.stdout, done.stderr), (7, b"", b"decibel: disk fault\n")
+    yield "none of its rows are there", base.run("export", b"", ("items", "master")), (0, b"", b"")
+    yield "the same rows, with room", base.run("import", rows_of(1000), ("items",)), imported(1000, 1)
+
+
+def killed(base):
+    """The program killed at a random moment of an import: all of its rows are there, or none."""
+    source, found = random.Random(12), set()
+    rows = rows_of(20000)
+    base.made()
+    started = time.monotonic()
+    base.run("import", rows, ("items",))
+    whole = time.monotonic() - started
+    for _ in range(40):
+        for file in (0, 1):
+            os.unlink(base.path(file))
+        base.made()
+        with tempfile.TemporaryFile() as given:
+            given.write(rows)
+            given.seek(0)
+            program = subprocess.Popen([base.program, "import", base.name, "items"], stdin=given, stdout=subprocess.DEVNULL, stderr=subprocess.DEVNULL)
+            time.sleep(source.random() * whole * 1.2)
+            program.kill()
+            program.wait()
+        status, there, _ = base.run("export", b"", ("items", "master"))
+        found.add((status, "all" if there == rows else "none" if not there else "some"))
+    yield "rows of an import that was killed", found <= {(0, "all"), (0, "none")}, True
+
+
+def read_back(base):
+    """What `export` writes is read by others as the same numbers."""
+    source = random.Random(11)
+    ends = [0, 1, -1, 2 ** 63 - 1, -2 ** 63]
+    rows = {source.choice([0, 1, 2 ** 63 - 1, source.randrange(2 ** 63)]): [source.choice(ends + [source.randrange(-10 ** 6, 10 ** 6)]) for _ in range(2)] for _ in range(500)}
+    shuffled = list(rows.items())
+    source.shuffle(shuffled)
+    text = io.StringIO()
+    csv.writer(text, quoting=csv.QUOTE_ALL).writerows([k, *v] for k, v in shuffled)
+    base.made()
+    yield "import of what Python's csv writes", base.run("import", text.getvalue().encode(), ("items",)), imported(len(rows), 1)
+    written = base.run("export", b"", ("items", "master"))[1]
+    wanted = [[k, *rows[k]] for k in sorted(rows)]
+    yield "export read by Python's csv", [[int(x) for x in row] for row in csv.reader(io.StringIO(written.decode()))], wanted
+    if not shutil.which("sqlite3"):
+        print("tests/run: there is no sqlite3, so it read no export")
+        return
+    path = os.path.join(base.folder, "rows.csv")
+    with open(path, "wb") as f:
+        f.write(written)
+    script = "create table t (key integer primary key, a integer, b integer);\n.mode csv\n.import %s t\nselect * from t order by key;\n" % path
+    done = subprocess.run(["sqlite3", ":memory:"], input=script.encode(), stdout=subprocess.PIPE, stderr=subprocess.PIPE)
+    yield "export read by sqlite3", (done.stderr, [[int(x) for x in row] for row in csv.reader(io.StringIO(done.stdout.decode()))]), (b"", wanted)
+    for file in (0, 1):
+        os.unlink(base.path(file))
+    base.made()
+    yield "import of what sqlite3 writes", base.run("import", done.stdout, ("items",)), imported(len(rows), 1)
+    yield "which is the same", base.run("export", b"", ("items", "master")), (0, written, b"")
+
+
+def told_apart(base):
+    """`git diff` of two exports shows a line for each changed row."""
+    base.made(b"1 begin 65536\n" + b"".join(b"1 insert items %d %d 0\n" % (k, k) for k in range(2000)) + b"1 commit\n")
+    base.run("script", b"1 begin\n1 update items 5 a=6\n1 update items 1999 b=1\n1 delete items 700\n1 insert items 5000 1 1\n1 commit\n")
+    paths = []
+    for version in ("master@1", "master@2"):
+        paths.append(os.path.join(base.folder, version + ".csv"))
+        with open(paths[-1], "wb") as f:
+            f.write(base.run("export", b"", ("items", version))[1])
+    done = subprocess.run(["git", "diff", "--no-index", "--unified=0", *paths], stdout=subprocess.PIPE)
+    changed = sorted(line for line in done.stdout.split(b"\n") if re.match(rb"[-+]\d", line))
+    yield "git diff of two exports", changed, sorted([b"-5,5,0", b"+5,6,0", b"-1999,1999,0", b"+1999,1999,1", b"-700,700,0", b"+5000,1,1"])
+
+
+def checks(program):
+    """Names with what was found and what should be."""
+    for part in (taken, not_taken, again, most_rows, all_versions, devices, no_room, killed, read_back, told_apart):
+        with tempfile.TemporaryDirectory(dir="/dev/shm" if os.path.isdir("/dev/shm") else None) as folder:
+            yield from part(Base(program, folder))
