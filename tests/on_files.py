@@ -171,6 +171,32 @@ def not_there(base):
         yield verb + " of a folder", base.run(verb, SCHEMA if verb == "create" else b""), (7, b"", b"decibel: disk fault\n")
 
 
+def closed_streams(base):
+    """A standard stream that is closed is no file of the dataset: nothing that is put to it goes there, and nothing is read from there."""
+    line = b"1 insert items 1 1 1\n"
+
+    def by_shell(verb, streams, more="", given=line):
+        done = subprocess.run(["sh", "-c", '"$0" %s "$1" %s %s' % (verb, more, streams), base.program, base.name], input=given, stdout=subprocess.PIPE, stderr=subprocess.PIPE)
+        return done.returncode, done.stdout, done.stderr
+
+    base.made()
+    new = base.read(0)
+    yield "script without an input", by_shell("script", "<&-"), (5, b"", b"decibel: read fault\n")
+    yield "the files without an input", (base.read(0), base.read(1)), (new, b"")
+    yield "script without an output", by_shell("script", ">&-"), (6, b"", b"decibel: write fault\n")
+    yield "the line without an output", base.run("check"), (0, b"ok generation 1 branches 1 versions 2 entries 1\n", b"")
+    for verb, more in (("check", ""), ("export", "items master"), ("import", "items")):
+        before = base.read(0), base.read(1)
+        found = by_shell(verb, ">&-", more)
+        yield "%s without an output" % verb, found, (11, b"", b"decibel: bad line 1\n") if verb == "import" else (6, b"", b"decibel: write fault\n")
+        yield "the files after %s without an output" % verb, (base.read(0), base.read(1)), before
+    yield "script without a stream for what is wrong", by_shell("script", "2>&-"), (0, answered((line[:-1], b"refused 6 key there items 1")), b"")
+    yield "all that after closed streams", base.run("check"), (0, b"ok generation 1 branches 1 versions 2 entries 1\n", b"")
+    os.unlink(base.path(0))
+    yield "create without an output", by_shell("create", ">&-", "", SCHEMA), (6, b"", b"decibel: write fault\n")
+    yield "the files after create without an output", (base.read(0), base.read(1)), (new, b"")
+
+
 def full_disk(base):
     """A disk with little room: a commit that finds none is refused, and what was acknowledged stays."""
     place = os.path.join(base.folder, "small")
@@ -259,7 +285,7 @@ def examples(base, folder):
 
 def checks(program, top):
     """Names with what was found and what should be."""
-    for part in (new_ones, bad_schemas, last_comments, stored, exported, empty_ones, one_insert, again, not_there, full_disk, no_permission, killed, examples):
+    for part in (new_ones, bad_schemas, last_comments, stored, exported, empty_ones, one_insert, again, not_there, closed_streams, full_disk, no_permission, killed, examples):
         with tempfile.TemporaryDirectory() as folder:
             base = Base(program, folder)
             yield from part(base, os.path.join(top, "examples")) if part is examples else part(base)
