@@ -1,7 +1,7 @@
 -- The slots of a bitmap, one after another, and the shortest bitmap of them.
-use Rattle.std.proofs.Common.{◌≡◌, ◌⊎◌, inl, inr, ℕ, zero, suc, ◌+◌, ◌-◌, ◌<◌, ◌≤◌, ◌==◌, ◌&&◌, Bool, true, false, cond, List, [], ◌∷◌, ◌++◌, length, map, take, refl, arith, ap, sym, ◌∙◌, zero-add, ext_get_or}
+use Rattle.std.proofs.Common.{◌≡◌, ◌⊎◌, inl, inr, ℕ, zero, suc, ◌+◌, ◌-◌, ◌<◌, ◌≤◌, ◌==◌, ◌&&◌, Bool, true, false, cond, List, [], ◌∷◌, ◌++◌, length, map, take, get_or, refl, arith, ap, sym, ◌∙◌, zero-add, ext_get_or}
 use Rattle.std.proofs.lemmas.Bool.{cases_lt, cases_Bool, eq-eqb, ne_eqb}
-use Rattle.std.proofs.lemmas.List.{append-nil, map-append, length-take-le, get_or-take}
+use Rattle.std.proofs.lemmas.List.{append-nil, map-append, length-take-le, get_or-take, take_more}
 use Rattle.std.proofs.lemmas.List.FromFn.{get_or-map-range_with_len, length-map-range_with_len}
 use Rattle.plain_bits.specs.Truth.{bit_of, differ, IsClearFrom}
 use Rattle.commit_history.specs.Sparse.{is_flipped, flipped}
@@ -130,3 +130,20 @@ short_front bits (suc n) h clear last =
     sym (ap (λ m. flipped m (slots_of bits)) end ∙ ap (flipped (suc n)) whole ∙ ext_get_or false (flipped (suc n) (slots_where (bit_of bits) (suc n))) (take (suc n) bits) (long ∙ sym front) (λ k lt.
     let l : k < suc n = omega (arith, lt, long) in
     bit_flipped (suc n) (slots_where (bit_of bits) (suc n)) k l ∙ flipped_in (bit_of bits) (suc n) k l ∙ sym (get_or-take (suc n) bits k false l)))
+
+-- ---- deltas made shortest, one after another
+
+-- a delta that is made shortest keeps its slots
+pub short_same : (d : List Bool) → slots_of (shortest (slots_of d)) ≡ slots_of d
+short_same d = short_slots (bit_of d) (length d)
+
+pub shorts_same : (ds : List (List Bool)) → map slots_of (map shortest (map slots_of ds)) ≡ map slots_of ds
+shorts_same [] = refl
+shorts_same (d ∷ ds) = λ i. short_same d i ∷ shorts_same ds i
+
+-- the deltas up to the next one
+pub shorts_next : (ds : List (List Bool)) (n : ℕ) → n < length ds → map shortest (map slots_of (take (n + 1) ds)) ≡ map shortest (map slots_of (take n ds)) ++ shortest (slots_of (get_or ds n [])) ∷ []
+shorts_next ds n h =
+    ap (λ (xs : List (List Bool)). map shortest (map slots_of xs)) (take_more ds n [] h)
+    ∙ ap (map shortest) (map-append slots_of (take n ds) (get_or ds n [] ∷ []))
+    ∙ map-append shortest (map slots_of (take n ds)) (slots_of (get_or ds n []) ∷ [])

@@ -48,6 +48,10 @@ pushed_row s next = record s { deltas = s.deltas ++ next.delta.item ∷ [] }
 abbrev pub begun_row : Piece → KeptRow
 begun_row p = record { segment = p.segment; from = 0; deltas = shortest (slots_of p.bits) ∷ [] }
 
+-- a row of these deltas, each as short as it can be
+abbrev pub shortest_row : ℕ → ℕ → List (List Bool) → KeptRow
+shortest_row segment from deltas = record { segment = segment; from = from; deltas = map shortest (map slots_of deltas) }
+
 -- one row more, and for how many rows in all there is room with it
 pub record MoreRow : Type 0 where
   pub row : KeptRow

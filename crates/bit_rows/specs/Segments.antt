@@ -18,6 +18,7 @@ pub record KeptList : Type 0 where
 abbrev pub kept_records_code : Coded KeptRecords
 kept_records_code = code_by (Option ℕ × Rows) (coded× (coded_option coded_ℕ) rows_code) (λ k. (k.head, k.rows)) (λ p. record { head = p.0; rows = p.1 }) (λ _. refl)
 
+-- and so can the segments of a relation
 abbrev pub kept_list_code : Coded KeptList
 kept_list_code = code_by (List KeptRecords × ℕ) (coded× (coded_list kept_records_code) coded_ℕ) (λ k. (k.all, k.room)) (λ p. record { all = p.0; room = p.1 }) (λ _. refl)
 

@@ -152,10 +152,17 @@ impl KeptSegments {
         requires { length self.old.all < self.old.room }
         ensures { self.new ≡ with_head self.old branch (arc_value records) }
     {
-        self.items.push_reserved(KeptSegment {
-            head: Some(branch),
-            records,
-        });
+        self.push(Some(branch), records);
+    }
+
+    /// Adds a segment: the head of a branch, or an internal one. It takes no memory.
+    pub fn push(&mut self, head: Option<u32>, records: Arc<Segment>)
+        requires { length self.old.all < self.old.room }
+        ensures { self.new ≡ record self.old {
+          all = self.old.all ++ record { head = head; rows = arc_value records } ∷ [];
+        } }
+    {
+        self.items.push_reserved(KeptSegment { head, records });
     }
 }
 

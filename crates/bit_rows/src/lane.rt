@@ -1,10 +1,10 @@
 //! A branch: its versions, its rows of bits, and what its last version has.
-ghost use Rattle.std.specs.Prelude.{◌≡◌, ◌≤◌, ◌<◌, ◌+◌, ◌∷◌, ◌++◌, [], ℕ, length, IfOk, OnOk, None};
+ghost use Rattle.std.specs.Prelude.{◌≡◌, ◌≤◌, ◌<◌, ◌+◌, ◌∷◌, ◌++◌, [], ℕ, length, vec_capacity, IfOk, OnOk, None};
 ghost use Rattle.std.specs.Arc.{arc_value};
 ghost use Rattle.std.proofs.Common.{get_or};
 ghost use Rattle.commit_history.specs.Runs.{next_of};
 ghost use Rattle.bit_rows.specs.Rows.{kept_row_at, next_at, pushed_row};
-ghost use Rattle.bit_rows.specs.Kept.{kept_rows, nexts_at, more_at};
+ghost use Rattle.bit_rows.specs.Kept.{kept_rows, nexts_at, more_at, AreReady, ArePushed};
 
 use crate::more::MoreRows;
 use crate::rows::{BitRows, NextDeltas};
@@ -100,14 +100,36 @@ impl HybridLane {
     {
         let mut seconds = Vec::new(alloc);
         seconds.push(None)?;
-        Ok(HybridLane {
+        Ok(HybridLane::of(name, origin, base, seconds, rows, head))
+    }
+
+    /// A branch with these versions, by their second parents. It takes no memory.
+    pub fn of(
+        name: Name,
+        origin: VersionPlace,
+        base: VersionPlace,
+        seconds: Vec<Option<VersionPlace>>,
+        rows: Vec<BitRows>,
+        head: HybridView,
+    ) -> HybridLane
+        ensures { result ≡ record {
+          name = name;
+          origin = origin;
+          base = base;
+          seconds = seconds.items;
+          rows = rows.items;
+          head = arc_value head.table;
+          room = vec_capacity seconds;
+        } }
+    {
+        HybridLane {
             name,
             origin,
             base,
             seconds,
             rows,
             head,
-        })
+        }
     }
 
     /// Its name.
@@ -115,6 +137,13 @@ impl HybridLane {
         ensures { result ≡ self.now.name }
     {
         self.name
+    }
+
+    /// The place from which it was made.
+    pub fn origin(&self) -> VersionPlace
+        ensures { result ≡ self.now.origin }
+    {
+        self.origin
     }
 
     /// The version that stands at position 0, by where it was made.
@@ -173,25 +202,13 @@ impl HybridLane {
     /// Adds a version: its second parent, what is ready for the rows, and what it has. It takes no memory.
     pub fn push(&mut self, second: Option<VersionPlace>, deltas: Vec<NextDeltas>, head: HybridView)
         requires room { length self.old.seconds < self.old.room }
-        requires count { length deltas.items ≡ length self.old.rows }
-        requires counts { (r : ℕ) → r < length self.old.rows
-            → length (nexts_at deltas.items r) ≡ length (kept_rows self.old r) }
-        requires ready { (r i : ℕ) → r < length self.old.rows → i < length (kept_rows self.old r)
-            → next_at (nexts_at deltas.items r) i
-            ≡ next_of (kept_row_at (kept_rows self.old r) i).deltas
-            (next_at (nexts_at deltas.items r) i).delta.item }
+        requires ready { AreReady self.old.rows deltas.items }
         ensures lane { self.new ≡ record self.old {
           seconds = self.old.seconds ++ second ∷ [];
           rows = self.new.rows;
           head = arc_value head.table;
         } }
-        ensures count { length self.new.rows ≡ length self.old.rows }
-        ensures counts { (r : ℕ) → r < length self.old.rows
-            → length (kept_rows self.new r) ≡ length (kept_rows self.old r) }
-        ensures each { (r i : ℕ) → r < length self.old.rows → i < length (kept_rows self.old r)
-            → kept_row_at (kept_rows self.new r) i
-            ≡ pushed_row (kept_row_at (kept_rows self.old r) i)
-            (next_at (nexts_at deltas.items r) i) }
+        ensures pushed { ArePushed self.old.rows deltas.items self.new.rows }
     {
         push_all(&mut self.rows, deltas);
         self.seconds.push_reserved(second);

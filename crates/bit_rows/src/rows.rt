@@ -5,7 +5,7 @@ ghost use Rattle.plain_bits.specs.Truth.{bit_of, IsClearFrom};
 ghost use Rattle.commit_history.specs.Runs.{next_of};
 ghost use Rattle.hybrid_view.specs.Deltas.{slots_of};
 ghost use Rattle.bit_rows.specs.Short.{end_of, shortest};
-ghost use Rattle.bit_rows.specs.Rows.{kept_row_at, next_at, pushed_row};
+ghost use Rattle.bit_rows.specs.Rows.{kept_row_at, next_at, pushed_row, shortest_row};
 
 use crate::more::{MoreRows, add_row};
 use commit_history::{Delta, History, NextDelta};
@@ -102,6 +102,29 @@ impl BitRow {
             segment,
             from,
             deltas,
+        })
+    }
+
+    /// The row of a segment from a position on, at which and after which these deltas change bits.
+    #[tactic(auto, using(crate::proofs::ShortLemmas::shorts_next))]
+    pub fn of(
+        alloc: Global,
+        segment: u32,
+        from: u32,
+        deltas: &History,
+    ) -> Result<BitRow, AllocError>
+        ensures { IfOk result (λ row. row ≡ shortest_row segment from deltas.now) }
+    {
+        let mut short = History::new(alloc);
+        for index in 0..deltas.len() {
+            let bits = deltas.delta(index).bits(alloc)?;
+            let next = short.ready_delta(whole_delta(alloc, &bits)?)?;
+            short.push(next);
+        }
+        Ok(BitRow {
+            segment,
+            from,
+            deltas: short,
         })
     }
 
@@ -240,14 +263,6 @@ impl BitRows {
         ensures { result.now ≡ kept_row_at self.now index }
     {
         &self.items[index]
-    }
-
-    /// The number of the branch's head.
-    pub fn head(&self) -> u32
-        requires { 0 < length self.now }
-        ensures { result ≡ (kept_row_at self.now (length self.now - 1)).segment }
-    {
-        self.items[self.items.len() - 1].segment
     }
 
     /// Adds to each row the delta that is ready for it. It takes no memory.

@@ -71,6 +71,7 @@ abbrev pub updated : List Set → Option (List Value) → Option (List Value)
 updated sets None = None
 updated sets (Some old) = Some (with_sets old sets)
 
+-- the record of a key with these fields, if it has any
 abbrev pub record_with : ℕ → Option (List Value) → Option Record
 record_with key None = None
 record_with key (Some fields) = Some (record { key = key; fields = fields })
@@ -79,6 +80,7 @@ record_with key (Some fields) = Some (record { key = key; fields = fields })
 abbrev pub refused : {W : Type 0} → Tx W → Refusal → Outcome W
 refused tx why = record { tx = tx; reply = Refused why }
 
+-- a line with this reply leaves the transaction so
 abbrev pub answered : {W : Type 0} → Tx W → Reply → Outcome W
 answered tx reply = record { tx = tx; reply = reply }
 

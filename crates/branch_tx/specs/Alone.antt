@@ -27,6 +27,7 @@ use Rattle.branch_tx.specs.Merging.{merge_in}
 abbrev pub usual_room : ℕ
 usual_room = 1024
 
+-- the room that `begin` asks for, or the usual room
 abbrev pub room_of : Option ℕ → ℕ
 room_of None = usual_room
 room_of (Some n) = n
@@ -49,6 +50,7 @@ told d b true reply = reply
 told d b false Done = made_next d b
 told d b false reply = reply
 
+-- a line's end, with the reply that its session is told
 abbrev pub told_of : {W : Type 0} → Dataset → ℕ → Bool → Outcome W → Outcome W
 told_of d b begun o = record { tx = o.tx; reply = told d b begun o.reply }
 
@@ -56,12 +58,14 @@ told_of d b begun o = record { tx = o.tx; reply = told d b begun o.reply }
 abbrev pub common_table : Dataset → ℕ → ℕ → Table
 common_table d b c = table_at d (common d (head_place d b) (head_place d c))
 
+-- where the named version stands, if there is one
 abbrev pub place_in : Found → VersionPlace
 place_in (NoBranch name) = record { branch = 0; position = 0 }
 place_in (NoPosition b name n) = record { branch = b; position = 0 }
 place_in (Head at table) = at
 place_in (Fixed at table) = at
 
+-- `on` moves the session to the branch, if there is one of that name
 abbrev pub on_of : {W : Type 0} → Tx W → List ℕ → Option ℕ → Outcome W
 on_of tx name None = refused tx (RefusedBranch name)
 on_of tx name (Some b) = answered (record tx { moved = Some b }) Done
@@ -72,6 +76,7 @@ branch_as tx name at (Some why) there count = refused tx why
 branch_as tx name at None (Some old) count = refused tx (BranchThere name)
 branch_as tx name at None None count = cond (nat_lt count most_branches) (answered (record tx { made = Some (name, at) }) (Made name 0)) (refused tx BranchesFull)
 
+-- `branch` with the version that its origin names
 abbrev pub branch_of : {W : Type 0} → Dataset → Tx W → List ℕ → Found → Outcome W
 branch_of d tx name f = branch_as tx name (place_in f) (lack f) (branch_named d name) (length d.branches)
 

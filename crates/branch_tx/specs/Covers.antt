@@ -33,6 +33,7 @@ abbrev pub has_heads : Granted → Option (List (List ℕ)) → Bool
 has_heads g None = false
 has_heads g (Some names) = list_all (λ name. has_version g (plain name)) names
 
+-- whether each version that a scan reads is at hand
 abbrev pub has_over : Granted → ScanOver → Bool
 has_over g Current = is_some g.held
 has_over g (Named names) = list_all (has_version g) names

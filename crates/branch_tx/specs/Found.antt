@@ -11,6 +11,7 @@ pub data Source : Type 0 where
   Other : (table : Table) → Source
   Lacking : (why : Refusal) → Source
 
+-- what a transaction on branch b reads if it asks for the named version
 abbrev pub source_of : ℕ → Found → Source
 source_of b (NoBranch name) = Lacking (RefusedBranch name)
 source_of b (NoPosition c name n) = Lacking (RefusedVersion name n)
@@ -23,6 +24,7 @@ lacking Own = None
 lacking (Other table) = None
 lacking (Lacking why) = Some why
 
+-- the first refusal of the two
 abbrev pub lacking_or : Option Refusal → Option Refusal → Option Refusal
 lacking_or None behind = behind
 lacking_or (Some why) behind = Some why

@@ -53,6 +53,7 @@ abbrev pub Within : (ℕ → Type 0) → List Need → Type 0
 Within N [] = Unit {0}
 Within N (n ∷ ns) = N n.lock × Within N ns
 
+-- each line's needs are within those of the branches that N allows
 abbrev pub AllWithin : (ℕ → Type 0) → List (List Need) → Type 0
 AllWithin N [] = Unit {0}
 AllWithin N (ns ∷ more) = Within N ns × AllWithin N more
@@ -62,6 +63,7 @@ abbrev pub Spares : (ℕ → Type 0) → Entry → Type 0
 Spares N (Commit b second changes) = N (lock_of b) → ⊥
 Spares N (NewBranch name origin) = N catalogue → ⊥
 
+-- each entry leaves the branches that N names as they are
 abbrev pub AllSpare : (ℕ → Type 0) → List Entry → Type 0
 AllSpare N [] = Unit {0}
 AllSpare N (e ∷ es) = Spares N e × AllSpare N es

@@ -26,6 +26,7 @@ use Rattle.branch_tx.specs.Frame.{is_changed}
 use Rattle.branch_tx.specs.Shown.{Shown, shown_code, ViewsOf}
 use Rattle.db_store.specs.State.{State}
 
+-- a transaction with what it was granted: all that a covered line needs to be answered
 pub record Granted : Type 0 where
   pub schema : List Relation
   -- the branch that it works on
@@ -46,12 +47,15 @@ pub record Granted : Type 0 where
   -- the names of all branches, once they were noted
   pub heads : Option (List (List ℕ))
 
+-- a relation can be written as numbers
 abbrev pub relation_code : Coded Relation
 relation_code = code_by (List ℕ × List (List ℕ)) (coded× (coded_list coded_ℕ) (coded_list (coded_list coded_ℕ))) (λ r. (r.name, r.columns)) (λ p. record { name = p.0; columns = p.1 }) (λ _. refl)
 
+-- the name of a version can be written as numbers
 abbrev pub version_code : Coded VersionName
 version_code = code_by (List ℕ × Option ℕ) (coded× (coded_list coded_ℕ) (coded_option coded_ℕ)) (λ v. (v.branch, v.position)) (λ p. record { branch = p.0; position = p.1 }) (λ _. refl)
 
+-- the place of a version can be written as numbers
 abbrev pub place_code : Coded VersionPlace
 place_code = code_by (ℕ × ℕ) (coded× coded_ℕ coded_ℕ) (λ p. (p.branch, p.position)) (λ p. record { branch = p.0; position = p.1 }) (λ _. refl)
 
@@ -76,10 +80,12 @@ views_of g = g.below ∷ g.shown
 abbrev pub AreAllOf : State → Granted → Type 0
 AreAllOf s g = ViewsOf s (views_of g)
 
+-- whether the granted branch has as many versions as it can have
 abbrev pub held_full : Option (Bool × Bool) → Bool
 held_full None = false
 held_full (Some h) = h.1
 
+-- whether two names give the same position, or both give none
 abbrev pub same_position : Option ℕ → Option ℕ → Bool
 same_position None None = true
 same_position None (Some m) = false
@@ -104,6 +110,7 @@ abbrev pub lent_source : Option Table → Source
 lent_source None = Lacking Line
 lent_source (Some t) = Other t
 
+-- what the transaction reads if it asks for a version
 abbrev pub source_in : Granted → VersionName → Source
 source_in g v = cond (is_current g v) Own (lent_source (lent_table g.lent v))
 
@@ -112,9 +119,11 @@ abbrev pub names_or_none : Option (List (List ℕ)) → List (List ℕ)
 names_or_none None = []
 names_or_none (Some names) = names
 
+-- what the transaction knows of its branch
 abbrev pub ground_in : Granted → Ground
 ground_in g = record { schema = g.schema; name = g.name; full = held_full g.held }
 
+-- the transaction itself
 abbrev pub tx_in : Granted → Tx (List Overlay)
 tx_in g = record { begun = true; room = g.room; work = g.overlays; second = g.second; made = None; moved = None }
 
@@ -157,6 +166,7 @@ adopted g from cs = merged_to (over_table g.head) (tx_in g) from cs (merge_refus
 abbrev pub inserted : Granted → ℕ → List ℕ → ℕ → List Value → Outcome (List Overlay)
 inserted g r name key fields = insert_in (over_table g.head) (ground_in g) (tx_in g) r name key fields
 
+-- the end of an update with these new values, or with an unknown column
 abbrev pub updated_by : Granted → ℕ → List ℕ → ℕ → Result (List Set) (List ℕ) → Outcome (List Overlay)
 updated_by g r name key sets = update_in (over_table g.head) (ground_in g) (tx_in g) r name key sets
 
@@ -164,12 +174,15 @@ updated_by g r name key sets = update_in (over_table g.head) (ground_in g) (tx_i
 abbrev pub looked_up : Granted → ℕ → ℕ → Source → Outcome (List Overlay)
 looked_up g r key source = get_from (over_table g.head) (tx_in g) r key source
 
+-- the end of a scan of the rows for which p holds
 abbrev pub scanned : Granted → ℕ → (Record → Bool) → ScanOver → Outcome (List Overlay)
 scanned g r p over = scan_over (over_table g.head) (source_in g) (names_or_none g.heads) (tx_in g) r p over
 
+-- the end of a join of the pairs for which p holds
 abbrev pub joined : Granted → ℕ → ℕ → VersionName → VersionName → (Record → Bool) → Outcome (List Overlay)
 joined g r s v w p = join_in (over_table g.head) (tx_in g) r s (source_in g v) (source_in g w) p
 
+-- the end of `minus`
 abbrev pub told_apart : Granted → ℕ → VersionName → VersionName → Outcome (List Overlay)
 told_apart g r v w = minus_in (over_table g.head) (tx_in g) r (source_in g v) (source_in g w)
 
@@ -185,6 +198,7 @@ placed g r name row = insert_free (over_table g.head) (tx_in g) r name row.key r
 abbrev pub renewed : Granted → ℕ → List ℕ → ℕ → List Set → Outcome (List Overlay)
 renewed g r name key sets = update_free (over_table g.head) (tx_in g) r name key sets
 
+-- the end of a delete
 abbrev pub removed : Granted → ℕ → List ℕ → ℕ → Outcome (List Overlay)
 removed g r name key = delete_free (over_table g.head) (tx_in g) r name key
 

@@ -8,6 +8,7 @@ use Rattle.db_value.specs.declared.entry.Change.{Change}
 use Rattle.db_store.specs.Table.{Contents, Table, relation_at, with_change}
 use Rattle.db_store.specs.Overlay.{Overlay, laid, is_touched, count_touched, touch, changes_from}
 
+-- what a transaction asks of its working table, in whichever form it keeps that
 pub record Keeping (W : Type 0) : Type 0 where
   -- what the working table has of a relation
   pub contents : W → ℕ → Contents
@@ -28,9 +29,11 @@ pub record Private : Type 0 where
 abbrev pub private_copy : Table → Private
 private_copy t = record { table = t; touched = replicate most_relations [] }
 
+-- the touched keys of a relation
 abbrev pub keys_at : Private → ℕ → List ℕ
 keys_at w r = get_or w.touched r []
 
+-- whether a key is one of some
 abbrev pub is_among : ℕ → List ℕ → Bool
 is_among key [] = false
 is_among key (k ∷ ks) = key == k || is_among key ks
@@ -40,10 +43,12 @@ abbrev pub with_key : ℕ → List ℕ → List ℕ
 with_key key [] = key ∷ []
 with_key key (k ∷ ks) = cond (nat_lt key k) (key ∷ k ∷ ks) (cond (key == k) (k ∷ ks) (k ∷ with_key key ks))
 
+-- how many touched keys the relations have together
 abbrev pub count_keys : List (List ℕ) → ℕ
 count_keys [] = 0
 count_keys (ks ∷ more) = length ks + count_keys more
 
+-- the change that gives a key these fields, or none
 abbrev pub change_to : ℕ → ℕ → Option (List Value) → Change
 change_to r key state = record { relation = r; key = key; fields = state }
 

@@ -22,6 +22,7 @@ keys_of o = map (λ e. e.0) (finite.entries o)
 abbrev pub private_of : Table → List Overlay → Private
 private_of t os = record { table = laid t os; touched = map keys_of os }
 
+-- the same transaction with a whole working table in place of overlays
 abbrev pub as_private : Table → Tx (List Overlay) → Tx Private
 as_private t tx = record { begun = tx.begun; room = tx.room; work = private_of t tx.work; second = tx.second; made = tx.made; moved = tx.moved }
 
@@ -43,6 +44,7 @@ IsRoomy (Begin None) = Unit {0}
 IsRoomy (Begin (Some n)) = n ≤ 65536
 IsRoomy _ = Unit {0}
 
+-- each statement that begins a transaction asks for a room that there is
 abbrev pub AllRoomy : List Stmt → Type 0
 AllRoomy [] = Unit {0}
 AllRoomy (x ∷ xs) = IsRoomy x × AllRoomy xs

@@ -24,6 +24,7 @@ abbrev pub field_name : List Relation → ℕ → Option ℕ → Option (List �
 field_name schema r None = None
 field_name schema r (Some c) = Some (get_or (columns_at schema r) c [])
 
+-- the refusal of a merge that meets this clash
 abbrev pub conflict_in : List Relation → Clash → Refusal
 conflict_in schema c = Conflict (relation_name schema c.relation) c.key (field_name schema c.relation c.field)
 

@@ -38,9 +38,11 @@ ViewsOf s views = (v : ℕ) → AreOf s (parts_in views v)
 abbrev pub IsAmong : List Shown → Shown → Type 0
 IsAmong views shown = (v : ℕ) × (get_or views v [] ≡ shown)
 
+-- a record can be written as numbers
 abbrev pub record_code : Coded Record
 record_code = code_by (ℕ × List Value) (coded× coded_ℕ (coded_list coded_value)) (λ r. (r.key, r.fields)) (λ p. record { key = p.0; fields = p.1 }) (λ _. refl)
 
+-- a part can be written as numbers
 abbrev pub part_code : Coded Part
 part_code = code_by (ℕ × List (Record × Bool)) (coded× coded_ℕ (coded_list (coded× record_code coded_bool))) (λ p. (p.id, p.slots)) (λ p. record { id = p.0; slots = p.1 }) (λ _. refl)
 

@@ -5,12 +5,14 @@ use Rattle.db_value.specs.declared.reply.Refusal.TheVariants.{KeyThere as Refuse
 use Rattle.db_store.specs.declared.work.WorkStop.{WorkStop}
 use Rattle.db_store.specs.declared.work.WorkStop.TheVariants.{KeyThere, KeyMissing, TableFull, Room}
 
+-- the refusal of a change that the working table stops
 abbrev pub refusal_of : List ℕ → ℕ → ℕ → WorkStop → Refusal
 refusal_of name key room KeyThere = RefusedThere name key
 refusal_of name key room KeyMissing = RefusedMissing name key
 refusal_of name key room (TableFull relation) = RefusedFull name
 refusal_of name key room Room = RefusedRoom room
 
+-- the refusal of a change, if the working table stops it
 abbrev pub refusal_if : List ℕ → ℕ → ℕ → Option WorkStop → Option Refusal
 refusal_if name key room None = None
 refusal_if name key room (Some stop) = Some (refusal_of name key room stop)

@@ -4,6 +4,7 @@ use Rattle.std.proofs.Common.{get_or}
 use Rattle.db_store.specs.Table.{Table}
 use Rattle.branch_tx.specs.declared.tx.Held.{Held}
 
+-- whether the branch is held exclusively, and whether it is full, if it is held
 abbrev pub held_of : Option Held → Option (Bool × Bool)
 held_of None = None
 held_of (Some h) = Some (h.exclusive, h.full)

@@ -1,5 +1,5 @@
 -- Composites: the exclusive or of each full run of 16 deltas, or of 16 composites, and what one delta more completes.
-use Rattle.std.specs.Prelude.{◌≡◌, ℕ, zero, suc, ◌+◌, ◌-◌, ◌*◌, ◌/◌, ◌%◌, ◌^◌, ◌<◌, ◌==◌, Bool, cond, List, [], ◌∷◌, ◌++◌, length, map, take, drop, Option, Some, None, refl}
+use Rattle.std.specs.Prelude.{◌≡◌, ◌≤◌, ℕ, zero, suc, ◌+◌, ◌-◌, ◌*◌, ◌/◌, ◌%◌, ◌^◌, ◌<◌, ◌==◌, Bool, cond, List, [], ◌∷◌, ◌++◌, length, map, take, drop, Option, Some, None, refl}
 use Rattle.std.specs.List.{range_with_len}
 use Rattle.std.specs.Coded.{Coded, code_by, coded×, coded_ℕ, coded_list, coded_bool, coded_option}
 use Rattle.commit_history.specs.Combined.{combined}
@@ -68,3 +68,7 @@ pub record AreLevels (deltas by_16 by_256 by_4096 : List (List Bool)) : Type 0 w
 abbrev pub room_of : ℕ → ℕ
 room_of zero = 0
 room_of (suc n) = cond (n == room_of n) (2 * n + 4) (room_of n)
+
+-- memory that an item more needs after so many, if they fill their room
+abbrev pub IsRoomAfter : ℕ → List (List Bool) → ℕ → Type 0
+IsRoomAfter n items capacity = (n < 2 ^ 32) × (items ≡ []) × (n ≡ room_of n → room_of (n + 1) ≤ capacity)

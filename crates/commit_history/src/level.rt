@@ -1,6 +1,6 @@
 //! A list of deltas, or of composites, that grows without taking memory.
 ghost use Rattle.std.specs.Prelude.{◌≡◌, ℕ, ◌+◌, ◌<◌, ◌≤◌, ◌^◌, [], ◌∷◌, ◌++◌, length, vec_capacity, Option, OnOk, IfOk, IfSome};
-ghost use Rattle.commit_history.specs.Runs.{Placed, room_of, with_next, composites, completed, completed_by};
+ghost use Rattle.commit_history.specs.Runs.{Placed, room_of, IsRoomAfter, with_next, composites, completed, completed_by};
 
 use crate::delta::Delta;
 use plain_bits::Bits;
@@ -37,8 +37,8 @@ pub(crate) struct NextItem {
 }
 
 impl Model for NextItem {
-    ghost use Rattle.std.specs.Prelude.{◌≡◌, ◌+◌, ◌<◌, ◌≤◌, ◌^◌, [], vec_capacity};
-    ghost use Rattle.commit_history.specs.Runs.{Placed, placed_code, room_of};
+    ghost use Rattle.std.specs.Prelude.{vec_capacity};
+    ghost use Rattle.commit_history.specs.Runs.{Placed, placed_code, IsRoomAfter};
 
     ghost Value = { Placed };
 
@@ -46,8 +46,7 @@ impl Model for NextItem {
 
     ghost view = { λ n. record { item = n.delta; count = n.count } };
 
-    ghost invariant = { λ n. (n.count < 2 ^ 32) × (n.bigger.items ≡ [])
-        × (n.count ≡ room_of n.count → room_of (n.count + 1) ≤ vec_capacity n.bigger) };
+    ghost invariant = { λ n. IsRoomAfter n.count n.bigger.items (vec_capacity n.bigger) };
 }
 
 impl NextItem {
@@ -70,12 +69,9 @@ fn move_all(from: &mut Vec<Delta>, into: &mut Vec<Delta>)
 
 // Moves deltas that fill their room into more room. What comes back is the room for one more.
 fn make_room(items: &mut Vec<Delta>, room: usize, bigger: Vec<Delta>) -> usize
-    requires few { length items.old.items < 2 ^ 32 }
     requires room { room ≡ room_of (length items.old.items) }
     requires there { room ≤ vec_capacity items.old }
-    requires empty { bigger.items ≡ [] }
-    requires bigger { length items.old.items ≡ room_of (length items.old.items)
-        → room_of (length items.old.items + 1) ≤ vec_capacity bigger }
+    requires bigger { IsRoomAfter (length items.old.items) bigger.items (vec_capacity bigger) }
     ensures items { items.new.items ≡ items.old.items }
     ensures room { result ≡ room_of (length items.old.items + 1) }
     ensures there { result ≤ vec_capacity items.new }

@@ -1,10 +1,11 @@
 //! A desk and its board, beside a core that hears the same lines. The replies are written by hand.
-ghost use Rattle.std.specs.Prelude.{◌≡◌, ◌≢◌, [], false, IsTrue, IfOk, OnOk};
+ghost use Rattle.std.specs.Prelude.{◌≡◌, false, IsTrue, IfOk, OnOk};
 ghost use Rattle.reply_text.specs.Reply.{NamesItsRows};
 ghost use Rattle.db_core.specs.Order.{said_of};
 ghost use Rattle.db_core.specs.Kept.{new_kept};
-ghost use Rattle.db_core.specs.Desk.{AtDesk, Agrees};
+ghost use Rattle.db_core.specs.Desk.{Agrees};
 ghost use Rattle.db_core.specs.Sits.{heard};
+ghost use Rattle.core_tests.specs.Desks.{IsBare, KeepsOthers};
 
 use db_core::laws::{new_desk_law, other_lines_law};
 use db_core::{Board, Core, Desk};
@@ -96,10 +97,8 @@ pub fn two_desks<St: Store>(
     alloc: Global,
     store: St,
 ) -> Result<(Board<St, NoLog>, Desk<St>, Desk<St>), Fail>
-    ensures first { IfOk result (λ p. Agrees p.0.kept p.1) }
-    ensures second { IfOk result (λ p. Agrees p.0.kept p.2) }
-    ensures waiting { IfOk result (λ p. (p.1.waiting ≡ []) × (p.2.waiting ≡ [])) }
-    ensures sessions { IfOk result (λ p. (p.1.session ≡ 1) × (p.2.session ≡ 2)) }
+    ensures first { IfOk result (λ p. IsBare 1 p.0.kept p.1) }
+    ensures second { IfOk result (λ p. IsBare 2 p.0.kept p.2) }
 {
     new_desk_law();
     let schema = store.schema().duplicate()?;
@@ -116,16 +115,12 @@ fn visit_alone<St: Store, J: Log<St>>(
     text: &LineText,
     stmt: &Stmt,
 ) -> Result<Reply, Fail>
-    requires agree { Agrees board.old.kept desk.old }
-    requires waiting { desk.old.waiting ≡ [] }
+    requires bare { IsBare desk.old.session board.old.kept desk.old }
     requires line { said_of text.now false ≡ heard desk.old.session stmt.now }
     ensures named { IfOk result NamesItsRows }
-    ensures agree { OnOk result (Agrees board.new.kept desk.new) }
-    ensures waiting { OnOk result (desk.new.waiting ≡ []) }
-    ensures session { OnOk result (desk.new.session ≡ desk.old.session) }
+    ensures bare { OnOk result (IsBare desk.old.session board.new.kept desk.new) }
     ensures others { OnOk result
-        ((k : AtDesk) → Agrees board.old.kept k → k.session ≢ desk.old.session
-        → Agrees board.new.kept k) }
+        (KeepsOthers desk.old.session board.old.kept board.new.kept) }
 {
     other_lines_law();
     let reply = board.visit(desk, text, stmt)?;
@@ -140,14 +135,9 @@ pub fn hold<St: Store, J: Log<St>>(
     line: &str,
     expected: &str,
 ) -> Result<(), Fail>
-    requires agree { Agrees board.old.kept desk.old }
-    requires waiting { desk.old.waiting ≡ [] }
-    requires session { desk.old.session ≡ 2 }
-    ensures agree { OnOk result (Agrees board.new.kept desk.new) }
-    ensures waiting { OnOk result (desk.new.waiting ≡ []) }
-    ensures session { OnOk result (desk.new.session ≡ 2) }
-    ensures others { OnOk result
-        ((k : AtDesk) → Agrees board.old.kept k → k.session ≢ 2 → Agrees board.new.kept k) }
+    requires { IsBare 2 board.old.kept desk.old }
+    ensures bare { OnOk result (IsBare 2 board.new.kept desk.new) }
+    ensures others { OnOk result (KeepsOthers 2 board.old.kept board.new.kept) }
 {
     let text = text_of(alloc, line)?;
     match read_line(alloc, text.as_slice()) {

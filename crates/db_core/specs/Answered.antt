@@ -4,6 +4,7 @@ use Rattle.db_value.specs.declared.entry.Entry.{Entry}
 use Rattle.db_value.specs.declared.reply.Reply.{Reply}
 use Rattle.db_store.specs.State.{State}
 use Rattle.entry_codec.specs.Logs.{Opening}
+use Rattle.reply_text.specs.Reply.{NamesItsRows}
 use Rattle.lock_table.specs.Grants.{without}
 use Rattle.store_tx.specs.Ends.{grown}
 use Rattle.db_core.specs.Order.{Said, said_of, reply_in}
@@ -13,10 +14,17 @@ use Rattle.db_core.specs.Kept.{Kept, Logged, step_of, world_of}
 use Rattle.store_tx.specs.Stored.{Stores, told_if, stored_if}
 
 -- The board has the line behind the others, with its mark and its reply, and nothing else changed but the state and the granted needs. The reply is that of its whole
--- transaction, whatever lines come later.
+-- transaction, whatever lines come later, and each row of it has its names.
 pub record IsAnswered (b c : Kept) (text : List ℕ) (failed : Bool) (r : Reply) : Type 0 where
   pub kept : c ≡ record b { steps = b.steps ++ step_of text failed r ∷ []; now = c.now; rows = c.rows }
   pub reply : (later : List Said) → AllHaveRoom later → r ≡ reply_in (world_of b) (said_of text failed) later
+  pub named : NamesItsRows r
+
+-- A bad line was refused: it was answered without the mark, the world of the lines is as it was, and the log wasn't called.
+pub record IsRefused {L : Type 0} (old new : Logged L) (text : List ℕ) (r : Reply) : Type 0 where
+  pub answered : IsAnswered old.kept new.kept text false r
+  pub world : world_of new.kept ≡ world_of old.kept
+  pub log : new.log ≡ old.log
 
 -- the entry that a line stores, if it stores one
 abbrev pub entry_of : Kept → List ℕ → Option Entry
@@ -28,6 +36,12 @@ abbrev pub Ran :
     (old new : Logged L) (text : List ℕ) (r : Reply) → Type 0
 Ran faults Keeps generation moment opens_since Quiet old new text r =
     (failed : Bool) × IsAnswered old.kept new.kept text failed r × Stores faults Keeps generation moment opens_since Quiet old.kept.now failed (entry_of old.kept text) old.log new.log
+
+-- The end of a transaction with this entry, if it has one, is told r and leaves this state. If the log failed, that is told, and the state stays; otherwise what the transaction
+-- tells is, and the state has the entry.
+pub record EndsAs (st : State) (entry : Option Entry) (told : Reply) (failed : Bool) (r : Reply) (st2 : State) : Type 0 where
+  pub reply : r ≡ told_if failed told
+  pub state : st2 ≡ grown st (stored_if failed entry)
 
 -- the board after the end of a session's transaction with this entry, which the log may have failed to store
 abbrev pub ended_by : Bool → Kept → ℕ → Option Entry → Kept

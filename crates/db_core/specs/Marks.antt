@@ -25,6 +25,7 @@ entry_with w s (Some x) = entry_by w (w.desks s) x (fate_with w s false (Some x)
 abbrev pub MayFail : World → Said → Type 0
 MayFail w x = x.failed ≡ true → is_some (entry_with w x.session x.stmt) ≡ true
 
+-- so it is for each of these lines, one after another from this world on
 abbrev pub AllMayFail : World → List Said → Type 0
 AllMayFail w [] = Unit {0}
 AllMayFail w (x ∷ xs) = MayFail w x × AllMayFail (next w x) xs

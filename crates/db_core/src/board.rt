@@ -3,10 +3,9 @@ ghost use Rattle.std.specs.Prelude.{◌≡◌, [], None, false, IfOk, IfErr, OnO
 ghost use Rattle.db_store.specs.State.{dataset_of};
 ghost use Rattle.stmt_text.specs.declared.stmt.Stmt.{Stmt};
 ghost use Rattle.db_outside.specs.Count.{counted};
-ghost use Rattle.reply_text.specs.Reply.{NamesItsRows};
 ghost use Rattle.db_core.specs.Order.{said_of};
-ghost use Rattle.db_core.specs.Kept.{Stands, world_of, new_kept};
-ghost use Rattle.db_core.specs.Answered.{IsAnswered, Ran, Ended};
+ghost use Rattle.db_core.specs.Kept.{Stands, new_kept};
+ghost use Rattle.db_core.specs.Answered.{Ran, IsRefused, Ended};
 ghost use Rattle.db_core.specs.Sits.{heard, unheard};
 ghost use Rattle.db_core.specs.Sessions.{SitsOn};
 
@@ -133,7 +132,6 @@ impl<St: Store, J: Log<St>> Board<St, J> {
         requires line { said_of text.now false ≡ heard session.old.number stmt.now }
         ensures answered { IfOk result (Ran J.faults J.Keeps J.generation J.moment J.opens_since
             J.Quiet self.old self.new text.now) }
-        ensures named { IfOk result NamesItsRows }
         ensures sits { SitsOn self.new.kept session.new }
         ensures number { session.new.number ≡ session.old.number }
         ensures err { OnErr result (self.new ≡ self.old) }
@@ -167,13 +165,9 @@ impl<St: Store, J: Log<St>> Board<St, J> {
     ) -> Result<Reply, AllocError>
         requires sits { SitsOn self.old.kept session.now }
         requires line { said_of text.now false ≡ unheard session.now.number }
-        ensures answered { IfOk result (λ r.
-            IsAnswered self.old.kept self.new.kept text.now false r) }
-        ensures named { IfOk result NamesItsRows }
-        ensures world { world_of self.new.kept ≡ world_of self.old.kept }
-        ensures log { self.new.log ≡ self.old.log }
+        ensures refused { IfOk result (IsRefused self.old self.new text.now) }
         ensures stands { Stands self.new.kept }
-        ensures err { OnErr result (self.new.kept ≡ self.old.kept) }
+        ensures err { OnErr result (self.new ≡ self.old) }
     {
         let line = text.duplicate()?;
         let why = why_bad(session.skipping);
@@ -187,8 +181,8 @@ impl<St: Store, J: Log<St>> Board<St, J> {
 }
 
 impl<St: Store, J: Log<St>> Board<St, J> {
-    ghost use Rattle.std.specs.Prelude.{◌≢◌, is_some, true};
-    ghost use Rattle.db_core.specs.Desk.{Agrees, IsLeft, GrantsFor, entered, cleared, grant_of, rows_by, needs_for, holder_for};
+    ghost use Rattle.std.specs.Prelude.{is_some, true};
+    ghost use Rattle.db_core.specs.Desk.{Agrees, IsDeskOf, IsLeft, AsksFor, entered, cleared, rows_by, needs_for, holder_for};
     ghost use Rattle.store_tx.specs.Statements.{HasName, entry_over, branch_out, branch_entry};
     ghost use Rattle.db_core.specs.Sits.{tx_of};
     ghost use Rattle.branch_tx.specs.Frame.{step_over};
@@ -197,11 +191,12 @@ impl<St: Store, J: Log<St>> Board<St, J> {
     /// Moves the desk's lines into the list. Want of memory leaves both as before.
     pub fn enter(&mut self, desk: &mut Desk<St>) -> Result<(), AllocError>
         requires { Agrees self.old.kept desk.old }
-        ensures log { self.new.log ≡ self.old.log }
-        ensures ok { OnOk result (self.new.kept ≡ entered self.old.kept desk.old) }
+        ensures ok { OnOk result (self.new ≡ record self.old {
+          kept = entered self.old.kept desk.old;
+        }) }
         ensures cleared { OnOk result (desk.new ≡ cleared desk.old) }
         ensures agree { Agrees self.new.kept desk.new }
-        ensures err { OnErr result (self.new.kept ≡ self.old.kept) }
+        ensures err { OnErr result (self.new ≡ self.old) }
         ensures kept { OnErr result (desk.new ≡ desk.old) }
     {
         self.steps.append(&mut desk.waiting)?;
@@ -220,10 +215,8 @@ impl<St: Store, J: Log<St>> Board<St, J> {
         requires line { said_of text.now false ≡ heard desk.old.session stmt.now }
         ensures answered { IfOk result (Ran J.faults J.Keeps J.generation J.moment J.opens_since
             J.Quiet (record self.old { kept = entered self.old.kept desk.old }) self.new text.now) }
-        ensures named { IfOk result NamesItsRows }
-        ensures agree { Agrees self.new.kept desk.new }
+        ensures desk { IsDeskOf desk.old.session self.new.kept desk.new }
         ensures waiting { OnOk result (desk.new.waiting ≡ []) }
-        ensures session { desk.new.session ≡ desk.old.session }
         ensures err { OnErr result (IsLeft self.old.kept desk.old self.new.kept desk.new
             × (self.new.log ≡ self.old.log)) }
     {
@@ -309,22 +302,18 @@ impl<St: Store, J: Log<St>> Board<St, J> {
     /// desk stays. Want of memory leaves the board as before, and the desk in agreement with it.
     pub fn grant(&mut self, desk: &mut Desk<St>, stmt: &Stmt) -> Result<Grant, AllocError>
         requires agree { Agrees self.old.kept desk.old }
-        ensures answer { IfOk result (λ r.
-            r ≡ grant_of (dataset_of self.old.kept.now)
-            (holder_for self.old.kept desk.old stmt.now)) }
-        ensures log { self.new.log ≡ self.old.log }
-        ensures rows { OnOk result (self.new.kept ≡ record self.old.kept {
-          rows = rows_by
-              (holder_for self.old.kept desk.old stmt.now) desk.old.session
-              (needs_for self.old.kept desk.old stmt.now) self.old.kept.rows;
+        ensures asked { IfOk result (λ r. AsksFor self.old.kept.now desk.old.session
+            desk.old.current stmt.now (holder_for self.old.kept desk.old stmt.now)
+            r desk.old.open_tx desk.new.open_tx) }
+        ensures board { OnOk result (self.new ≡ record self.old {
+          kept = record self.old.kept {
+            rows = rows_by
+                (holder_for self.old.kept desk.old stmt.now) desk.old.session
+                (needs_for self.old.kept desk.old stmt.now) self.old.kept.rows;
+          };
         }) }
         ensures desk { desk.new ≡ record desk.old { open_tx = desk.new.open_tx } }
-        ensures held { IfOk result (λ r. r ≢ Grant.Granted → desk.new ≡ desk.old) }
-        ensures granted { IfOk result (λ r. r ≡ Grant.Granted
-            → GrantsFor self.old.kept.now desk.old.session desk.old.current stmt.now
-            desk.old.open_tx desk.new.open_tx) }
-        ensures err { OnErr result ((self.new.kept ≡ self.old.kept)
-            × Agrees self.new.kept desk.new) }
+        ensures err { OnErr result ((self.new ≡ self.old) × Agrees self.new.kept desk.new) }
     {
         let told = ask(
             self.alloc,

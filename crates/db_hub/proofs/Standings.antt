@@ -51,11 +51,6 @@ agrees_now b k o seen rest lines a stands e f g others =
     other_lines_law (kept_at o (steps_of seen)) b k (saids (steps_of rest)) a stands e
     (ap saids (f ∙ ap steps_of g ∙ steps_append seen rest) ∙ map-append said_step (steps_of seen) (steps_of rest)) others
 
--- what holds where there is a value, from two facts that hold there
-pub both_some : {A : Type 0} (o : Option A) (P Q R : A → Type 0) → IfSome o P → IfSome o Q → ((a : A) → P a → Q a → R a) → IfSome o R
-both_some None P Q R h i f = tt
-both_some (Some a) P Q R h i f = f a h i
-
 -- a seat that has its pass
 pub seen_agrees : (named : TableId) (o : State) (numbers : List (ℕ × ℕ)) (since : ℕ → ℕ) (n : ℕ) (pass : Option AtPass) (k : AtDesk) (s : AtSeat) → SeatFits named o numbers since n pass k → seat_at n pass k ≡ s → s.there ≡ true
     → Agrees (kept_at o (steps_of s.seen)) s.desk × (k ≡ s.desk)

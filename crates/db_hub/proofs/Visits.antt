@@ -74,9 +74,9 @@ Caught b k c m (Ok y) = (c ≡ entered b k) × (m ≡ cleared k)
 Caught b k c m (Err e) = (c ≡ b) × (m ≡ k)
 
 -- from the clauses of the call
-pub caught_by : {A E : Type 0} (b c : Kept) (k m : AtDesk) (r : Result A E) → OnOk r (c ≡ entered b k) → OnOk r (m ≡ cleared k) → OnErr r (c ≡ b) → OnErr r (m ≡ k) → Caught b k c m r
-caught_by b c k m (Ok y) a d e f = (a, d)
-caught_by b c k m (Err x) a d e f = (e, f)
+pub caught_by : {A E L : Type 0} (b c : Logged L) (k m : AtDesk) (r : Result A E) → OnOk r (c ≡ record b { kept = entered b.kept k }) → OnOk r (m ≡ cleared k) → OnErr r (c ≡ b) → OnErr r (m ≡ k) → Caught b.kept k c.kept m r
+caught_by b c k m (Ok y) a d e f = (ap (λ (x : Logged _). x.kept) a, d)
+caught_by b c k m (Err x) a d e f = (ap (λ (x : Logged _). x.kept) e, f)
 
 -- the number noted at the beginning stays, and the session
 pub first_caught : {A E : Type 0} (b c : Kept) (k m : AtDesk) (r : Result A E) → Caught b k c m r → c.first_count ≡ b.first_count
@@ -86,14 +86,6 @@ first_caught b c k m (Err x) t = ap (λ (y : Kept). y.first_count) t.0
 pub same_caught : {A E : Type 0} (b c : Kept) (k m : AtDesk) (r : Result A E) → Caught b k c m r → m.session ≡ k.session
 same_caught b c k m (Ok y) t = ap (λ (x : AtDesk). x.session) t.1
 same_caught b c k m (Err x) t = ap (λ (y : AtDesk). y.session) t.1
-
--- a board with its log
-abbrev pub logged : {L : Type 0} → Kept → L → Logged L
-logged c log = record { kept = c; log = log }
-
-pub board_caught : {A E L : Type 0} (b c : Kept) (k m : AtDesk) (r : Result A E) → Caught b k c m r → (log log2 : L) → log2 ≡ log → OnOk r (logged c log2 ≡ logged (entered b k) log)
-board_caught b c k m (Ok y) t log log2 e = λ i. record { kept = t.0 i; log = e i }
-board_caught b c k m (Err x) t log log2 e = tt
 
 -- what holds anyway holds where a call was done
 pub on_ok : {A E : Type 0} (r : Result A E) (X : Type 0) → X → OnOk r X
@@ -278,10 +270,10 @@ module _ (named : TableId) (numbers : List (ℕ × ℕ)) (o : State) (since : �
         t
 
     module _ (pen2 : AtPen) (from : ℕ) (from_is : from ≡ length board.steps) (grown : PenGrown pen1 pen2 n (drop from c.steps)) (p2 : AtPass) (given : PassGrown pen1 (known q) p2 (drop from c.steps)) where
-      pub visited_told : {E : Type 0} → (r : Result Reply E) → Told board k c k1 text r → IfOk r NamesItsRows → IfOk r (λ y. SeatVisited o (seat_at n (Some q) k) (seat_at n (Some p2) k1) text y)
-      visited_told (Ok y) t names =
-          visited c (k.waiting ++ step_of text t.0.0 y ∷ []) (grows_line board c k text t.0.0 y x agree said t.0.1) now.stands pen2 from from_is grown k1 same now p2 given text t.0.0 y refl t.0.1.reply names t.1
-      visited_told (Err e) t names = tt
+      pub visited_told : {E : Type 0} → (r : Result Reply E) → Told board k c k1 text r → IfOk r (λ y. SeatVisited o (seat_at n (Some q) k) (seat_at n (Some p2) k1) text y)
+      visited_told (Ok y) t =
+          visited c (k.waiting ++ step_of text t.0.0 y ∷ []) (grows_line board c k text t.0.0 y x agree said t.0.1) now.stands pen2 from from_is grown k1 same now p2 given text t.0.0 y refl t.0.1.reply t.0.1.named t.1
+      visited_told (Err e) t = tt
 
       pub failed_told : {E : Type 0} → (r : Result Reply E) → Told board k c k1 text r → OnErr r (SeatFailed (seat_at n (Some q) k) (seat_at n (Some p2) k1))
       failed_told (Ok y) t = tt

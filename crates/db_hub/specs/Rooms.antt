@@ -83,6 +83,7 @@ pub record MaySeat {J : Type 0} (numbers : List (ℕ × ℕ)) (from : ℕ → �
 abbrev pub giving : {J : Type 0} → ℕ → AtRoom J → AtRoom J
 giving session r = record r { pen = noting r.issued session r.pen; out = r.out ++ (r.issued, session) ∷ []; issued = r.issued + 1 }
 
+-- the seat of a session that comes into the room
 abbrev pub given_seat : {J : Type 0} → ℕ → State → AtRoom J → AtSeat
 given_seat session opened r =
     record { there = true; number = r.issued; seen = r.pen.lines; mine = []; desk = new_desk session (dataset_of opened).schema }

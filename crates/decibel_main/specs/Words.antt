@@ -13,6 +13,7 @@ use Rattle.decibel_main.specs.declared.command.Command.TheVariants.{Try, Create,
 abbrev pub is_printable : ℕ → Bool
 is_printable c = is_in_range 32 126 c
 
+-- whether a word begins with `-`
 abbrev pub begins_with_dash : List ℕ → Bool
 begins_with_dash [] = false
 begins_with_dash (c ∷ cs) = c == 45

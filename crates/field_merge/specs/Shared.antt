@@ -6,6 +6,7 @@ use Rattle.db_value.specs.declared.record.Record.{Record}
 use Rattle.db_value.specs.declared.schema.Relation.{Relation}
 use Rattle.db_store.specs.Table.{Contents, rows_of}
 use Rattle.db_store.specs.Parts.{Part, part_at, records_in, rows_in}
+use Rattle.db_store.specs.declared.view.Spot.{Spot}
 use Rattle.field_merge.specs.declared.turns.Taken.{Taken}
 use Rattle.field_merge.specs.declared.sides.Sides.{Sides}
 
@@ -18,6 +19,11 @@ AgreeAsLong some others = (i j : ℕ) → i < length some → j < length others 
 pub record AgreeWithLeft (bs ls rs : List Part) : Type 0 where
   pub of_base : AgreeAsLong ls bs
   pub of_right : AgreeAsLong ls rs
+
+-- there is such a slot in the parts
+pub record IsSpot (parts : List Part) (spot : Spot) : Type 0 where
+  pub part : spot.part < length parts
+  pub slot : spot.slot < length (part_at parts spot.part).slots
 
 -- a record, if it is live
 abbrev pub live_row : Bool → Record → List Record

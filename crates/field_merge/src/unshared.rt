@@ -4,7 +4,7 @@ ghost use Rattle.std.specs.Prelude.{◌≡◌, ◌<◌, ◌++◌, ◌∷◌, [],
 ghost use Rattle.db_store.specs.Table.{relation_at};
 ghost use Rattle.db_store.specs.Parts.{live_rows, part_at, slot_at};
 ghost use Rattle.field_merge.specs.Turns.{waiting, IsNext, IsRelation, AreOne, AreTaken};
-ghost use Rattle.field_merge.specs.Shared.{live_row, AgreeWithLeft, IsSplitAt, Takes, AreUnshared};
+ghost use Rattle.field_merge.specs.Shared.{live_row, IsSpot, AgreeWithLeft, IsSplitAt, Takes, AreUnshared};
 
 use crate::sides::{Sides, are_same};
 use crate::turns::{Taken, Turn, next_turn};
@@ -20,8 +20,7 @@ fn read_counted<V: View, L: Ledger>(view: &V, relation: u8, spot: Spot, blank: B
     requires parts { blank.parts ≡ L.parts }
     requires some { 0 < L.parts }
     requires relation { relation < length (V.table view.now) }
-    requires part { spot.part < length (V.parts_of view.now relation) }
-    requires slot { spot.slot < length (part_at (V.parts_of view.now relation) spot.part).slots }
+    requires spot { IsSpot (V.parts_of view.now relation) spot }
     ensures { result ≡ (slot_at (V.parts_of view.now relation) spot.part spot.slot).0 }
 {
     let mut steps = Steps::<L>::open(blank);
@@ -33,8 +32,7 @@ fn read_counted<V: View, L: Ledger>(view: &V, relation: u8, spot: Spot, blank: B
 // The record in a slot.
 fn record_at<V: View>(view: &V, relation: u8, spot: Spot) -> Record
     requires relation { relation < length (V.table view.now) }
-    requires part { spot.part < length (V.parts_of view.now relation) }
-    requires slot { spot.slot < length (part_at (V.parts_of view.now relation) spot.part).slots }
+    requires spot { IsSpot (V.parts_of view.now relation) spot }
     ensures { result ≡ (slot_at (V.parts_of view.now relation) spot.part spot.slot).0 }
 {
     read_counted::<V, Brand>(view, relation, spot, Blank::new(1))
@@ -48,8 +46,7 @@ fn gather_row<V: View>(
     rows: &mut Vec<Record>,
 ) -> Result<(), AllocError>
     requires relation { relation < length (V.table view.now) }
-    requires part { spot.part < length (V.parts_of view.now relation) }
-    requires slot { spot.slot < length (part_at (V.parts_of view.now relation) spot.part).slots }
+    requires spot { IsSpot (V.parts_of view.now relation) spot }
     ensures { OnOk result (rows.new.items ≡ rows.old.items ++ live_row
         (slot_at (V.parts_of view.now relation) spot.part spot.slot).1
         (slot_at (V.parts_of view.now relation) spot.part spot.slot).0) }

@@ -22,15 +22,19 @@ mark = 1 ∷ 68 ∷ 69 ∷ 67 ∷ 73 ∷ 66 ∷ 69 ∷ 76 ∷ 49 ∷ []
 abbrev pub has_header : List ℕ → Bool
 has_header c = nat_le 57 (length c) && pointwise nat_eq (take 9 c) mark
 
+-- the generation that a header gives
 abbrev pub generation_of : List ℕ → ℕ
 generation_of c = from_le_bytes w64 (take 8 (drop 9 c))
 
+-- how many bytes its image has
 abbrev pub image_length : List ℕ → ℕ
 image_length c = from_le_bytes w64 (take 8 (drop 17 c))
 
+-- the digest that its image must have
 abbrev pub image_digest : List ℕ → List ℕ
 image_digest c = take 32 (drop 25 c)
 
+-- the bytes of its image
 abbrev pub image_in : List ℕ → List ℕ
 image_in c = take (image_length c) (drop 57 c)
 
@@ -44,10 +48,12 @@ abbrev pub behind : List Entry → Outcome → Outcome
 behind es (damaged at cause) = damaged at cause
 behind es (opened s more at) = opened s (es ++ more) at
 
+-- a body that isn't entries is damage
 abbrev pub by_entries : ℕ → Option (List Entry) → (List Entry → Outcome) → Outcome
 by_entries at None go = damaged at Grammar
 by_entries at (Some es) go = go es
 
+-- entries that don't fit are damage
 abbrev pub by_state : ℕ → Option State → (State → Outcome) → Outcome
 by_state at None go = damaged at EntryUnfit
 by_state at (Some s) go = go s
@@ -58,9 +64,11 @@ walk s at [] (closed_at p) = opened s [] p
 walk s at [] (damaged_at p cause) = damaged p cause
 walk s at (body ∷ bodies) end = by_entries at (entries_in body) (λ es. by_state at (applied s es) (λ t. behind es (walk t (at + (37 + length body)) bodies end)))
 
+-- the bodies that reading gave
 abbrev pub walked : State → ℕ → Reading → Outcome
 walked s at r = walk s at r.bodies r.ends
 
+-- an image that isn't a schema is damage
 abbrev pub by_schema : Option (List Relation) → (List Relation → Outcome) → Outcome
 by_schema None go = damaged 57 Grammar
 by_schema (Some rs) go = go rs
@@ -79,6 +87,7 @@ pub data Files : Type 0 where
   no_header : Files
   counts : ℕ → ℕ → Outcome → Files
 
+-- the file of that number counts
 abbrev pub counting : ℕ → List ℕ → Files
 counting file c = counts file (generation_of c) (file_reads c)
 
@@ -91,6 +100,7 @@ abbrev pub reads_by : Bool → List ℕ → List ℕ → Files
 reads_by false c d = reads c d
 reads_by true c d = reads d c
 
+-- the number of the first or of the second file
 abbrev pub number_of : Bool → ℕ
 number_of false = 0
 number_of true = 1

@@ -2,6 +2,7 @@
 use Rattle.std.specs.Prelude.{ℕ, Bool, true, false, nat_lt, cond, List, Option, Some, None}
 use Rattle.generations.specs.declared.header.Header.{Header}
 
+-- the file that counts, and its header
 abbrev pub pick_of : Option Header → Option Header → Option (Bool × Header)
 pick_of None None = None
 pick_of None (Some b) = Some (true, b)

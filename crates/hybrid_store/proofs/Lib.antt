@@ -19,9 +19,18 @@ pub mod AddedBranch
 pub mod SameLemmas
 pub mod BeginLemmas
 pub mod PrepareLemmas
+pub mod RowsSeen
 pub mod SeenRows
 pub mod ViewLemmas
 pub mod ReportLemmas
 pub mod WholeLemmas
 mod ReaderLemmas
 pub mod OwnLemmas
+pub mod PartExamples
+pub mod PartRows
+pub mod PartLayout
+pub mod PartStored
+pub mod PartLanes
+pub mod PartLines
+pub mod PartStore
+pub mod PartMade

@@ -20,6 +20,7 @@ use Rattle.bit_rows.specs.Kept.{nexts_at}
 use Rattle.hybrid_store.specs.Ready.{IsMadeAt, IsMadeOf, IsNextOf, IsReady, no_own}
 use Rattle.hybrid_store.specs.ReadyRules.{made_lasts}
 
+-- what is made of a layout is made of it after a commit on another branch
 made_on : (l : Layout) (c d : ℕ) (second third : Option VersionPlace) (cs others : List Change) (b : ℕ) (v : Option VersionPlace) (nexts : List (List Next)) (head : List Lived) (owns : List Rows) → c ≢ d → IsMadeOf l c second cs b v nexts head owns → IsMadeOf (after_commit l d third others) c second cs b v nexts head owns
 made_on l c d second third cs others b v nexts head owns n m = record {
   branch = m.branch;
@@ -36,6 +37,7 @@ made_on l c d second third cs others b v nexts head owns n m = record {
       (made_lasts (segments_at l.segments r) c d (last_in (lane_at l c)) r cs (puts others r) n (length (columns_at l.schema r)) (rows_at (lane_at l c) r) (nexts_at nexts r) (lived_at head r) (get_or owns r no_own) (m.at r h)));
 }
 
+-- the same, if there is a layout
 next_on : (o : Option Layout) (c d : ℕ) (second third : Option VersionPlace) (cs others : List Change) (b : ℕ) (v : Option VersionPlace) (nexts : List (List Next)) (head : List Lived) (owns : List Rows) → c ≢ d → IsNextOf b v nexts head owns o (Commit c second cs) → IsNextOf b v nexts head owns (layout_after o (Commit d third others)) (Commit c second cs)
 next_on None c d second third cs others b v nexts head owns n m = m
 next_on (Some l) c d second third cs others b v nexts head owns n m = made_on l c d second third cs others b v nexts head owns n m

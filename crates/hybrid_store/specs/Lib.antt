@@ -11,3 +11,6 @@ pub mod Whole
 pub mod ReadyRules
 pub mod LastsRules
 pub mod Readers
+pub mod Parts
+pub mod Assembled
+pub mod PartLines

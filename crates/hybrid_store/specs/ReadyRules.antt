@@ -17,6 +17,7 @@ use Rattle.bit_rows.specs.Short.{shortest}
 use Rattle.bit_rows.proofs.ShortLemmas.{slots_stop_to}
 use Rattle.hybrid_store.specs.Ready.{IsMadeAt}
 
+-- a segment is the head of one branch only
 pub one_only : (c d : ℕ) (h : Option ℕ) → c ≢ d → is_head_of d h ≡ true → is_head_of c h ≡ false
 one_only c d None n e = refl
 one_only c d (Some x) n e = by (cases_Bool (c == x))
@@ -25,6 +26,7 @@ one_only c d (Some x) n e = by (cases_Bool (c == x))
     by (inl t) = absurd (n (eqb-true c x t ∙ sym (eqb-true d x e)))
     by (inr f) = f
 
+-- nothing is true together with what is false
 and_false : (b : Bool) → (false && b) ≡ false
 and_false true = refl
 and_false false = refl

@@ -6,6 +6,7 @@ use Rattle.db_value.specs.Relations.{columns_at}
 use Rattle.db_value.specs.declared.schema.Relation.{Relation}
 use Rattle.db_value.specs.declared.version.VersionPlace.{VersionPlace}
 use Rattle.db_store.specs.Dataset.{Dataset}
+use Rattle.db_store.specs.Fits.{most_versions}
 use Rattle.db_store.specs.Layout.{Segment, Row, dataset_in}
 use Rattle.db_store.specs.LayoutGrowth.{is_head_of, puts}
 use Rattle.db_store.specs.LaidOut.{head_at, row_at}
@@ -89,6 +90,11 @@ pub record IsStored (schema : List Relation) (lanes : List KeptLane) (segments :
   pub fields : (r s : ℕ) → r < length schema → s < length (list_at segments r) → (kept_at (list_at segments r) s).rows.fields ≡ length (columns_at schema r)
   pub each : (b : ℕ) → b < length lanes → IsKept schema segments b (get_or lanes b no_kept)
 
+-- a branch has a version, and no more of them than there can be
+pub record HasVersions (k : KeptLane) : Type 0 where
+  pub some : 0 < length k.seconds
+  pub few : length k.seconds ≤ most_versions
+
 -- room for so many versions more
 abbrev pub HasRoom : ℕ → KeptLane → Type 0
 HasRoom more k = length k.seconds + more ≤ k.room
@@ -112,6 +118,14 @@ AllNextIn heads k cs n ls = (r : ℕ) → r < n → IsNextAt heads k cs r (lived
 -- and what is ready for its rows
 abbrev pub AllDifferences : KeptLane → List (List Next) → ℕ → List Lived → Type 0
 AllDifferences k nexts n ls = (r : ℕ) → r < n → AreDifferences (kept_rows k r) (nexts_at nexts r) (lived_at k.head r).pieces (lived_at ls r).pieces
+
+-- this is what a branch has of so many relations after changes, and what is ready for its rows
+pub record IsAfter (heads : ℕ → ℕ) (k : KeptLane) (cs : List Change) (n : ℕ) (nexts : List (List Next)) (ls : List Lived) : Type 0 where
+  pub wide : length ls ≡ n
+  pub count : length nexts ≡ n
+  pub next : AllNextIn heads k cs n ls
+  pub deltas : AllDifferences k nexts n ls
+  pub small : (r : ℕ) → r < n → AreSmall (lived_at ls r)
 
 -- a branch with no regard to its room
 abbrev pub roomless : KeptLane → KeptLane

@@ -19,7 +19,7 @@ ghost use Rattle.hybrid_store.specs.Lanes.{segment_of};
 ghost use Rattle.bit_rows.specs.Segments.{list_at};
 ghost use Rattle.hybrid_store.specs.Ready.{AreOwn};
 ghost use Rattle.bit_rows.specs.Differences.{AreDifferences};
-ghost use Rattle.hybrid_store.specs.Stored.{head_number, touched_in, AllDifferences, AllNextIn, AreSmall, IsNextAt};
+ghost use Rattle.hybrid_store.specs.Stored.{head_number, touched_in, AllNextIn, AreSmall, IsAfter, IsNextAt};
 
 use crate::heads::{head_of_rows, own_records};
 use crate::store::HybridStore;
@@ -208,17 +208,10 @@ impl HybridStore {
         requires fits { (second : Option VersionPlace)
             × (fits (dataset_in self.now) (Commit branch second changes.now) ≡ true) }
         requires none { deltas.old.items ≡ [] }
-        ensures wide { IfOk result (λ t. length t ≡ length self.now.schema) }
-        ensures count { OnOk result (length deltas.new.items ≡ length self.now.schema) }
-        ensures next { IfOk result
-            (λ t. AllNextIn (head_number self.now.segments.items branch)
-            (get_or self.now.lanes.items branch no_kept) changes.now
-            (length self.now.schema) t) }
-        ensures deltas { IfOk result
-            (λ t. AllDifferences (get_or self.now.lanes.items branch no_kept) deltas.new.items
-            (length self.now.schema) t) }
-        ensures small { IfOk result
-            (λ t. (r : ℕ) → r < length self.now.schema → AreSmall (lived_at t r)) }
+        ensures { IfOk result
+            (IsAfter (head_number self.now.segments.items branch)
+            (get_or self.now.lanes.items branch no_kept) changes.now (length self.now.schema)
+            deltas.new.items) }
     {
         let mut relations = Vec::new(self.alloc);
         for relation in 0..self.width() {

@@ -61,8 +61,9 @@ fn turn_lists(
     ensures count { length segments.new.items ≡ length segments.old.items }
     ensures each { (r : ℕ) → r < length segments.old.items
         → get_or segments.new.items r no_list
-        ≡ turned_list (get_or segments.old.items r no_list) (head_number segments.old.items branch r)
-        branch (get_or (map arc_value heads.items) r no_own) }
+        ≡ turned_list (get_or segments.old.items r no_list)
+        (head_number segments.old.items branch r) branch
+        (get_or (map arc_value heads.items) r no_own) }
 {
     while let Some(own) = heads.pop() {
         let relation = heads.len();

@@ -15,10 +15,16 @@
 //! | `specs/Sees.antt`, `src/view.rt` | the views of versions, and the parts that they show |
 //! | `specs/Whole.antt`, `src/whole.rt` | views with all records that their segments have |
 //! | `specs/Readers.antt`, `src/readers.rt` | what the layout has, part by part |
+//! | `specs/Parts.antt`, `src/parts.rt` | the parts of a layout, and the layout that they stand for |
+//! | `src/assemble.rt` | a store of parts |
+//! | `specs/Assembled.antt`, `src/part_rows.rt`, `src/part_lanes.rt`, `src/bare.rt` | its segments, and its branches with their rows |
+//! | `specs/PartLines.antt`, `src/part_lines.rt` | its names, and the graph of its versions |
 //! | `src/heads.rt` | the head of a branch |
 //! | `src/same.rt` | the branches of a second store of the same state |
 #![tactic(auto)]
 
+mod assemble;
+mod bare;
 mod begin;
 mod commit;
 mod heads;
@@ -26,6 +32,10 @@ mod install;
 mod install_branch;
 mod made;
 mod new;
+mod part_lanes;
+mod part_lines;
+mod part_rows;
+mod parts;
 mod prepare_branch;
 mod readers;
 mod same;
@@ -36,4 +46,8 @@ mod whole;
 pub use commit::HybridPrepared;
 pub use install_branch::HybridPreparedBranch;
 pub use made::MadeVersion;
+pub use parts::{
+    BranchPart, BranchParts, LayoutParts, MadeVersions, RowPart, RowParts, SegmentPart,
+    SegmentParts,
+};
 pub use store::HybridStore;

@@ -7,7 +7,7 @@ ghost use Rattle.db_store.specs.Dataset.{root};
 ghost use Rattle.hybrid_view.specs.Live.{lived_at};
 ghost use Rattle.bit_rows.specs.Kept.{first_row};
 ghost use Rattle.bit_rows.specs.Segments.{no_list, most_segments};
-ghost use Rattle.hybrid_store.specs.New.{own_at, first_lived};
+ghost use Rattle.hybrid_store.specs.New.{own_at, first_lived, IsFirst};
 
 use bit_rows::{BitRow, BitRows, HybridLane, KeptSegments};
 use db_value::{Name, Relation, VersionPlace};
@@ -141,13 +141,7 @@ pub fn new_lane(alloc: Global, name: Name, heads: &[Arc<Segment>]) -> Result<Hyb
           room = l.room;
         }) }
     ensures room { IfOk result (λ l. 1 ≤ l.room) }
-    ensures count { IfOk result (λ l. length l.rows ≡ length heads.now) }
-    ensures wide { IfOk result (λ l. length l.head ≡ length heads.now) }
-    ensures rows { IfOk result
-        (λ l. (r : ℕ) → r < length heads.now → get_or l.rows r [] ≡ first_row ∷ []) }
-    ensures lived { IfOk result
-        (λ l. (r : ℕ) → r < length heads.now
-        → lived_at l.head r ≡ first_lived (own_at (map arc_value heads.now) r)) }
+    ensures first { IfOk result (IsFirst (length heads.now) (map arc_value heads.now)) }
 {
     let table = new_table(alloc, heads)?;
     let head = HybridView::of(Arc::new(alloc, table)?);

@@ -2,7 +2,7 @@
 ghost use Rattle.std.specs.Prelude.{◌≡◌, ◌-◌, ◌<◌, ◌+◌, length, map, IfSome};
 ghost use Rattle.std.proofs.Common.{get_or};
 ghost use Rattle.db_value.specs.Relations.{columns_at};
-ghost use Rattle.db_store.specs.Layout.{records_at, segments_at};
+ghost use Rattle.db_store.specs.Layout.{lane_at, records_at, segments_at};
 ghost use Rattle.db_store.specs.LaidOut.{head_at};
 ghost use Rattle.hybrid_view.specs.Deltas.{slots_of};
 ghost use Rattle.bit_rows.specs.Rows.{laid_row};
@@ -12,6 +12,7 @@ use crate::made::MadeVersion;
 use crate::store::HybridStore;
 use bit_rows::BitRows;
 use commit_history::History;
+use db_value::VersionPlace;
 use segment::Segment;
 
 // The place of the row of a segment, if there is one.
@@ -30,6 +31,14 @@ fn place_in(rows: &BitRows, segment: u32) -> Option<usize>
 
 impl HybridStore {
     ghost use Rattle.hybrid_store.specs.Store.{layout_of};
+
+    /// The place from which a branch was made. That of master is master's position 0.
+    pub fn origin(&self, branch: u32) -> VersionPlace
+        requires { branch < length (layout_of self.now).lanes }
+        ensures { result ≡ (lane_at (layout_of self.now) branch).origin }
+    {
+        self.lane(branch).origin()
+    }
 
     /// How many versions there are after the root.
     pub fn versions(&self) -> u32

@@ -22,7 +22,7 @@ ghost use Rattle.bit_rows.specs.Kept.{no_kept};
 ghost use Rattle.hybrid_store.specs.Lanes.{kept_layout};
 ghost use Rattle.hybrid_store.specs.Ready.{IsReady};
 ghost use Rattle.hybrid_store.specs.ReadyBranch.{IsReadyBranch};
-ghost use Rattle.hybrid_store.specs.Stored.{kept_dataset, IsStored, HasRoom};
+ghost use Rattle.hybrid_store.specs.Stored.{kept_dataset, IsStored, HasRoom, HasVersions};
 
 use crate::commit::HybridPrepared;
 use crate::install::put_records;
@@ -117,8 +117,7 @@ impl HybridStore {
         ensures base { result.now.base ≡ (branch_at (dataset_in self.now) branch).base }
         ensures count { length result.now.seconds
             ≡ length (branch_at (dataset_in self.now) branch).versions }
-        ensures rooted { 0 < length result.now.seconds }
-        ensures few { length result.now.seconds ≤ most_versions }
+        ensures versions { HasVersions result.now }
     {
         &self.lanes[branch as usize]
     }

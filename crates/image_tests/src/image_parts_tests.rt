@@ -1,4 +1,5 @@
 //! Images read and written. The bytes were made by another program.
+use db_value::VersionPlace;
 use image_parts::{ImageStop, decode, encode};
 use std::test::Fail;
 
@@ -119,5 +120,34 @@ fn surplus_bytes(rt: HostRuntime) -> Result<(), Fail> {
     let mut more = of_two_branches(&rt)?;
     more.push(0)?;
     assert_eq!(rt; fault_of(&rt, &more), Some(8411));
+    Ok(())
+}
+
+fn at(branch: u32, position: u32) -> VersionPlace {
+    VersionPlace { branch, position }
+}
+
+#[test]
+fn the_store_of_an_image(rt: HostRuntime) -> Result<(), Fail> {
+    let store = db_image::decode(rt.alloc(), &NEW)
+        .ok()
+        .ok_or("the bytes are an image")?;
+    assert!(rt; store.is_made(at(0, 0)));
+    assert!(rt; !store.is_made(at(0, 1)));
+    assert!(rt; !store.is_made(at(1, 0)));
+    let bytes = of_two_branches(&rt)?;
+    let store = db_image::decode(rt.alloc(), &bytes)
+        .ok()
+        .ok_or("the bytes are an image")?;
+    assert!(rt; store.is_made(at(0, 1)));
+    assert!(rt; store.is_made(at(1, 1)));
+    assert!(rt; !store.is_made(at(0, 2)));
+    assert!(rt; !store.is_made(at(1, 2)));
+    for n in 0..67usize {
+        match db_image::decode(rt.alloc(), &NEW[..n]) {
+            Err(ImageStop::NotAnImage { at }) => assert_eq!(rt; at, n as u64),
+            _ => assert!(rt; false, "a front is read"),
+        }
+    }
     Ok(())
 }

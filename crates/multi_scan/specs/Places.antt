@@ -1,6 +1,7 @@
 -- Places at which views show parts, and what is found in a part that several views share.
 use Rattle.std.specs.Prelude.{◌≡◌, ℕ, zero, suc, ◌+◌, ◌<◌, ◌==◌, Bool, cond, List, [], ◌∷◌, ◌++◌, length, map, Option, Some, None}
-use Rattle.std.specs.List.{flat_map}
+use Rattle.std.specs.List.{flat_map, All}
+use Rattle.std.specs.List.Sorted.{IsSorted}
 use Rattle.std.proofs.Common.{get_or}
 use Rattle.std.specs.Ordering.{nat_cmp, ordering_then}
 use Rattle.std.specs.declared.cmp.Ordering.{Ordering}
@@ -82,3 +83,8 @@ id_run id (p ∷ ps) = cond (p.id == id) (suc (id_run id ps)) 0
 -- by id, then by position, then by number
 abbrev pub place_cmp : Place → Place → Ordering
 place_cmp a b = ordering_then (nat_cmp a.id b.id) (ordering_then (nat_cmp a.position b.position) (nat_cmp a.index b.index))
+
+-- there are such places, and they are in order
+pub record AreListed (views : List (List Part)) (places : List Place) : Type 0 where
+  pub there : All (IsPlace views) places
+  pub sorted : IsSorted place_cmp places

@@ -1,13 +1,12 @@
 //! What views have, slot by slot. A part that several views share is read once.
 ghost use Rattle.std.specs.Prelude.{◌≡◌, ◌+◌, ◌<◌, ◌≤◌, ◌++◌, length, map, OnOk, IfOk};
 ghost use Rattle.std.specs.List.{All, AllByRecursion};
-ghost use Rattle.std.specs.List.Sorted.{IsSorted};
 ghost use Rattle.db_value.specs.Pred.{pred_holds};
 ghost use Rattle.db_store.specs.Parts.{records_in};
 ghost use Rattle.db_store.specs.Rows.{slots_of};
 ghost use Rattle.multi_scan.specs.Agree.{AllAgree};
 ghost use Rattle.multi_scan.specs.Found.{AreSame, HasPositions, spread};
-ghost use Rattle.multi_scan.specs.Places.{shown, place_cmp, part_of, slot_of, IsPlace, HasSlot, ShowsRecords, live_at, row_where, kept_at, found_shared, found_at_places};
+ghost use Rattle.multi_scan.specs.Places.{shown, part_of, slot_of, IsPlace, AreListed, HasSlot, ShowsRecords, live_at, row_where, kept_at, found_shared, found_at_places};
 ghost use Rattle.multi_scan.specs.Cost.{distinct_parts};
 
 use crate::places::{Place, count_id};
@@ -167,8 +166,7 @@ pub fn gather<V: View, L: Ledger>(
 ) -> Result<Vec<Marked>, AllocError>
     requires relation { All (λ v. relation < length (V.table v)) views.now }
     requires agree { AllAgree (shown V.parts_of relation views.now) }
-    requires places { All (IsPlace (shown V.parts_of relation views.now)) places.now }
-    requires sorted { IsSorted place_cmp places.now }
+    requires places { AreListed (shown V.parts_of relation views.now) places.now }
     ensures positions { IfOk result (λ found. AllByRecursion HasPositions found.items) }
     ensures found { IfOk result (λ found. AreSame (spread found.items) (found_at_places
         (pred_holds pred.now) (shown V.parts_of relation views.now) places.now)) }

@@ -1,15 +1,13 @@
 -- That the bytes of a page are read as the page, and that what is read as a page is spelled so.
-use Rattle.std.proofs.Common.{◌≡◌, ℕ, zero, suc, ◌+◌, ◌-◌, ◌*◌, ◌/◌, ◌^◌, ◌<◌, ◌≤◌, Bool, true, false, ◌&&◌, cond, List, [], ◌∷◌, ◌++◌, length, take, drop, get_or, replicate, Option, Some, None, refl, arith, ap, ap₂, sym, ◌∙◌, subst, append_assoc}
-use Rattle.std.specs.List.{flat_map, AllByRecursion}
-use Rattle.std.specs.Int.{w16, w64, to_le_bytes, from_le_bytes}
-use Rattle.std.specs.Int.RustNames.{FitsSigned}
+use Rattle.std.proofs.Common.{◌≡◌, ℕ, zero, suc, ◌+◌, ◌-◌, ◌*◌, ◌/◌, ◌^◌, ◌<◌, ◌≤◌, Bool, true, false, ◌&&◌, cond, List, [], ◌∷◌, ◌++◌, length, take, drop, replicate, Option, Some, None, refl, arith, ap, ap₂, sym, ◌∙◌, subst, append_assoc}
+use Rattle.std.specs.List.{flat_map}
+use Rattle.std.specs.Int.{w16, from_le_bytes}
 use Rattle.std.proofs.lemmas.Bool.{ltb-true, leb-true, eqb-true, lt-ltb, le-leb, eq-eqb}
 use Rattle.std.proofs.lemmas.Nat.{le_bytes_2, from_le_bytes-to_le_bytes_2}
 use Rattle.std.proofs.lemmas.List.{take_at, drop_at, take-append-drop, length-append, length-take, length-drop, length-replicate, drop-drop, drop_more, drop-replicate, take_rest, append-nil, length_push, replicate-append-replicate}
 use Rattle.std.proofs.lemmas.Grind.{flat_map-append}
 use Rattle.std.proofs.Math.Nat.{div-mul-le_self, mul-le-mul_right, mul-le-mul_left}
 use borrow.Rule.Slice.PartMut.{put_mid}
-use Rattle.db_value.specs.Padded.{padded}
 use Rattle.db_value.specs.declared.record.Record.{Record}
 use Rattle.record_page.specs.Spelling.{record_bytes, record_size, record_in, records_in}
 use Rattle.record_page.specs.Page.{Rows, IsRecord, IsPaged, with_record, record_at, capacity, count_bytes, page_head, page_bytes, count_in, fields_in, rows_in, are_zero, is_head, end_in, is_page, page_in}

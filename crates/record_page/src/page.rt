@@ -3,7 +3,7 @@ ghost use Rattle.std.specs.Prelude.{◌≡◌, ◌<◌, ◌≤◌, ◌+◌, [], 
 ghost use Rattle.record_page.specs.Page.{IsPaged, capacity, record_at, with_record, page_bytes, page_in};
 
 use crate::head::are_page;
-use crate::slots::{PageFull, blank, many_in, push_record, read_slot, spelled};
+use crate::slots::{PageFull, blank, is_full, many_in, push_record, read_slot, spelled};
 use db_value::{Record, Steps};
 use std::alloc::{AllocError, Global};
 use std::marker::Model;
@@ -67,7 +67,12 @@ impl Page {
         ensures full { OnErr result (capacity self.old.fields ≤ length self.old.records) }
         ensures same { OnErr result (self.new ≡ self.old) }
     {
-        push_record(self.bytes.as_mut_slice(), row)
+        let slot = self.len();
+        if is_full(self.bytes.as_slice()) {
+            return Err(PageFull);
+        }
+        push_record(self.bytes.as_mut_slice(), row);
+        Ok(slot)
     }
 
     /// The record in a slot, at the cost of one step.

@@ -1,5 +1,5 @@
 //! The records in the bytes of a page.
-ghost use Rattle.std.specs.Prelude.{◌≡◌, ◌+◌, ◌*◌, ◌<◌, ◌≤◌, [], length, IfOk, OnOk, OnErr, true};
+ghost use Rattle.std.specs.Prelude.{◌≡◌, ◌↔◌, ◌+◌, ◌*◌, ◌<◌, ◌≤◌, [], length, IfOk, true};
 ghost use Rattle.record_page.specs.Page.{capacity, record_at, rows_in, is_page, page_bytes, with_record};
 ghost use Rattle.record_page.specs.Spelling.{record_size};
 ghost use Rattle.record_page.specs.Laws.{IsSpelled};
@@ -64,25 +64,25 @@ pub(crate) fn read_slot(bytes: &[u8], slot: u16, into: &mut Record)
     read_record(&bytes[at..], width_of(bytes), into);
 }
 
-/// Puts a record after the others, and tells its slot.
-pub(crate) fn push_record(bytes: &mut [u8], row: &Record) -> Result<u16, PageFull>
+/// Whether there are as many records as the page holds.
+pub(crate) fn is_full(bytes: &[u8]) -> bool
+    requires { is_page bytes.now ≡ true }
+    ensures { (result ≡ true) ↔ (capacity (rows_in bytes.now).fields
+        ≤ length (rows_in bytes.now).records) }
+{
+    many_in(bytes) as usize >= capacity_of(width_of(bytes))
+}
+
+/// Puts a record after the others.
+pub(crate) fn push_record(bytes: &mut [u8], row: &Record)
     requires page { is_page bytes.old ≡ true }
     requires width { length row.now.fields ≡ (rows_in bytes.old).fields }
-    ensures slot { IfOk result (λ slot. slot ≡ length (rows_in bytes.old).records) }
+    requires room { length (rows_in bytes.old).records < capacity (rows_in bytes.old).fields }
     ensures page { is_page bytes.new ≡ true }
-    ensures pushed { OnOk result (rows_in bytes.new ≡ with_record (rows_in bytes.old) row.now) }
-    ensures room { OnOk result (length (rows_in bytes.old).records
-        < capacity (rows_in bytes.old).fields) }
-    ensures full { OnErr result (capacity (rows_in bytes.old).fields
-        ≤ length (rows_in bytes.old).records) }
-    ensures same { OnErr result (bytes.new ≡ bytes.old) }
+    ensures pushed { rows_in bytes.new ≡ with_record (rows_in bytes.old) row.now }
 {
     let count = many_in(bytes);
-    if count as usize >= capacity_of(width_of(bytes)) {
-        return Err(PageFull);
-    }
     let at = place_of(bytes, count);
     put_record(row, &mut bytes[at..]);
     put_count(count + 1, bytes);
-    Ok(count)
 }

@@ -13,6 +13,7 @@ use Rattle.script_run.specs.Output.{Marked, said, failures, world_after}
 abbrev pub entry_in : World → Marked → Option Entry
 entry_in w m = entry_with w (said_of m.line false).session (said_of m.line false).stmt
 
+-- a list of the one thing, or of none
 abbrev pub listed : {A : Type 0} → Option A → List A
 listed None = []
 listed (Some x) = x ∷ []

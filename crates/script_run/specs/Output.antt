@@ -14,6 +14,7 @@ pub record Marked : Type 0 where
   pub line : List ℕ
   pub failed : Bool
 
+-- a line with its mark
 abbrev pub marked_as : List ℕ → Bool → Marked
 marked_as line failed = record { line = line; failed = failed }
 

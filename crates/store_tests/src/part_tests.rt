@@ -1,10 +1,15 @@
 //! The parts that a version of a store of segments shows. The expected ones are written by hand.
-ghost use Rattle.std.specs.Prelude.{◌≡◌, ◌<◌, length, IfOk};
+ghost use Rattle.std.specs.Prelude.{◌≡◌, ◌<◌, ◌∷◌, [], length, IfOk};
+ghost use Rattle.hybrid_store.specs.Parts.{AreSound};
+ghost use Rattle.hybrid_store.proofs.PartExamples.{head_of_one};
 
 use crate::graph_tests::{begin, place};
+use commit_history::History;
 use db_store::{Spot, Store, View};
-use db_value::{Change, Entry, Fields, ListOf, Schema, VersionPlace};
-use hybrid_store::HybridStore;
+use db_value::{Change, Entry, Fields, ListOf, Name, Schema, VersionPlace};
+use hybrid_store::{BranchPart, HybridStore, LayoutParts, RowPart, SegmentPart};
+use plain_bits::Bits;
+use segment::Segment;
 use std::alloc::Global;
 use std::process::Abort;
 use std::test::Fail;
@@ -48,11 +53,15 @@ fn version<St: Store>(store: &St, at: VersionPlace) -> Result<St::View, Fail>
     Ok(view)
 }
 
+fn items(alloc: Global) -> Result<Schema, Fail> {
+    let (schema, _) = Schema::read(alloc, b"relation items a b\nend\n")?;
+    Ok(schema)
+}
+
 // A branch of the first record. Then both branches get equal records, and the first record is changed there
 // and back on the new one.
-fn two_branches(alloc: Global) -> Result<HybridStore, Fail> {
-    let (schema, _) = Schema::read(alloc, b"relation items a b\nend\n")?;
-    let mut store = HybridStore::new(alloc, schema)?;
+fn two_branches(alloc: Global, new: HybridStore) -> Result<HybridStore, Fail> {
+    let mut store = new;
     put(alloc, &mut store, 0, 7, [1, 1])?;
     begin(&mut store, "dev", place((0, 1)))?;
     put(alloc, &mut store, 0, 8, [5, 5])?;
@@ -89,6 +98,63 @@ fn parts_text<V: View>(alloc: Global, view: &V) -> Result<String, Fail>
     Ok(text)
 }
 
+// The row of an empty head.
+fn new_row(alloc: Global) -> Result<RowPart, Fail>
+    ensures { IfOk result (λ x. x ≡ record { branch = 0; from = 0; deltas = [] ∷ [] }) }
+{
+    let mut deltas = History::new(alloc);
+    let next = deltas.ready(Bits::new(alloc))?;
+    deltas.push(next);
+    Ok(RowPart {
+        branch: 0,
+        from: 0,
+        deltas,
+    })
+}
+
+// An empty head of master with its row, for the first relation.
+#[tactic(auto, using(hybrid_store::proofs::PartExamples::first_some, hybrid_store::proofs::PartExamples::first_few))]
+fn new_segment(alloc: Global, schema: &Schema) -> Result<SegmentPart, Fail>
+    requires { length schema.now ≡ 1 }
+    ensures { IfOk result (λ s. s ≡ head_of_one schema.now) }
+{
+    let fields = schema.relations()[0].columns.as_slice().len() as u8;
+    let mut rows = Vec::new(alloc);
+    rows.push(new_row(alloc)?)?;
+    Ok(SegmentPart {
+        relation: 0,
+        head: Some(0),
+        records: Segment::new(alloc, fields)?,
+        rows: ListOf::of(rows),
+    })
+}
+
+// The parts of a new dataset of one relation.
+fn new_parts(alloc: Global, schema: Schema) -> Result<LayoutParts, Fail>
+    ensures { IfOk result AreSound }
+{
+    if schema.relations().len() != 1 {
+        return Err("not one relation".into());
+    }
+    let mut segments = Vec::new(alloc);
+    segments.push(new_segment(alloc, &schema)?)?;
+    let Some(name) = Name::read(b"master") else {
+        return Err("no name".into());
+    };
+    let mut branches = Vec::new(alloc);
+    let origin = VersionPlace {
+        branch: 0,
+        position: 0,
+    };
+    branches.push(BranchPart { name, origin })?;
+    Ok(LayoutParts {
+        schema,
+        branches: ListOf::of(branches),
+        versions: ListOf::of(Vec::new(alloc)),
+        segments: ListOf::of(segments),
+    })
+}
+
 fn tells(
     rt: &impl Abort,
     alloc: Global,
@@ -105,7 +171,22 @@ fn tells(
 #[test]
 #[rattlefmt::skip]
 fn shows_segments_as_parts(rt: HostRuntime) -> Result<(), Fail> {
-    let store = two_branches(rt.alloc())?;
+    let new = HybridStore::new(rt.alloc(), items(rt.alloc())?)?;
+    let store = two_branches(rt.alloc(), new)?;
+    shows_two_branches(&rt, rt.alloc(), &store)
+}
+
+// A store that is assembled of the parts of a new one goes on as a new one.
+#[test]
+fn assembles_parts(rt: HostRuntime) -> Result<(), Fail> {
+    let parts = new_parts(rt.alloc(), items(rt.alloc())?)?;
+    let new = HybridStore::assemble(rt.alloc(), parts)?;
+    let store = two_branches(rt.alloc(), new)?;
+    shows_two_branches(&rt, rt.alloc(), &store)
+}
+
+#[rattlefmt::skip]
+fn shows_two_branches(rt: &impl Abort, alloc: Global, store: &HybridStore) -> Result<(), Fail> {
     let cases = [
         // version       parts: segment * 2^32 + records, and its slots
         ((0, 0), "1:. "),
@@ -117,7 +198,7 @@ fn shows_segments_as_parts(rt: HostRuntime) -> Result<(), Fail> {
         ((1, 3), "1:. 8589934595:x.x "),
     ];
     for (at, expected) in cases {
-        tells(&rt, rt.alloc(), &store, at, expected)?;
+        tells(rt, alloc, store, at, expected)?;
     }
     Ok(())
 }
@@ -125,7 +206,8 @@ fn shows_segments_as_parts(rt: HostRuntime) -> Result<(), Fail> {
 #[test]
 #[rattlefmt::skip]
 fn finds_keys_in_parts(rt: HostRuntime) -> Result<(), Fail> {
-    let store = two_branches(rt.alloc())?;
+    let new = HybridStore::new(rt.alloc(), items(rt.alloc())?)?;
+    let store = two_branches(rt.alloc(), new)?;
     let cases = [
         ((0, 2), 7, Some(Spot { part: 0, slot: 0 })),
         ((1, 2), 7, Some(Spot { part: 1, slot: 1 })),

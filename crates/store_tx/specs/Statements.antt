@@ -57,6 +57,7 @@ IsWork x = IsAct x
 abbrev pub commit_over : Dataset → ℕ → Tx (List Overlay) → Option Entry
 commit_over d b tx = commit_entry (over_table (head_of d b)) b tx
 
+-- what a statement that ends a transaction on branch b logs
 abbrev pub entry_over : Dataset → ℕ → Stmt → Tx (List Overlay) → Option Entry
 entry_over d b x tx = entry_at (over_table (head_of d b)) x b tx
 
@@ -156,9 +157,11 @@ HasName _ = Unit {0}
 abbrev pub branched : Dataset → List ℕ → VersionPlace → Outcome (List Overlay)
 branched d name at = branch_as (fresh untouched) name at None (branch_named d name) (length d.branches)
 
+-- the end of a `branch` outside a transaction
 abbrev pub branch_out : Dataset → List ℕ → VersionName → Outcome (List Overlay)
 branch_out d name origin = branch_of d (fresh untouched) name (found d origin)
 
+-- what a made branch logs
 abbrev pub branch_entry : Option (List ℕ × VersionPlace) → Option Entry
 branch_entry None = None
 branch_entry (Some new) = Some (BranchEntry new.0 new.1)

@@ -3,3 +3,5 @@
 
 #[cfg(test)]
 mod history_note_tests;
+#[cfg(test)]
+mod session_run_tests;

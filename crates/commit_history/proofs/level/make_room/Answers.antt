@@ -9,8 +9,8 @@ move_all-requires c =
     let enough = room_enough n in
     let full : n ≡ room_of n = omega (arith, enough, c.if-len-room.false, c.len.ensures, c.args.items.now.ok.0, c.requires.room) in
     let next = room_full n full in
-    let room = c.requires.bigger full in
-    let none = ap length c.requires.empty in
+    let room = c.requires.bigger.2 full in
+    let none = ap length c.requires.bigger.1 in
     omega (arith, next, room, none)
 
 pub returns-clause-room : goal.returns-clause-room
@@ -27,5 +27,5 @@ returns-clause-there c =
     let enough = room_enough n in
     let full : n ≡ room_of n = omega (arith, enough, c.if-len-room.false, c.len.ensures, c.args.items.now.ok.0, c.requires.room) in
     let next = room_full n full in
-    let room = c.requires.bigger full in
+    let room = c.requires.bigger.2 full in
     omega (arith, next, full, room, c.requires.room, c.move_all.ensures.capacity)

@@ -1,10 +1,10 @@
 use Rattle.std.proofs.Common.{◌≤◌, List, map, sym, subst, arith}
 use Rattle.std.specs.List.{All}
-use Rattle.std.specs.List.Sorted.{IsPermutation}
+use Rattle.std.specs.List.Sorted.{IsPermutation, IsSorted}
 use Rattle.db_value.specs.Pred.{pred_holds}
 use Rattle.multi_scan.specs.declared.places.Place.{Place}
 use Rattle.multi_scan.specs.Found.{AreSame, AreInOrder, joined, spread}
-use Rattle.multi_scan.specs.Places.{shown, part_of, places_in, IsPlace, found_at_places}
+use Rattle.multi_scan.specs.Places.{shown, part_of, place_cmp, places_in, IsPlace, found_at_places}
 use Rattle.multi_scan.specs.Cost.{slots_of_distinct}
 use Rattle.multi_scan.proofs.Distinct.{distinct_slots}
 use Rattle.multi_scan.proofs.Agreeing.{places_there, scan_cost}
@@ -14,7 +14,10 @@ use Rattle.multi_scan.proofs.scans.scan.Goals as goal
 pub gather-requires-clause-places : goal.gather-requires-clause-places
 gather-requires-clause-places g c =
     let views = shown g.V.View.parts_of c.args.relation c.args.views.now in
-    subst (All (IsPlace views)) (sym c.deref.ensures.value) (places_there views c.by_id-places.result.items (subst (λ (t : List Place). IsPermutation t c.by_id-places.result.items) c.in_ok-list_places.ensures c.by_id-places.ensures.permutation))
+    record {
+      there = subst (All (IsPlace views)) (sym c.deref.ensures.value) (places_there views c.by_id-places.result.items (subst (λ (t : List Place). IsPermutation t c.by_id-places.result.items) c.in_ok-list_places.ensures c.by_id-places.ensures.permutation));
+      sorted = subst (IsSorted place_cmp) (sym c.deref.ensures.value) c.by_id-places.ensures.sorted;
+    }
 
 pub returns-in_err-found-clause-cost : goal.returns-in_err-found-clause-cost
 returns-in_err-found-clause-cost g c =

@@ -14,8 +14,8 @@ loop-rest-init g c =
     record {
       found = λ q. ap (λ fs. times q (spread fs ++ found_at_places (pred_holds c.args.pred.now) views c.args.places.now)) c.new-found.ensures.items;
       positions = subst (AllByRecursion HasPositions) (sym c.new-found.ensures.items) tt;
-      places = recursion_from_All (IsPlace views) c.args.places.now c.requires.places;
-      sorted = by_ids c.args.places.now c.requires.sorted;
+      places = recursion_from_All (IsPlace views) c.args.places.now c.requires.places.there;
+      sorted = by_ids c.args.places.now c.requires.places.sorted;
       cost = omega arith;
     }
 

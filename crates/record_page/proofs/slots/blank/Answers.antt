@@ -1,4 +1,4 @@
-use Rattle.std.proofs.Common.{arith, ◌≡◌, ◌-◌, ◌+◌, ◌++◌, ◌∷◌, [], ℕ, List, take, replicate, ap, ap₂, ◌∙◌, sym}
+use Rattle.std.proofs.Common.{arith, ◌≡◌, ◌-◌, ◌++◌, ◌∷◌, [], ℕ, List, take, replicate, ap, ap₂, ◌∙◌}
 use Rattle.std.specs.Prelude.{vec_len}
 use Rattle.record_page.specs.Page.{is_page, rows_in, page_bytes}
 use Rattle.record_page.proofs.Pages.{blank_is, empty_paged, page_made, rows_made}

@@ -1,4 +1,4 @@
-use Rattle.std.proofs.Common.{◌≡◌, ◌+◌, ◌*◌, ◌≤◌, ℕ, length, ap, sym, ◌∙◌, subst}
+use Rattle.std.proofs.Common.{◌+◌, ◌*◌, ◌≤◌, ℕ, length, ap, sym, ◌∙◌, subst}
 use Rattle.record_page.specs.Spelling.{record_size}
 use Rattle.record_page.specs.Page.{fields_in}
 use Rattle.record_page.proofs.Pages.{place_there}

@@ -1,5 +1,5 @@
-use Rattle.std.proofs.Common.{arith, ◌≡◌, ◌<◌, ◌≤◌, ◌+◌, ◌*◌, ℕ, List, length, ap, subst, ◌∙◌}
-use Rattle.record_page.specs.Page.{is_page, rows_in, page_bytes, with_record, capacity}
+use Rattle.std.proofs.Common.{arith, ◌<◌, ℕ, List, ap, sym, subst, ◌∙◌}
+use Rattle.record_page.specs.Page.{is_page, rows_in, with_record, capacity}
 use Rattle.record_page.proofs.Pages.{pushed_step, page_made, rows_made}
 use Rattle.record_page.proofs.slots.push_record.Goals as goal
 
@@ -7,7 +7,7 @@ pub returns-clause-pushed : goal.returns-clause-pushed
 returns-clause-pushed c =
     let bytes : List ℕ = c.args.bytes.now in
     let long = c.place_of-at.ensures.room in
-    let room = subst (λ (k : ℕ). c.many_in-count.result < k) (c.capacity_of.ensures ∙ ap capacity c.width_of.ensures) c.if-count-capacity_of.false in
+    let room = subst (λ (k : ℕ). k < capacity (rows_in bytes).fields) (sym c.many_in-count.ensures.count) c.requires.room in
     let made = pushed_step (rows_in bytes) c.args.row.now bytes c.put_count.new.to c.put_record.new.to c.many_in-count.result c.place_of-at.result c.many_in-count.ensures.spelled c.put_record.ensures.is c.requires.width c.many_in-count.ensures.count room c.place_of-at.ensures.value (omega (arith, long)) c.put_record.ensures.put c.put_count.ensures in
     ap rows_in made.0 ∙ rows_made (with_record (rows_in bytes) c.args.row.now) made.1
 
@@ -15,6 +15,6 @@ pub returns-clause-page : goal.returns-clause-page
 returns-clause-page c =
     let bytes : List ℕ = c.args.bytes.now in
     let long = c.place_of-at.ensures.room in
-    let room = subst (λ (k : ℕ). c.many_in-count.result < k) (c.capacity_of.ensures ∙ ap capacity c.width_of.ensures) c.if-count-capacity_of.false in
+    let room = subst (λ (k : ℕ). k < capacity (rows_in bytes).fields) (sym c.many_in-count.ensures.count) c.requires.room in
     let made = pushed_step (rows_in bytes) c.args.row.now bytes c.put_count.new.to c.put_record.new.to c.many_in-count.result c.place_of-at.result c.many_in-count.ensures.spelled c.put_record.ensures.is c.requires.width c.many_in-count.ensures.count room c.place_of-at.ensures.value (omega (arith, long)) c.put_record.ensures.put c.put_count.ensures in
     ap is_page made.0 ∙ page_made (with_record (rows_in bytes) c.args.row.now) made.1

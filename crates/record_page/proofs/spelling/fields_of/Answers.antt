@@ -1,4 +1,4 @@
-use Rattle.std.proofs.Common.{arith, rules, ap, ◌∙◌, w64, ◌+◌, ◌<◌, ◌≤◌, ◌*◌, ◌-◌, ◌≡◌, length}
+use Rattle.std.proofs.Common.{arith, rules, ap, ◌∙◌, w64, length}
 use Rattle.std.proofs.lemmas.Int.{to_z-of_z}
 use Rattle.std.proofs.lemmas.List.{length-drop, length-set}
 use Rattle.record_page.proofs.Spellings.{values_next}

@@ -1,4 +1,4 @@
-use Rattle.std.proofs.Common.{arith, refl, subst, ◌∙◌, ◌*◌, List, ℤ, ◌≤◌, length}
+use Rattle.std.proofs.Common.{arith, refl, subst, List, ℤ}
 use Rattle.std.specs.List.{AllByRecursion}
 use Rattle.std.specs.Int.{w64}
 use Rattle.std.specs.Int.RustNames.{FitsSigned}

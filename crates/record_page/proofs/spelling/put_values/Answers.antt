@@ -1,4 +1,4 @@
-use Rattle.std.proofs.Common.{arith, rules, w64, pos, get_or, ◌≤◌, ◌*◌, ◌+◌, length, ◌≡◌}
+use Rattle.std.proofs.Common.{arith, rules, w64, pos, get_or}
 use Rattle.std.specs.Int.RustNames.{FitsSigned}
 use Rattle.std.proofs.lemmas.Int.{to_z-of_z}
 use Rattle.record_page.proofs.Spellings.{fit_more, put_step}

@@ -1,4 +1,4 @@
-use Rattle.std.proofs.Common.{arith, rules, ap, ◌∙◌, w64, ◌+◌, ◌<◌, ◌≤◌, ◌*◌, ◌-◌, ◌≡◌, ◌++◌, ℤ, List, take, length}
+use Rattle.std.proofs.Common.{arith, rules, ap, ◌∙◌, w64, ◌+◌, ◌-◌, ◌++◌, ℤ, List, take, length}
 use Rattle.std.proofs.lemmas.Int.{to_z-of_z}
 use Rattle.std.proofs.lemmas.List.{length-drop, length-set}
 use Rattle.record_page.specs.Spelling.{values_in}

@@ -42,6 +42,6 @@ returns-in_err-told-clause-err g c =
     }) in
     let same : IsSameIf b.now k.current k.open_tx m.open_tx =
     subst (λ (p : State × (ℕ × Option Granted)). IsSameIf p.0 p.1.0 p.1.1 m.open_tx) (λ i. (ap (λ (x : Kept). x.now) v i, (ap (λ (x : AtDesk). x.current) u i, ap (λ (x : AtDesk). x.open_tx) u i))) c.in_err-told.ensures.err.1 in
-    let board : b ≡ record { opening = g.St.Store.state c.self.inside.opening; steps = c.self.inside.steps.items; now = g.St.Store.state c.self.inside.store; rows = c.ask.new.locks.rows; first_count = c.self.inside.first_count } =
-    (sym v ∙ (λ i. record { opening = g.St.Store.state c.self.inside.opening; steps = c.self.inside.steps.items; now = g.St.Store.state c.self.inside.store; rows = sym c.in_err-told.ensures.err.0 i; first_count = c.self.inside.first_count })) in
-    on_err c.from_residual.result _ (sym board, subst (λ (x : Kept). Agrees x m) board (agree_same b k m c.requires.agree e same))
+    let mid : Kept = record { opening = g.St.Store.state c.self.inside.opening; steps = c.self.inside.steps.items; now = g.St.Store.state c.self.inside.store; rows = c.ask.new.locks.rows; first_count = c.self.inside.first_count } in
+    let stays : record { kept = mid; log = c.self.inside.log } ≡ c.args.self.now = (λ i. record { kept = record mid { rows = c.in_err-told.ensures.err.0 i }; log = c.self.inside.log }) ∙ c.self.view_is in
+    on_err c.from_residual.result _ (stays, subst (λ (x : Kept). Agrees x m) (sym (kept_is _ _ stays)) (agree_same b k m c.requires.agree e same))

@@ -62,26 +62,12 @@ returns-clause-answered g c =
         kept = (λ i. record v { steps = steps i; now = N; rows = c.answer.new.locks.rows })
             ∙ ap (λ (k : Kept). record k { steps = k.steps ++ step_of text z r ∷ []; now = N; rows = c.answer.new.locks.rows }) (sym vk);
         reply = λ later more. subst (λ (k : Kept). r ≡ reply_in (world_of k) (said_of text z) later) (sym vk) (reply_later v s.number x text z r h c.requires.line re later more);
+        named = named_then v s.number x text z r h c.requires.line re;
       },
       subst (λ (p : State × (Option Entry × g.row.J.Denot)). Stores g.J.Log.faults g.J.Log.Keeps g.J.Log.generation g.J.Log.moment g.J.Log.opens_since g.J.Log.Quiet p.0 z p.1.0 p.1.1 c.answer.new.log)
           (λ i. ((sym vk i).now, (entry_with (world_of (sym vk i)) (sym heard_is i).session (sym heard_is i).stmt, (c.self.view_is i).log)))
           (a.ensures.stores (world_of v) seated),
     )
-
-pub returns-clause-named : goal.returns-clause-named
-returns-clause-named g c =
-    let s = c.args.session.now in
-    let v : Kept = record { opening = g.St.Store.state c.self.inside.opening; steps = c.self.inside.steps.items; now = g.St.Store.state c.self.inside.store; rows = c.self.inside.locks.rows; first_count = c.self.inside.first_count } in
-    let vk : c.args.self.now.kept ≡ v = sym (kept_is _ _ c.self.view_is) in
-    let h = subst Stands vk c.requires.sits.0 in
-    let seated = seated_of v s.number s.current s.skipping s.tx h (subst (λ (k : Kept). Sits (world_of k) s.number s.current s.skipping s.tx) vk c.requires.sits.1) in
-    let x = c.args.stmt.now in
-    let text = c.args.text.now in
-    let a = c.in_ok-answered in
-    let z : Bool = a.answered.failed in
-    let r : Reply = c.into_both-reply.result.0 in
-    let re = c.into_both-reply.ensures.reply ∙ a.ensures.served.reply (world_of v) seated in
-    named_then v s.number x text z r h c.requires.line re
 
 pub returns-clause-sits : goal.returns-clause-sits
 returns-clause-sits g c =

@@ -22,18 +22,11 @@ returns-clause-count c =
     let is : c.index.result.now ≡ get_or s.lanes.items c.args.branch no_kept = c.index.ensures ∙ get_or_default s.lanes.items c.args.branch c.index.result.now no_kept c.requires in
     ap (λ (k : KeptLane). length k.seconds) is ∙ kept_versions s.schema s.lanes.items s.order.items s.segments.items c.args.branch c.requires
 
-pub returns-clause-rooted : goal.returns-clause-rooted
-returns-clause-rooted c =
+pub returns-clause-versions : goal.returns-clause-versions
+returns-clause-versions c =
     let s = c.args.self.now in
     let n = kept_count s.schema s.lanes.items s.order.items s.segments.items in
     let e = returns-clause-count c in
-    let r = s.sound.rooted c.args.branch (omega (arith, n, c.requires)) in
-    omega (arith, e, r)
-
-pub returns-clause-few : goal.returns-clause-few
-returns-clause-few c =
-    let s = c.args.self.now in
-    let n = kept_count s.schema s.lanes.items s.order.items s.segments.items in
-    let e = returns-clause-count c in
-    let r = s.sound.few_versions c.args.branch (omega (arith, n, c.requires)) in
-    omega (arith, e, r)
+    let some = s.sound.rooted c.args.branch (omega (arith, n, c.requires)) in
+    let few = s.sound.few_versions c.args.branch (omega (arith, n, c.requires)) in
+    record { some = omega (arith, e, some); few = omega (arith, e, few) }

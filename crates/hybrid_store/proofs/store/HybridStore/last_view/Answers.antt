@@ -10,7 +10,7 @@ use Rattle.hybrid_store.proofs.store.HybridStore.last_view.Goals as goal
 pub returns-clause-table : goal.returns-clause-table
 returns-clause-table c =
     let s = c.args.self.now in
-    let some : 0 < length (get_or s.lanes.items c.args.branch no_kept).seconds = subst (λ (k : KeptLane). 0 < length k.seconds) c.lane.ensures.lane c.lane.ensures.rooted in
+    let some : 0 < length (get_or s.lanes.items c.args.branch no_kept).seconds = subst (λ (k : KeptLane). 0 < length k.seconds) c.lane.ensures.lane c.lane.ensures.versions.some in
     ap table_of (c.view.ensures ∙ ap (λ (k : KeptLane). k.head) c.lane.ensures.lane) ∙ head_is s.schema s.lanes.items s.order.items s.segments.items c.args.branch c.requires s.stored some
 
 pub returns-clause-parts : goal.returns-clause-parts

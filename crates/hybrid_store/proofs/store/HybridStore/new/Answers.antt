@@ -53,9 +53,9 @@ invariant_of-result c =
     λ r h. ap (λ (ys : List Rows). own_at ys r) (ap (map arc_value) d2) ∙ own r h in
     let lane : m ≡ record { name = codes "master"; origin = root; base = root; seconds = None ∷ []; rows = m.rows; head = m.head; room = m.room } =
     c.in_ok-master.ensures.lane ∙ ap (λ (n : List ℕ). record { name = n; origin = root; base = root; seconds = None ∷ []; rows = m.rows; head = m.head; room = m.room }) c.in-Some.ensures.value in
-    let rows : (r : ℕ) → r < length schema → kept_rows m r ≡ first_row ∷ [] = λ r h. c.in_ok-master.ensures.rows r (omega (arith, h, l2)) in
+    let rows : (r : ℕ) → r < length schema → kept_rows m r ≡ first_row ∷ [] = λ r h. c.in_ok-master.ensures.first.rows r (omega (arith, h, l2)) in
     let lived : (r : ℕ) → r < length schema → lived_at m.head r ≡ first_lived (record { fields = length (columns_at schema r); records = [] }) =
-    λ r h. c.in_ok-master.ensures.lived r (omega (arith, h, l2)) ∙ ap first_lived (own2 r h) in
+    λ r h. c.in_ok-master.ensures.first.lived r (omega (arith, h, l2)) ∙ ap first_lived (own2 r h) in
     let lists : (r : ℕ) → r < length schema → list_at segs r ≡ record { head = Some 0; rows = record { fields = length (columns_at schema r); records = [] } } ∷ [] =
     λ r h. c.in_ok-segments.ensures.all r (omega (arith, h, l1)) ∙ ap (λ (x : Rows). record { head = Some 0; rows = x } ∷ []) (own1 r h) in
     let items : c.push.new.self.items ≡ m ∷ [] = c.in_ok-push.ensures.items ∙ ap (λ (ks : List KeptLane). ks ++ m ∷ []) c.in_ok-lanes.ensures.items in
@@ -67,7 +67,7 @@ invariant_of-result c =
       laid = subst IsLaid (sym is) (new_laid schema).0;
       stored = subst (λ (ks : List KeptLane). IsStored schema ks segs) (sym items)
           (new_stored schema m order segs lane rows lists (c.in_ok-segments.ensures.count ∙ l1) (λ r h. c.in_ok-segments.ensures.room r (omega (arith, h, l1)))
-          (c.in_ok-master.ensures.count ∙ l2) (c.in_ok-master.ensures.wide ∙ l2) lived);
+          (c.in_ok-master.ensures.first.count ∙ l2) (c.in_ok-master.ensures.first.wide ∙ l2) lived);
       sound = subst IsSound (sym d) (new_sound schema);
       counted = subst IsCounted (sym d) (new_is_counted schema c.relations.ensures.counted);
       few_relations = few_relations schema c.relations.ensures.counted;
@@ -111,9 +111,9 @@ returns-clause-state c =
     λ r h. ap (λ (ys : List Rows). own_at ys r) (ap (map arc_value) d2) ∙ own r h in
     let lane : m ≡ record { name = codes "master"; origin = root; base = root; seconds = None ∷ []; rows = m.rows; head = m.head; room = m.room } =
     c.in_ok-master.ensures.lane ∙ ap (λ (n : List ℕ). record { name = n; origin = root; base = root; seconds = None ∷ []; rows = m.rows; head = m.head; room = m.room }) c.in-Some.ensures.value in
-    let rows : (r : ℕ) → r < length schema → kept_rows m r ≡ first_row ∷ [] = λ r h. c.in_ok-master.ensures.rows r (omega (arith, h, l2)) in
+    let rows : (r : ℕ) → r < length schema → kept_rows m r ≡ first_row ∷ [] = λ r h. c.in_ok-master.ensures.first.rows r (omega (arith, h, l2)) in
     let lived : (r : ℕ) → r < length schema → lived_at m.head r ≡ first_lived (record { fields = length (columns_at schema r); records = [] }) =
-    λ r h. c.in_ok-master.ensures.lived r (omega (arith, h, l2)) ∙ ap first_lived (own2 r h) in
+    λ r h. c.in_ok-master.ensures.first.lived r (omega (arith, h, l2)) ∙ ap first_lived (own2 r h) in
     let lists : (r : ℕ) → r < length schema → list_at segs r ≡ record { head = Some 0; rows = record { fields = length (columns_at schema r); records = [] } } ∷ [] =
     λ r h. c.in_ok-segments.ensures.all r (omega (arith, h, l1)) ∙ ap (λ (x : Rows). record { head = Some 0; rows = x } ∷ []) (own1 r h) in
     let items : c.push.new.self.items ≡ m ∷ [] = c.in_ok-push.ensures.items ∙ ap (λ (ks : List KeptLane). ks ++ m ∷ []) c.in_ok-lanes.ensures.items in

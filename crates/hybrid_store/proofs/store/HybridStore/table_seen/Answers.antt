@@ -30,7 +30,7 @@ rows-rows-requires c =
 pub relation_seen-requires-clause-few : goal.relation_seen-requires-clause-few
 relation_seen-requires-clause-few c =
     let made = c.requires.1 in
-    let few = c.lane.ensures.few in
+    let few = c.lane.ensures.versions.few in
     let count = c.lane.ensures.count in
     omega (arith, made, few, count)
 

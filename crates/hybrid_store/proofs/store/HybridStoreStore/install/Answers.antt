@@ -4,7 +4,7 @@ use Rattle.std.proofs.lemmas.List.{get_or_default, length-map, length_push, leng
 use Rattle.std.proofs.lemmas.List.Elements.{All-set, All-weaker}
 use Rattle.db_value.specs.declared.version.VersionPlace.{VersionPlace}
 use Rattle.record_page.specs.Page.{Rows}
-use Rattle.commit_history.specs.Runs.{Next, next_of}
+use Rattle.commit_history.specs.Runs.{Next}
 use Rattle.db_store.specs.Dataset.{Dataset, proper, head_place, apply}
 use Rattle.db_store.specs.Sound.{IsSound}
 use Rattle.db_store.specs.Counted.{IsCounted}
@@ -19,7 +19,7 @@ use Rattle.db_store.proofs.LaidLemmas.{laid_stays}
 use Rattle.hybrid_view.specs.Live.{Lived}
 use Rattle.store_catalogue.specs.ByName.{AreNumbers}
 use Rattle.bit_rows.specs.Rows.{kept_row_at, next_at, pushed_row}
-use Rattle.bit_rows.specs.Kept.{KeptLane, no_kept, kept_rows, nexts_at}
+use Rattle.bit_rows.specs.Kept.{KeptLane, no_kept, kept_rows, nexts_at, AreReady}
 use Rattle.hybrid_store.specs.Lanes.{kept_layout}
 use Rattle.bit_rows.specs.Segments.{KeptList, list_at}
 use Rattle.hybrid_store.specs.Stored.{HasHead, kept_dataset, HasRoom}
@@ -123,34 +123,6 @@ push-requires-clause-room c =
     let room : HasRoom s.spare c.index_mut.result.now = subst (HasRoom s.spare) (sym c.index_mut.ensures.value) (s.rooms b c.index_mut.result.now there) in
     omega (arith, room, c.requires.spare)
 
-pub push-requires-clause-count : goal.push-requires-clause-count
-push-requires-clause-count c =
-    let s = c.args.self.now in
-    let p = c.args.prepared in
-    let b = p.branch in
-    let nexts : List (List Next) = p.deltas.items in
-    let head : List Lived = arc_value p.head.table in
-    let owns : List Rows = map arc_value p.records.items in
-    let e = c.requires.ready.0 in
-    let r = c.requires.ready.1 in
-    let there : b < length s.lanes.items = ready_there s.schema s.lanes.items s.order.items s.segments.items b p.second nexts head owns s.stored s.laid s.sound e r in
-    let old : c.index_mut.result.now ≡ get_or s.lanes.items b no_kept = c.index_mut.ensures.value ∙ get_or_default s.lanes.items b c.index_mut.result.now no_kept there in
-    ready_count s.schema s.lanes.items s.order.items s.segments.items b p.second (parts s.schema s.lanes.items s.order.items s.segments.items b p.second nexts head owns s.stored s.laid s.sound e r).changes nexts head owns there s.stored s.laid (parts s.schema s.lanes.items s.order.items s.segments.items b p.second nexts head owns s.stored s.laid s.sound e r).made ∙ sym (ap (λ (k : KeptLane). length k.rows) old)
-
-pub push-requires-clause-counts : goal.push-requires-clause-counts
-push-requires-clause-counts c =
-    let s = c.args.self.now in
-    let p = c.args.prepared in
-    let b = p.branch in
-    let nexts : List (List Next) = p.deltas.items in
-    let head : List Lived = arc_value p.head.table in
-    let owns : List Rows = map arc_value p.records.items in
-    let e = c.requires.ready.0 in
-    let r = c.requires.ready.1 in
-    let there : b < length s.lanes.items = ready_there s.schema s.lanes.items s.order.items s.segments.items b p.second nexts head owns s.stored s.laid s.sound e r in
-    let old : c.index_mut.result.now ≡ get_or s.lanes.items b no_kept = c.index_mut.ensures.value ∙ get_or_default s.lanes.items b c.index_mut.result.now no_kept there in
-    subst (λ (k : KeptLane). (q : ℕ) → q < length k.rows → length (nexts_at nexts q) ≡ length (kept_rows k q)) (sym old) (ready_counts s.schema s.lanes.items s.order.items s.segments.items b p.second (parts s.schema s.lanes.items s.order.items s.segments.items b p.second nexts head owns s.stored s.laid s.sound e r).changes nexts head owns there s.stored s.laid (parts s.schema s.lanes.items s.order.items s.segments.items b p.second nexts head owns s.stored s.laid s.sound e r).made)
-
 pub push-requires-clause-ready : goal.push-requires-clause-ready
 push-requires-clause-ready c =
     let s = c.args.self.now in
@@ -163,8 +135,13 @@ push-requires-clause-ready c =
     let r = c.requires.ready.1 in
     let there : b < length s.lanes.items = ready_there s.schema s.lanes.items s.order.items s.segments.items b p.second nexts head owns s.stored s.laid s.sound e r in
     let old : c.index_mut.result.now ≡ get_or s.lanes.items b no_kept = c.index_mut.ensures.value ∙ get_or_default s.lanes.items b c.index_mut.result.now no_kept there in
-    subst (λ (k : KeptLane). (q i : ℕ) → q < length k.rows → i < length (kept_rows k q) → next_at (nexts_at nexts q) i ≡ next_of (kept_row_at (kept_rows k q) i).deltas (next_at (nexts_at nexts q) i).delta.item) (sym old)
-    (ready_each s.schema s.lanes.items s.order.items s.segments.items b p.second (parts s.schema s.lanes.items s.order.items s.segments.items b p.second nexts head owns s.stored s.laid s.sound e r).changes nexts head owns there s.stored s.laid (parts s.schema s.lanes.items s.order.items s.segments.items b p.second nexts head owns s.stored s.laid s.sound e r).made)
+    let cs = (parts s.schema s.lanes.items s.order.items s.segments.items b p.second nexts head owns s.stored s.laid s.sound e r).changes in
+    let made = (parts s.schema s.lanes.items s.order.items s.segments.items b p.second nexts head owns s.stored s.laid s.sound e r).made in
+    subst (λ (k : KeptLane). AreReady k.rows nexts) (sym old) (record {
+      count = ready_count s.schema s.lanes.items s.order.items s.segments.items b p.second cs nexts head owns there s.stored s.laid made;
+      counts = ready_counts s.schema s.lanes.items s.order.items s.segments.items b p.second cs nexts head owns there s.stored s.laid made;
+      ready = ready_each s.schema s.lanes.items s.order.items s.segments.items b p.second cs nexts head owns there s.stored s.laid made;
+    })
 
 pub invariant_of-self : goal.invariant_of-self
 invariant_of-self c =
@@ -183,9 +160,9 @@ invariant_of-self c =
     let news : List KeptList = c.put_records.new.segments.items in
     let new_is : new ≡ record (get_or s.lanes.items b no_kept) { seconds = (get_or s.lanes.items b no_kept).seconds ++ p.second ∷ []; rows = new.rows; head = head } =
     c.push.ensures.lane ∙ ap (λ (k : KeptLane). record k { seconds = k.seconds ++ p.second ∷ []; rows = new.rows; head = head }) old in
-    let wide = c.push.ensures.count ∙ ap (λ (k : KeptLane). length k.rows) old in
-    let counts = subst (λ (k : KeptLane). (q : ℕ) → q < length k.rows → length (kept_rows new q) ≡ length (kept_rows k q)) old c.push.ensures.counts in
-    let each = subst (λ (k : KeptLane). (q i : ℕ) → q < length k.rows → i < length (kept_rows k q) → kept_row_at (kept_rows new q) i ≡ pushed_row (kept_row_at (kept_rows k q) i) (next_at (nexts_at nexts q) i)) old c.push.ensures.each in
+    let wide = c.push.ensures.pushed.count ∙ ap (λ (k : KeptLane). length k.rows) old in
+    let counts = subst (λ (k : KeptLane). (q : ℕ) → q < length k.rows → length (kept_rows new q) ≡ length (kept_rows k q)) old c.push.ensures.pushed.counts in
+    let each = subst (λ (k : KeptLane). (q i : ℕ) → q < length k.rows → i < length (kept_rows k q) → kept_row_at (kept_rows new q) i ≡ pushed_row (kept_row_at (kept_rows k q) i) (next_at (nexts_at nexts q) i)) old c.push.ensures.pushed.each in
     let put = c.put_records.ensures.each in
     let place : c.count-position.result ≡ length (get_or s.lanes.items b no_kept).seconds = c.count-position.ensures ∙ ap (λ (k : KeptLane). length k.seconds) c.lane.ensures.lane in
     let order : c.push_reserved.new.self.items ≡ s.order.items ++ record { branch = b; position = length (get_or s.lanes.items b no_kept).seconds } ∷ [] =
@@ -235,9 +212,9 @@ returns-clause-grown c =
     let news : List KeptList = c.put_records.new.segments.items in
     let new_is : new ≡ record (get_or s.lanes.items b no_kept) { seconds = (get_or s.lanes.items b no_kept).seconds ++ p.second ∷ []; rows = new.rows; head = head } =
     c.push.ensures.lane ∙ ap (λ (k : KeptLane). record k { seconds = k.seconds ++ p.second ∷ []; rows = new.rows; head = head }) old in
-    let wide = c.push.ensures.count ∙ ap (λ (k : KeptLane). length k.rows) old in
-    let counts = subst (λ (k : KeptLane). (q : ℕ) → q < length k.rows → length (kept_rows new q) ≡ length (kept_rows k q)) old c.push.ensures.counts in
-    let each = subst (λ (k : KeptLane). (q i : ℕ) → q < length k.rows → i < length (kept_rows k q) → kept_row_at (kept_rows new q) i ≡ pushed_row (kept_row_at (kept_rows k q) i) (next_at (nexts_at nexts q) i)) old c.push.ensures.each in
+    let wide = c.push.ensures.pushed.count ∙ ap (λ (k : KeptLane). length k.rows) old in
+    let counts = subst (λ (k : KeptLane). (q : ℕ) → q < length k.rows → length (kept_rows new q) ≡ length (kept_rows k q)) old c.push.ensures.pushed.counts in
+    let each = subst (λ (k : KeptLane). (q i : ℕ) → q < length k.rows → i < length (kept_rows k q) → kept_row_at (kept_rows new q) i ≡ pushed_row (kept_row_at (kept_rows k q) i) (next_at (nexts_at nexts q) i)) old c.push.ensures.pushed.each in
     let put = c.put_records.ensures.each in
     let place : c.count-position.result ≡ length (get_or s.lanes.items b no_kept).seconds = c.count-position.ensures ∙ ap (λ (k : KeptLane). length k.seconds) c.lane.ensures.lane in
     let order : c.push_reserved.new.self.items ≡ s.order.items ++ record { branch = b; position = length (get_or s.lanes.items b no_kept).seconds } ∷ [] =

@@ -1,0 +1,16 @@
+pub mod Examples
+pub mod Steps
+pub mod SegmentsRead
+pub mod Grown
+pub mod BranchesRead
+pub mod VersionsRead
+pub mod Read
+pub mod Sound
+pub mod Heads
+pub mod Bits
+pub mod RowsLaid
+pub mod Laid
+pub mod Slots
+pub mod HeadNumbers
+pub mod Wholes
+pub mod FitLaw

@@ -1,0 +1,67 @@
+//! The segments of a layout, from those of an image.
+ghost use Rattle.std.specs.Prelude.{◌≡◌, ◌-◌, ◌<◌, ◌≤◌, ◌++◌, map, Some, IfOk, OnOk};
+ghost use Rattle.std.specs.List.{All};
+ghost use Rattle.db_image.specs.Parts.{head_part, segment_with, Fits};
+
+use crate::rows::rows_of;
+use hybrid_store::SegmentPart;
+use image_text::SegmentPart as SegmentRead;
+use segment::Segment;
+use std::alloc::{AllocError, Global};
+
+// The branch that a number tells.
+#[tactic(auto, using(crate::proofs::HeadNumbers::head_none, crate::proofs::HeadNumbers::head_some))]
+fn head_of(head: u32) -> Option<u32>
+    ensures { result ≡ head_part head }
+{
+    if head == 0 {
+        return None;
+    }
+    Some(head - 1)
+}
+
+/// A segment of a relation, for records of so many fields.
+pub fn segment_of(
+    alloc: Global,
+    relation: u8,
+    fields: u8,
+    part: &SegmentRead,
+) -> Result<SegmentPart, AllocError>
+    requires some { 0 < fields }
+    requires few { fields ≤ 15 }
+    requires fits { Fits fields part.now }
+    ensures { IfOk result (λ made. made ≡ segment_with relation fields part.now) }
+{
+    let records = Segment::new(alloc, fields)?.extended(&part.records)?;
+    let rows = rows_of(
+        alloc,
+        part.rows.as_slice(),
+        part.records.as_slice().len() as u32,
+    )?;
+    Ok(SegmentPart {
+        relation,
+        head: head_of(part.head),
+        records,
+        rows,
+    })
+}
+
+/// Puts the segments of a relation after those of others.
+pub fn put_segments(
+    alloc: Global,
+    made: &mut Vec<SegmentPart>,
+    relation: u8,
+    fields: u8,
+    parts: &[SegmentRead],
+) -> Result<(), AllocError>
+    requires some { 0 < fields }
+    requires few { fields ≤ 15 }
+    requires fit { All (Fits fields) parts.now }
+    ensures { OnOk result (made.new.items
+        ≡ made.old.items ++ map (segment_with relation fields) parts.now) }
+{
+    for part in parts {
+        made.push(segment_of(alloc, relation, fields, part)?)?;
+    }
+    Ok(())
+}

@@ -1,0 +1,14 @@
+pub mod Counting
+pub mod Fronts
+pub mod Loops
+pub mod Saying
+pub mod Shutting
+pub mod AbortText
+pub mod Ending
+pub mod Numbers
+pub mod Outcomes
+pub mod Placing
+pub mod Tying
+pub mod Sessions
+pub mod Finishing
+pub mod Few

@@ -1,0 +1,109 @@
+//! Sections, each on a thread of its own, at one board.
+ghost use Rattle.std.specs.Prelude.{◌≡◌, ◌≤◌, ℕ, [], length, IfOk, IfErr};
+ghost use Rattle.stmt_text.specs.Sections.{AllOwn, Above};
+ghost use Rattle.history_note.specs.Shown.{new_pen};
+ghost use Rattle.db_core.specs.Kept.{Stands};
+ghost use Rattle.session_run.specs.Runs.{HasRun, IsNew, IsInterleaving, IsBeginning, IsNamed};
+
+use crate::jobs::{run_jobs, seated};
+use crate::tie::tie_all;
+use db_core::Board;
+use db_hub::{Hub, Room, Tag};
+use db_store::Store;
+use entry_codec::Log;
+use history_note::{Note, Pen};
+use std::alloc::{AllocError, Global};
+use std::marker::Brand;
+use std::sync::{Mutex, Wait};
+use std::thread::Threads;
+use stmt_text::{Section, Sections};
+
+/// Why not all sections were run to their ends. The board has the lines that were.
+#[derive(Clone, Copy, Debug, PartialEq, Eq)]
+pub enum Unfinished {
+    /// There was no memory for a line. The list has a beginning of each section.
+    Memory,
+    /// There was no memory for a pass, so it isn't known how far its section came.
+    PassLost,
+}
+
+fn run_named<
+    St: Store + Send + Sync,
+    J: Log<St> + Send + Sync,
+    T: Tag + Send + Sync,
+    R: Threads + Wait + Sync,
+>(
+    rt: &R,
+    alloc: Global,
+    sections: &[Section],
+    board: Board<St, J>,
+    note: Note<St>,
+    pen: Pen<St>,
+) -> Result<Board<St, J>, (Unfinished, Board<St, J>)>
+where
+    St::View: Send + Sync,
+    St::Prepared: Send + Sync,
+    St::PreparedBranch: Send + Sync,
+    requires sections { (length sections.now ≤ 65) × AllOwn sections.now × Above 0 sections.now }
+    requires board { IsNew board.kept }
+    requires note { (note.opening ≡ board.kept.opening) × (pen ≡ new_pen note) }
+    requires named { IsNamed T.note T.opened T.first T.numbers T.since
+        note board.kept sections.now }
+    ensures ok { IfOk result (λ b. HasRun board.kept b.kept
+        × IsInterleaving board.kept.opening sections.now b.kept.steps) }
+    ensures err { IfErr result (λ e. HasRun board.kept e.1.kept
+        × IsBeginning e.0 board.kept.opening sections.now e.1.kept.steps) }
+{
+    let mut room = Room::<St, J, T>::new(alloc, board, note, pen);
+    match seated(alloc, &mut room, sections) {
+        Err(AllocError) => {
+            let Room { board, .. } = room;
+            Err((Unfinished::Memory, board))
+        }
+        Ok(mut jobs) => {
+            let hub = Hub {
+                lock: Mutex::new(room),
+            };
+            run_jobs(rt, alloc, &hub, sections, &mut jobs);
+            let Hub { lock } = hub;
+            let Room {
+                board,
+                note,
+                mut pen,
+                ..
+            } = lock.into_inner();
+            match tie_all(&note, &mut pen, jobs) {
+                Err(why) => Err((why, board)),
+                Ok(()) => Ok(board),
+            }
+        }
+    }
+}
+
+/// Runs each section on a thread of its own, on a board on which nothing was run. The board's list is then an interleaving of the
+/// sections, in which each line has the reply of its whole transaction. A section whose thread can't be started runs on the thread
+/// that would have started it. After want of memory the list, with its replies, has a beginning of each section, unless a pass was lost.
+pub fn run_sessions<St: Store + Send + Sync, J: Log<St> + Send + Sync, R: Threads + Wait + Sync>(
+    rt: &R,
+    alloc: Global,
+    sections: &Sections,
+    board: Board<St, J>,
+) -> Result<Board<St, J>, (Unfinished, Board<St, J>)>
+where
+    St::View: Send + Sync,
+    St::Prepared: Send + Sync,
+    St::PreparedBranch: Send + Sync,
+    requires few { length sections.now ≤ 65 }
+    requires board { IsNew board.kept }
+    ensures ok { IfOk result (λ b. HasRun board.kept b.kept
+        × IsInterleaving board.kept.opening sections.now b.kept.steps) }
+    ensures err { IfErr result (λ e. HasRun board.kept e.1.kept
+        × IsBeginning e.0 board.kept.opening sections.now e.1.kept.steps) }
+{
+    match Note::new(alloc, board.store()) {
+        Err(AllocError) => Err((Unfinished::Memory, board)),
+        Ok((note, pen)) => {
+            run_named::<St, J, Brand, R>(rt, alloc, sections.as_slice(), board, note, pen)
+        }
+    }
+}

@@ -1,0 +1,252 @@
+"""Hostile use of the program: files that are spoilt, or something else than files, and inputs as large as they come.
+
+What spoilt files stand for is what tests/files.py reads by docs/FORMATS.md alone. Each run has two seconds and two GB.
+"""
+import os, random, resource, subprocess, tempfile, time
+
+import files, on_files, worked
+
+SECONDS, MEMORY = 2, 2 << 30
+SPOILT = 2000
+LONGEST = 16 << 20
+
+
+def limited():
+    resource.setrlimit(resource.RLIMIT_AS, (MEMORY, MEMORY))
+
+
+class Base(on_files.Base):
+    """A base whose program has little time and memory."""
+
+    seconds = SECONDS
+
+    def run(self, verb, given=b"", more=()):
+        try:
+            done = subprocess.run([self.program, verb, self.name, *more], input=given, stdout=subprocess.PIPE, stderr=subprocess.PIPE, timeout=self.seconds, preexec_fn=limited)
+        except subprocess.TimeoutExpired:
+            return "no end", b"", b""
+        return done.returncode, done.stdout, done.stderr
+
+    def removed(self):
+        for file in (0, 1):
+            path = self.path(file)
+            if os.path.isdir(path) and not os.path.islink(path):
+                os.rmdir(path)
+            elif os.path.lexists(path):
+                os.unlink(path)
+
+
+# ---- the file of one insert, byte by byte
+
+def when_cut(length):
+    """What `check` writes of that file's first bytes."""
+    if length < 57:
+        return b"not a dataset\n"
+    if length < 124:
+        return b"damaged file 0 at 17 length\n"
+    return b"damaged file 0 at %d length\n" % (197 if length == 197 else 124)
+
+
+def when_changed(at, value, whole):
+    """What `check` writes if a byte has another value."""
+    def ok(generation, entries):
+        return b"ok generation %d branches 1 versions %d entries %d\n" % (generation, 1 + entries, entries)
+
+    def damaged(place, cause):
+        return b"damaged file 0 at %d %s\n" % (place, cause)
+    if at <= 8:
+        return b"not a dataset\n"
+    if at <= 16:
+        generation = int.from_bytes(whole[9:at] + bytes([value]) + whole[at + 1:17], "little")
+        return ok(generation, 1) if 1 <= generation <= 1 << 63 else damaged(9, b"grammar")
+    if at == 17:
+        return damaged(25, b"digest") if value <= 141 else damaged(17, b"length")
+    if at <= 24:
+        return damaged(17, b"length")
+    if at <= 123:
+        return damaged(25, b"digest")
+    if at == 124:
+        return ok(1, 0)
+    if at == 125:
+        return damaged(124, b"digest" if 1 <= value <= 37 else b"length")
+    if at <= 128:
+        return damaged(124, b"length")
+    if at <= 196:
+        return damaged(124, b"digest")
+    return damaged(197, b"length") if value == 1 else ok(1, 1)
+
+
+def each_byte(base):
+    """The file of one insert, cut at each length, and each of its bytes changed to some other values."""
+    base.made(b"1 insert items 1 1 1\n")
+    whole, wrong, tried = base.read(0), [], 0
+    for length in range(len(whole)):
+        base.write(0, whole[:length])
+        tried += 1
+        if base.run("check")[1] != when_cut(length):
+            wrong.append((length, base.run("check")))
+    for at in range(len(whole)):
+        for value in sorted({0, 1, whole[at] ^ 1, whole[at] ^ 128, 37, 38, 141, 142, 255} - {whole[at]}):
+            base.write(0, whole[:at] + bytes([value]) + whole[at + 1:])
+            tried += 1
+            found = base.run("check")
+            if found[1] != when_changed(at, value, whole) or found != base.told():
+                wrong.append((at, value, found))
+    print("tests/run: %d files of one insert, each cut or with a byte changed" % tried, flush=True)
+    yield "each byte of the file of one insert", wrong, []
+
+
+# ---- files spoilt at random
+
+def some_datasets(base):
+    """The bytes of some datasets: a new one, one with a commit, and one with branches, merges and deletions."""
+    for script in (b"", b"1 insert items 1 1 1\n",
+                   b"".join(b"1 insert items %d %d 0\n" % (n, n * n) for n in range(20)) + b"1 branch dev of master@3\n1 branch old of dev@0\n1 on dev\n1 delete items 2\n"
+                   b"1 update items 1 a=7\n1 merge master prefer dev\n1 begin\n1 insert items 100 1 1\n1 insert items 101 1 1\n1 delete items 3\n1 commit\n1 on master\n1 merge dev\n"):
+        base.removed()
+        base.made(script)
+        yield base.read(0)
+
+
+def spoilt(source, data):
+    """Bytes that differ from these in one way or in a few."""
+    for _ in range(source.choice((1, 1, 1, 2, 3))):
+        at, length = source.randrange(len(data) + 1), source.randrange(1, 80)
+        way = source.randrange(7)
+        if way == 0:
+            data = data[:at]
+        elif way == 1:
+            data = data[:at] + bytes([source.randrange(256)]) + data[at + 1:]
+        elif way == 2:
+            data = data[:at] + bytes(length) + data[at + length:]
+        elif way == 3:
+            data = data[:at] + data[at + length:]
+        elif way == 4:
+            data = data[:at] + data[max(0, at - length):at] + data[at:]
+        elif way == 5:
+            data = data[:at] + source.randbytes(length) + data[at:]
+        else:
+            data = data[:9] + source.choice((0, 1, 2, 3, 1 << 63, (1 << 63) + 1, (1 << 64) - 1)).to_bytes(8, "little") + data[17:]
+    return data
+
+
+def rows_told(base):
+    """What a scan of all heads should write, by the bytes of the files."""
+    first, second = base.read(0), base.read(1)
+    _, dataset, _ = files.opened(second if files.counted(first, second) else first)
+    rows = {}
+    for name, tables in zip(dataset.names, dataset.tables):
+        for (_, key), values in tables[-1].items():
+            rows.setdefault((key, tuple(values)), []).append(name)
+    lines = [b"row %d %s in %s\n" % (key, b" ".join(b"%d" % v for v in values), b",".join(names)) for (key, values), names in sorted(rows.items())]
+    return b"> 1 scan items in heads\n" + b"".join(lines) + b"rows %d\n" % len(lines)
+
+
+def at_random(base):
+    """Files spoilt at random: `check` and `script` end in time, as the second reader says, and a file is not changed by opening it."""
+    source, wrong, told, longest = random.Random(11), [], {}, 0.0
+    whole = list(some_datasets(base))
+    base.removed()
+    for turn in range(SPOILT):
+        pair = [spoilt(source, source.choice(whole)), source.choice((b"", b"", spoilt(source, source.choice(whole))))]
+        source.shuffle(pair)
+        for file in (0, 1):
+            base.write(file, pair[file])
+        wanted = base.told()
+        started = time.monotonic()
+        found = base.run("check")
+        longest = max(longest, time.monotonic() - started)
+        told[wanted[0]] = told.get(wanted[0], 0) + 1
+        asked = base.run("script", b"1 scan items in heads\n")
+        scanned = (0, rows_told(base), b"") if wanted[0] == 0 else (wanted[0], b"", wanted[2])
+        if found != wanted or asked != scanned or [base.read(0), base.read(1)] != pair:
+            wrong.append((turn, found, wanted, asked, scanned))
+    print("tests/run: %d pairs of files spoilt at random: %d open, %d are damaged, %d no dataset; %.3f seconds at most" % (
+        SPOILT, told.get(0, 0), told.get(4, 0), told.get(3, 0), longest), flush=True)
+    yield "files spoilt at random", wrong, []
+    yield "some of them open, are damaged, and are none", min(told.get(status, 0) for status in (0, 3, 4)) > 50, True
+
+
+# ---- what isn't a file, and what isn't as it was
+
+def not_files(base):
+    """Something else in the place of a file: the program ends with a status, and what was there stays."""
+    script, line = b"1 insert items 2 2 2\n", b"ok generation 1 branches 1 versions 2 entries 1\n"
+    fault = (7, b"", b"decibel: disk fault\n")
+
+    def again():
+        base.removed()
+        base.made(b"1 insert items 1 1 1\n")
+        return base.read(0)
+    whole = again()
+    base.write(1, whole)
+    yield "a file twice", base.run("check"), (0, line, b"")
+    yield "a script on a file twice", base.run("script", script)[0], 0
+    yield "the first of the two goes on", (base.read(0) == whole, base.read(1) == whole), (False, True)
+    for file in (0, 1):
+        for verb in ("script", "import", "create"):  # `check` and `export` wait for a writer
+            again()
+            os.path.exists(base.path(file)) and os.unlink(base.path(file))
+            os.mkfifo(base.path(file))
+            given = on_files.SCHEMA if verb == "create" else b""
+            more = ("items",) if verb == "import" else ()
+            found = base.run(verb, given, more)
+            yield "%s with a pipe as file %d" % (verb, file), (found[0] in (3, 7, 10), found), (True, found)
+    for name, target in (("itself", base.path(0)), ("nothing", os.path.join(base.folder, "nothing")), ("a folder", base.folder)):
+        again()
+        os.unlink(base.path(0))
+        os.symlink(target, base.path(0))
+        found = base.run("check")
+        yield "a link to %s" % name, (found[0] in (3, 7), found), (True, found)
+    whole = again()
+    moved = os.path.join(base.folder, "moved")
+    os.rename(base.path(0), moved)
+    os.symlink(moved, base.path(0))
+    yield "a link to the file", base.run("check"), (0, line, b"")
+    whole = again()
+    with open(base.path(0), "ab") as f:
+        f.truncate(len(whole) + (4 << 30))
+    found = base.run("check")
+    yield "a hole of four GB behind the last gate", (found[0] in (0, 7, 9), found), (True, found)
+    base.removed()
+    os.mkdir(base.path(1))
+    yield "create with a folder as the second file", base.run("create", on_files.SCHEMA), fault
+
+
+# ---- inputs as large as they come
+
+def large(base):
+    """Inputs of 16 MiB, and 64 sessions with as much room as there can be, end in 30 seconds and two GB."""
+    base.seconds = 30
+    schema = worked.USUAL
+
+    def filled(line):
+        room = LONGEST - len(schema)
+        return schema + line * (room // len(line)) + b"\n" * (room % len(line))
+    longest = b"1 insert items 1 1 1" + b" " * 4075 + b"\n"
+    sessions = b"".join(b"1 branch b%d of master\n" % n for n in range(1, 65))
+    sessions += b"".join(b"%d on b%d\n%d begin 65536\n%d insert items 1 %d 0\n" % (n, n, n, n, n) for n in range(1, 65))
+    sessions += b"".join(b"%d commit\n" % n for n in range(1, 65)) + b"1 scan items in heads\n"
+    for name, given, lines in (
+        ("lines as long as they can be", filled(longest), (LONGEST - len(schema)) // 4096), ("empty lines", filled(b"\n"), 0),
+        ("comments", filled(b"# nothing\n"), 0), ("lines of one byte", filled(b"x\n"), (LONGEST - len(schema)) // 2),
+        ("64 sessions with all room", schema + sessions, 64 * 5 + 1),
+    ):
+        started = time.monotonic()
+        try:
+            done = subprocess.run([base.program, "try"], input=given, stdout=subprocess.PIPE, stderr=subprocess.PIPE, timeout=30, preexec_fn=limited)
+            found = done.returncode, done.stdout.count(b"\n> ") + done.stdout.startswith(b"> "), done.stderr
+        except subprocess.TimeoutExpired:
+            found = "no end", 0, b""
+        print("tests/run: %s: %.1f seconds" % (name, time.monotonic() - started), flush=True)
+        yield "16 MiB of " + name if len(given) == LONGEST else name, found, (0, lines, b"")
+    done = subprocess.run([base.program, "try"], input=schema + sessions, stdout=subprocess.PIPE, timeout=30)
+    yield "what 64 sessions committed", done.stdout.endswith(b"".join(b"row 1 %d 0 in b%d\n" % (n, n) for n in range(1, 65)) + b"rows 64\n"), True
+    yield "one byte more than 16 MiB", subprocess.run([base.program, "try"], input=filled(b"\n") + b"\n", stdout=subprocess.PIPE, stderr=subprocess.PIPE, timeout=30).returncode, 8
+
+
+def checks(program):
+    """Names with what was found and what should be."""
+    for part in (each_byte, at_random, not_files, large):
+        with tempfile.TemporaryDirectory() as folder:
+            yield from part(Base(program, folder))
