@@ -1,5 +1,5 @@
 //! How a file is opened, locked and made.
-use std::fs::{File, OpenOptions};
+use std::fs::{File, OpenOptions, metadata};
 use std::io;
 use std::io::ErrorKind;
 use std::rt::Files;
@@ -22,7 +22,7 @@ pub enum Found {
     There { file: File, len: u64 },
     /// No file.
     Missing,
-    /// A file that can't be opened, or whose lock another process has.
+    /// A file that can't be opened, or whose lock another process has, or no regular file.
     Refused,
 }
 
@@ -77,8 +77,19 @@ fn locked(file: File, access: Access) -> Found {
     }
 }
 
-/// Opens the file at a path and takes its lock, without waiting for it.
+// Is something there that is no regular file? Opening a pipe would wait for its other end.
+fn is_no_file<R: Files<File = File>>(files: &R, path: &str) -> bool {
+    match metadata(files, path) {
+        Ok(found) => !found.is_file(),
+        Err(_) => false,
+    }
+}
+
+/// Opens the file at a path and takes its lock, without waiting for it. Only a regular file is opened.
 pub fn find<R: Files<File = File>>(files: &R, path: &str, access: Access) -> Found {
+    if is_no_file(files, path) {
+        return Found::Refused;
+    }
     match open(files, path, access) {
         Ok(file) => locked(file, access),
         Err(error) => {
