@@ -184,14 +184,11 @@ def not_files(base):
     yield "a script on a file twice", base.run("script", script)[0], 0
     yield "the first of the two goes on", (base.read(0) == whole, base.read(1) == whole), (False, True)
     for file in (0, 1):
-        for verb in ("script", "import", "create"):  # `check` and `export` wait for a writer
+        for verb, given, more in (("script", script, ()), ("import", b"", ("items",)), ("create", on_files.SCHEMA, ()), ("check", b"", ()), ("export", b"", ("items", "master"))):
             again()
             os.path.exists(base.path(file)) and os.unlink(base.path(file))
             os.mkfifo(base.path(file))
-            given = on_files.SCHEMA if verb == "create" else b""
-            more = ("items",) if verb == "import" else ()
-            found = base.run(verb, given, more)
-            yield "%s with a pipe as file %d" % (verb, file), (found[0] in (3, 7, 10), found), (True, found)
+            yield "%s with a pipe as file %d" % (verb, file), base.run(verb, given, more), fault
     for name, target in (("itself", base.path(0)), ("nothing", os.path.join(base.folder, "nothing")), ("a folder", base.folder)):
         again()
         os.unlink(base.path(0))
