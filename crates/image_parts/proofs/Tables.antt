@@ -10,9 +10,10 @@ use Rattle.image_text.specs.declared.image.SegmentPart.{SegmentPart}
 use Rattle.image_text.specs.Reading.{last_of}
 use Rattle.image_parts.specs.declared.keys.Walk.{Walk}
 use Rattle.image_parts.specs.Whole.{combined, bit_before, bit, row_of, keys_from, keys_in, keys_at, are_distinct, is_table, is_keyed}
-use Rattle.image_parts.specs.Walk.{weigh, times, live, again, Agrees, no_segment, base_of, own_keys, all_keys, Shows}
+use Rattle.image_parts.specs.Walk.{weigh, times, live, again, Agrees, no_segment, base_of, own_keys, all_keys, first_of, Shows}
 use Rattle.image_parts.proofs.Turns.{past_none, past_one}
 use Rattle.image_parts.proofs.Steps.{keys_cons, all_long}
+use Rattle.image_parts.proofs.Numbers.{Each, IsFound, all_found, distinct_same}
 
 -- the keys whose bits are set
 abbrev pub chosen : List ℕ → List Bool → List ℕ
@@ -89,14 +90,31 @@ chosen_is b (s ∷ ss) n bits len shown =
     at_cons : (b n : ℕ) (s : SegmentPart) (ss : List SegmentPart) → keys_at b n (s ∷ ss) ≡ keys_in b n s ++ keys_at b n ss
     at_cons b n s ss = flat_map-cons (keys_in b n) s ss
 
--- what a walk knows tells whether the keys are a table
-pub table_is : (b : ℕ) (ss : List SegmentPart) (n : ℕ) (keys : List ℕ) (w : Walk) → keys ≡ all_keys ss → Agrees keys w → Shows b ss (suc n) w.bits.items → ((w.again == 0) && nat_le w.live 262144) ≡ is_table (keys_at b n ss)
-table_is b ss n keys w is a shown =
-    let len : length w.bits.items ≡ length (all_keys ss) = a.len ∙ ap (λ (l : List ℕ). length l) is in
-    let same : chosen keys w.bits.items ≡ keys_at b n ss = ap (λ (l : List ℕ). chosen l w.bits.items) is ∙ chosen_is b ss n w.bits.items len shown in
-    let twice : (w.again == 0) ≡ are_distinct (chosen keys w.bits.items) = ap (λ (k : ℕ). k == 0) a.again ∙ sym (distinct_is keys w.bits.items) in
-    let few : w.live ≡ length (chosen keys w.bits.items) = a.live ∙ sym (chosen_long keys w.bits.items a.len) in
-    ap (λ (q : Bool). q && nat_le w.live 262144) twice ∙ ap (λ (k : ℕ). are_distinct (chosen keys w.bits.items) && nat_le k 262144) few ∙ ap (λ (l : List ℕ). is_table l) same
+chosen_map : (f : ℕ → ℕ) (keys : List ℕ) (bits : List Bool) → chosen (map f keys) bits ≡ map f (chosen keys bits)
+chosen_map f [] bits = refl
+chosen_map f (x ∷ xs) [] = refl
+chosen_map f (x ∷ xs) (true ∷ bits) = ap (λ (l : List ℕ). f x ∷ l) (chosen_map f xs bits)
+chosen_map f (x ∷ xs) (false ∷ bits) = chosen_map f xs bits
+
+each_chosen : (P : ℕ → Type 0) (keys : List ℕ) (bits : List Bool) → Each P keys → Each P (chosen keys bits)
+each_chosen P [] bits e = tt
+each_chosen P (x ∷ xs) [] e = tt
+each_chosen P (x ∷ xs) (true ∷ bits) e = (e.0, each_chosen P xs bits e.1)
+each_chosen P (x ∷ xs) (false ∷ bits) e = each_chosen P xs bits e.1
+
+-- what a walk over numbers knows tells whether the keys are a table
+pub table_is : (b : ℕ) (ss : List SegmentPart) (n : ℕ) (numbers : List ℕ) (w : Walk) → numbers ≡ map (first_of (all_keys ss)) (all_keys ss) → Agrees numbers w → Shows b ss (suc n) w.bits.items
+    → ((w.again == 0) && nat_le w.live 262144) ≡ is_table (keys_at b n ss)
+table_is b ss n numbers w is a shown =
+    let keys : List ℕ = all_keys ss in
+    let bits : List Bool = w.bits.items in
+    let size : length numbers ≡ length keys = ap length is ∙ length-map keys (first_of keys) in
+    let len : length bits ≡ length keys = a.len ∙ size in
+    let same : chosen keys bits ≡ keys_at b n ss = chosen_is b ss n bits len shown in
+    let named : chosen numbers bits ≡ map (first_of keys) (chosen keys bits) = ap (λ (l : List ℕ). chosen l bits) is ∙ chosen_map (first_of keys) keys bits in
+    let twice : (w.again == 0) ≡ are_distinct (chosen keys bits) = ap (λ (k : ℕ). k == 0) a.again ∙ sym (distinct_is numbers bits) ∙ ap are_distinct named ∙ distinct_same keys (chosen keys bits) (each_chosen (IsFound keys) keys bits (all_found keys)) in
+    let few : w.live ≡ length (chosen keys bits) = a.live ∙ sym (chosen_long keys bits len) in
+    ap (λ (q : Bool). q && nat_le w.live 262144) twice ∙ ap (λ (k : ℕ). are_distinct (chosen keys bits) && nat_le k 262144) few ∙ ap (λ (l : List ℕ). is_table l) same
 
 -- ---- from one number to the next
 

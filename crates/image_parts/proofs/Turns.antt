@@ -1,11 +1,10 @@
 -- What a bit that is set or cleared does to the counts of a walk.
 use Rattle.std.proofs.Common.{◌≡◌, ◌⊎◌, ℕ, zero, suc, ◌+◌, ◌-◌, ◌<◌, ◌≤◌, ◌==◌, ◌&&◌, Bool, true, false, not, cond, List, [], ◌∷◌, length, get_or, set, replicate, refl, sym, ap, inl, inr, subst, ◌∙◌, arith}
 use Rattle.std.specs.Prelude.{nat_lt}
-use Rattle.std.specs.BTreeMap.{BTreeMap}
 use Rattle.std.proofs.lemmas.Bool.{eqb-true, eqb-false, cases_lt, lt-ltb, le-ltb}
-use Rattle.std.proofs.lemmas.List.{length-set, get_or-set_same, set-get_or}
+use Rattle.std.proofs.lemmas.List.{length-set, length-replicate, get_or-set_same, get_or-set_other, set-get_or}
 use Rattle.image_parts.specs.declared.keys.Walk.{Walk}
-use Rattle.image_parts.specs.Walk.{weigh, times, live, again, count_of, Agrees}
+use Rattle.image_parts.specs.Walk.{weigh, times, live, again, AreSmall, Agrees}
 
 same_as : (x k : ℕ) (p q : Bool) → (x == k) ≡ p → (k == x) ≡ q → p ≡ q
 same_as x k true true e f = refl
@@ -104,21 +103,39 @@ live_room bits place lt e =
 
 -- ---- the walk
 
+-- the count of a number, once that of one number is set
+set_count : (counts : List ℕ) (number count q : ℕ) (p : Bool) → number < length counts → (number == q) ≡ p → get_or (set counts number count) q 0 ≡ cond p count (get_or counts q 0)
+set_count counts number count q true lt e = let is : number ≡ q = eqb-true number q e in subst (λ (k : ℕ). get_or (set counts number count) k 0 ≡ count) is (get_or-set_same counts number count 0 lt)
+set_count counts number count q false lt e = get_or-set_other counts number q count 0 (λ h. eqb-false number q e (sym h))
+
 counts_with : (q : Bool) (k key count : ℕ) (t o : ℕ) → (q ≡ true → count ≡ t) → o ≡ t → cond q (count + 1) o ≡ weigh q + t
 counts_with true k key count t o same e = omega (arith, same refl)
 counts_with false k key count t o same e = omega (arith, e)
 
+other_default : (xs : List ℕ) (i d e : ℕ) → i < length xs → get_or xs i d ≡ get_or xs i e
+other_default [] i d e lt = absurd (omega (arith, lt))
+other_default (x ∷ xs) zero d e lt = refl
+other_default (x ∷ xs) (suc i) d e lt = other_default xs i d e (omega (arith, lt))
+
+-- the count that stands there, whatever stands past the last one
+pub count_at : (keys : List ℕ) (w : Walk) (place count : ℕ) → place < length keys → Agrees keys w → count ≡ get_or w.counts.items (get_or keys place 0) count → count ≡ get_or w.counts.items (get_or keys place 0) 0
+count_at keys w place count lt a is = is ∙ other_default w.counts.items (get_or keys place 0) count 0 (rw a.wide (a.small place lt))
+
 -- a bit is set
 pub added : (keys : List ℕ) (w v : Walk) (place count : ℕ) → place < length keys → Agrees keys w → get_or w.bits.items place false ≡ false
-    → v.bits.items ≡ set w.bits.items place true → count ≡ count_of w.counts (get_or keys place 0)
-    → ((q : ℕ) → count_of v.counts q ≡ cond (get_or keys place 0 == q) (count + 1) (count_of w.counts q))
+    → v.bits.items ≡ set w.bits.items place true → count ≡ get_or w.counts.items (get_or keys place 0) 0
+    → v.counts.items ≡ set w.counts.items (get_or keys place 0) (count + 1)
     → v.live ≡ w.live + 1 → v.again ≡ w.again + weigh (nat_lt 0 count) → Agrees keys v
 added keys w v place count lt a clear bits is counts live_is again_is =
     let key : ℕ = get_or keys place 0 in
     let within : place < length w.bits.items = rw a.len lt in
+    let there : get_or keys place 0 < length w.counts.items = rw a.wide (a.small place lt) in
     record {
+      small = a.small;
       len = ap length bits ∙ length-set w.bits.items place true ∙ a.len;
-      counts = λ q. counts q ∙ counts_with (get_or keys place 0 == q) (get_or keys place 0) q count (times q keys w.bits.items) (count_of w.counts q)
+      wide = ap length counts ∙ length-set w.counts.items (get_or keys place 0) (count + 1) ∙ a.wide;
+      counts = λ q. ap (λ (l : List ℕ). get_or l q 0) counts ∙ set_count w.counts.items (get_or keys place 0) (count + 1) q (get_or keys place 0 == q) there refl
+          ∙ counts_with (get_or keys place 0 == q) (get_or keys place 0) q count (times q keys w.bits.items) (get_or w.counts.items q 0)
           (λ h. is ∙ a.counts (get_or keys place 0) ∙ ap (λ (y : ℕ). times y keys w.bits.items) (eqb-true (get_or keys place 0) q h)) (a.counts q)
           ∙ sym (times_more q keys w.bits.items place lt a.len clear) ∙ ap (λ (l : List Bool). times q keys l) (sym bits);
       live = live_is ∙ ap (λ (n : ℕ). n + 1) a.live ∙ sym (live_more w.bits.items place within clear) ∙ ap (λ (l : List Bool). live l) (sym bits);
@@ -173,16 +190,20 @@ cleared_is keys w place lt a e =
     }
 
 pub cleared : (keys : List ℕ) (w v : Walk) (place count : ℕ) → place < length keys → Agrees keys w → get_or w.bits.items place false ≡ true
-    → v.bits.items ≡ set w.bits.items place false → count ≡ count_of w.counts (get_or keys place 0)
-    → ((q : ℕ) → count_of v.counts q ≡ cond (get_or keys place 0 == q) (count - 1) (count_of w.counts q))
+    → v.bits.items ≡ set w.bits.items place false → count ≡ get_or w.counts.items (get_or keys place 0) 0
+    → v.counts.items ≡ set w.counts.items (get_or keys place 0) (count - 1)
     → v.live ≡ w.live - 1 → v.again ≡ w.again - weigh (nat_lt 1 count) → Agrees keys v
 cleared keys w v place count lt a e bits is counts live_is again_is =
     let c = cleared_is keys w place lt a e in
+    let there : get_or keys place 0 < length w.counts.items = rw a.wide (a.small place lt) in
     let same : count ≡ times (get_or keys place 0) keys w.bits.items = is ∙ a.counts (get_or keys place 0) in
     let one : count ≡ 1 + times (get_or keys place 0) keys (set w.bits.items place false) = same ∙ c.each (get_or keys place 0) ∙ ap (λ (n : ℕ). n + times (get_or keys place 0) keys (set w.bits.items place false)) (eqb_self (get_or keys place 0)) in
     record {
+      small = a.small;
       len = ap length bits ∙ length-set w.bits.items place false ∙ a.len;
-      counts = λ q. counts q ∙ less_count (get_or keys place 0 == q) count (times q keys w.bits.items) (times q keys (set w.bits.items place false)) (count_of w.counts q)
+      wide = ap length counts ∙ length-set w.counts.items (get_or keys place 0) (count - 1) ∙ a.wide;
+      counts = λ q. ap (λ (l : List ℕ). get_or l q 0) counts ∙ set_count w.counts.items (get_or keys place 0) (count - 1) q (get_or keys place 0 == q) there refl
+          ∙ less_count (get_or keys place 0 == q) count (times q keys w.bits.items) (times q keys (set w.bits.items place false)) (get_or w.counts.items q 0)
           (λ h. same ∙ ap (λ (y : ℕ). times y keys w.bits.items) (eqb-true (get_or keys place 0) q h)) (a.counts q) (c.each q)
           ∙ ap (λ (l : List Bool). times q keys l) (sym bits);
       live = (let all : v.live ≡ live (set w.bits.items place false) = omega (arith, live_is, a.live, c.few) in all) ∙ ap (λ (l : List Bool). live l) (sym bits);
@@ -193,7 +214,7 @@ cleared keys w v place count lt a e bits is counts live_is again_is =
     }
 
 -- a cleared bit was counted
-pub some_count : (keys : List ℕ) (w : Walk) (place count : ℕ) → place < length keys → Agrees keys w → get_or w.bits.items place false ≡ true → count ≡ count_of w.counts (get_or keys place 0)
+pub some_count : (keys : List ℕ) (w : Walk) (place count : ℕ) → place < length keys → Agrees keys w → get_or w.bits.items place false ≡ true → count ≡ get_or w.counts.items (get_or keys place 0) 0
     → (1 ≤ count) × (1 ≤ w.live) × (weigh (nat_lt 1 count) ≤ w.again)
 some_count keys w place count lt a e is =
     let c = cleared_is keys w place lt a e in
@@ -203,7 +224,7 @@ some_count keys w place count lt a e is =
     (omega (arith, one), omega (arith, a.live, c.few), omega (arith, a.again, c.more, own))
 
 -- and there is room to count one more
-pub count_room : (keys : List ℕ) (w : Walk) (place count : ℕ) → place < length keys → Agrees keys w → get_or w.bits.items place false ≡ false → count ≡ count_of w.counts (get_or keys place 0)
+pub count_room : (keys : List ℕ) (w : Walk) (place count : ℕ) → place < length keys → Agrees keys w → get_or w.bits.items place false ≡ false → count ≡ get_or w.counts.items (get_or keys place 0) 0
     → (count < length w.bits.items) × (w.live < length w.bits.items) × (w.again < length w.bits.items)
 count_room keys w place count lt a e is =
     let within : place < length w.bits.items = rw a.len lt in
@@ -227,11 +248,18 @@ none_live : (n : ℕ) → live (replicate n false) ≡ 0
 none_live zero = refl
 none_live (suc n) = let h = none_live n in omega (arith, h)
 
-pub none_set : (keys : List ℕ) (w : Walk) (n : ℕ) → length keys ≡ n → w.bits.items ≡ replicate n false → length (replicate n false) ≡ n → ((q : ℕ) → count_of w.counts q ≡ 0) → w.live ≡ 0 → w.again ≡ 0 → Agrees keys w
-none_set keys w n len bits wide counts live_is again_is =
+none_count : (n k d : ℕ) → get_or (replicate n d) k d ≡ d
+none_count zero k d = refl
+none_count (suc n) zero d = refl
+none_count (suc n) (suc k) d = none_count n k d
+
+pub none_set : (keys : List ℕ) (w : Walk) (n : ℕ) → length keys ≡ n → AreSmall keys → w.bits.items ≡ replicate n false → w.counts.items ≡ replicate n 0 → w.live ≡ 0 → w.again ≡ 0 → Agrees keys w
+none_set keys w n len small bits counts live_is again_is =
     record {
-      len = ap length bits ∙ wide ∙ sym len;
-      counts = λ q. counts q ∙ sym (none_times q keys n) ∙ ap (λ (l : List Bool). times q keys l) (sym bits);
+      small = small;
+      len = ap length bits ∙ length-replicate n false ∙ sym len;
+      wide = ap length counts ∙ length-replicate n 0 ∙ sym len;
+      counts = λ q. ap (λ (l : List ℕ). get_or l q 0) counts ∙ none_count n q 0 ∙ sym (none_times q keys n) ∙ ap (λ (l : List Bool). times q keys l) (sym bits);
       live = live_is ∙ sym (none_live n) ∙ ap (λ (l : List Bool). live l) (sym bits);
       again = again_is ∙ sym (none_again keys n) ∙ ap (λ (l : List Bool). again keys l) (sym bits);
     }

@@ -1,8 +1,6 @@
 -- What is kept along a walk over the deltas of a branch, for the private functions.
 use Rattle.std.specs.Prelude.{◌≡◌, ℕ, zero, suc, ◌+◌, ◌-◌, ◌/◌, ◌%◌, ◌<◌, ◌≤◌, ◌⊎◌, ◌==◌, ◌&&◌, nat_lt, nat_le, cond, Bool, true, false, not, List, [], ◌∷◌, ◌++◌, length, map, set, Option, Some, None}
-use Rattle.std.specs.Ordering.{nat_cmp}
 use Rattle.std.specs.List.{flat_map}
-use Rattle.std.specs.BTreeMap.{BTreeMap, get}
 use Rattle.std.proofs.Common.{get_or}
 use Rattle.db_value.specs.declared.record.Record.{Record}
 use Rattle.image_text.specs.declared.image.RowPart.{RowPart}
@@ -33,21 +31,18 @@ again [] bits = 0
 again (x ∷ xs) [] = 0
 again (x ∷ xs) (b ∷ bits) = weigh (b && nat_lt 0 (times x xs bits)) + again xs bits
 
--- a count, or 0
-abbrev pub or_none : Option ℕ → ℕ
-or_none None = 0
-or_none (Some n) = n
+-- each number is below how many there are
+abbrev pub AreSmall : List ℕ → Type 0
+AreSmall numbers = (place : ℕ) → place < length numbers → get_or numbers place 0 < length numbers
 
--- the count that a map has for a key
-abbrev pub count_of : BTreeMap ℕ ℕ → ℕ → ℕ
-count_of counts key = or_none (get nat_cmp counts key)
-
--- the counts of a walk are those of its bits
-pub record Agrees (keys : List ℕ) (w : Walk) : Type 0 where
-  pub len : length w.bits.items ≡ length keys
-  pub counts : (key : ℕ) → count_of w.counts key ≡ times key keys w.bits.items
+-- the counts of a walk, one for each number, are those of its bits
+pub record Agrees (numbers : List ℕ) (w : Walk) : Type 0 where
+  pub small : AreSmall numbers
+  pub len : length w.bits.items ≡ length numbers
+  pub wide : length w.counts.items ≡ length numbers
+  pub counts : (number : ℕ) → get_or w.counts.items number 0 ≡ times number numbers w.bits.items
   pub live : w.live ≡ live w.bits.items
-  pub again : w.again ≡ again keys w.bits.items
+  pub again : w.again ≡ again numbers w.bits.items
 
 -- of the bits from base on, those for which a rule holds are changed, and no other one
 pub record Flips (base size : ℕ) (p : ℕ → Bool) (old new : List Bool) : Type 0 where
@@ -79,6 +74,16 @@ own_keys s = map (λ (x : Record). x.key) s.records
 -- the keys of all records, segment by segment
 abbrev pub all_keys : List SegmentPart → List ℕ
 all_keys ss = flat_map own_keys ss
+
+-- a place, or this one
+abbrev pub or_place : Option ℕ → ℕ → ℕ
+or_place None place = place
+or_place (Some found) place = found
+
+-- the place of the first key that is equal to this one
+abbrev pub first_of : List ℕ → ℕ → ℕ
+first_of [] k = 0
+first_of (x ∷ xs) k = cond (x == k) 0 (suc (first_of xs k))
 
 -- the bits are those of a branch before a position
 abbrev pub Shows : ℕ → List SegmentPart → ℕ → List Bool → Type 0

@@ -1,16 +1,20 @@
 //! How it is tried that each branch has distinct keys at each of its positions.
 //!
-//! 1. The records of all segments of a relation stand one after another, each with a bit.
+//! 1. The records of all segments of a relation stand one after another, each with a bit. Its key is
+//!    told by a number: the place of the first record with this key.
 //! 2. For a branch, all bits are clear at first. The deltas of each position change them in order.
-//! 3. A bit that is set counts its key up, and one that is cleared counts it down. So it is known
+//! 3. A bit that is set counts its number up, and one that is cleared counts it down. So it is known
 //!    after each position how many bits are set, and how many of these have a key that another has.
 //!
-//! No position takes a table of its own: a delta costs its words and a map's step for each bit.
-ghost use Rattle.std.specs.Prelude.{◌≡◌, ◌<◌, ◌≤◌, ◌+◌, ◌*◌, ◌==◌, ◌&&◌, suc, zero, nat_le, cond, true, false, not, ℕ, length, map, set, replicate, IfOk, IfNone, IfSome, OnOk, List, Bool, ◌++◌, []};
+//! No position takes a table of its own, and no branch a map: a delta costs its words and a step for
+//! each bit.
+ghost use Rattle.std.specs.Prelude.{◌≡◌, ◌<◌, ◌≤◌, ◌+◌, ◌*◌, ◌==◌, ◌&&◌, suc, zero, nat_le, cond, true, false, not, ℕ, length, map, set, replicate, IfOk, IfNone, IfSome, OnOk, List, Bool, Some, ◌++◌, []};
+ghost use Rattle.std.specs.Ordering.{nat_cmp};
+ghost use Rattle.std.specs.BTreeMap.{get};
 ghost use Rattle.std.proofs.Common.{get_or};
 ghost use Rattle.image_text.specs.Reading.{no_row};
 ghost use Rattle.image_parts.specs.Whole.{word_bit, delta_bit, lane_of, is_keyed, keys_once};
-ghost use Rattle.image_parts.specs.Walk.{weigh, count_of, Agrees, Flips, word_at, turned, own_keys, all_keys, Shows};
+ghost use Rattle.image_parts.specs.Walk.{weigh, AreSmall, Agrees, Flips, word_at, turned, own_keys, all_keys, or_place, first_of, Shows};
 
 use image_text::{Delta, RowPart, SegmentPart};
 use std::alloc::{AllocError, Global};
@@ -22,31 +26,12 @@ const MOST_KEYS: u64 = 262144;
 #[derive(Drop)]
 struct Walk {
     bits: Vec<bool>,
-    // how many of the set bits have this key
-    counts: BTreeMap<u64, u64>,
+    // how many of the set bits have the key with this number
+    counts: Vec<u64>,
     // how many bits are set
     live: u64,
     // how many of these have a key that another one after them has
     again: u64,
-}
-
-fn count_of(counts: &BTreeMap<u64, u64>, key: u64) -> u64
-    ensures { result ≡ count_of counts.now key }
-{
-    match counts.get(&key) {
-        None => 0,
-        Some(count) => *count,
-    }
-}
-
-fn set_count(counts: &mut BTreeMap<u64, u64>, key: u64, count: u64) -> Result<(), AllocError>
-    ensures { OnOk result ((other : ℕ) → count_of counts.new other
-        ≡ cond (key == other) count (count_of counts.old other)) }
-{
-    match counts.insert(key, count) {
-        Ok(_) => Ok(()),
-        Err(_) => Err(AllocError),
-    }
 }
 
 fn weigh(counts: bool) -> u64
@@ -79,168 +64,136 @@ fn clear_bits(alloc: Global, size: usize) -> Result<Vec<bool>, AllocError>
     Ok(vec![in alloc; false; size]?)
 }
 
-fn no_counts(alloc: Global) -> BTreeMap<u64, u64>
-    ensures { (key : ℕ) → count_of result key ≡ 0 }
+fn no_counts(alloc: Global, size: usize) -> Result<Vec<u64>, AllocError>
+    ensures { IfOk result (λ counts. counts.items ≡ replicate size 0) }
 {
-    BTreeMap::new(alloc)
+    Ok(vec![in alloc; 0; size]?)
 }
 
 impl Walk {
     // All bits are clear.
     fn of(alloc: Global, size: usize) -> Result<Walk, AllocError>
         ensures clear { IfOk result (λ walk. walk.bits.items ≡ replicate size false) }
-        ensures agrees { IfOk result (λ walk. (keys : List ℕ) → length keys ≡ size
-            → Agrees keys walk) }
+        ensures agrees { IfOk result (λ walk. (numbers : List ℕ) → length numbers ≡ size
+            → AreSmall numbers → Agrees numbers walk) }
     {
         Ok(Walk {
             bits: clear_bits(alloc, size)?,
-            counts: no_counts(alloc),
+            counts: no_counts(alloc, size)?,
             live: 0,
             again: 0,
         })
     }
 
-    fn add(&mut self, keys: &[u64], place: usize) -> Result<(), AllocError>
-        requires within { place < length keys.now }
-        requires agrees { Agrees keys.now self.old }
+    fn add(&mut self, numbers: &[usize], place: usize)
+        requires within { place < length numbers.now }
+        requires agrees { Agrees numbers.now self.old }
         requires clear { get_or self.old.bits.items place false ≡ false }
-        ensures agrees { OnOk result (Agrees keys.now self.new) }
-        ensures added { OnOk result (self.new.bits.items ≡ set self.old.bits.items place true) }
+        ensures agrees { Agrees numbers.now self.new }
+        ensures added { self.new.bits.items ≡ set self.old.bits.items place true }
     {
-        let key = keys[place];
-        let count = count_of(&self.counts, key);
-        set_count(&mut self.counts, key, count + 1)?;
+        let number = numbers[place];
+        let count = self.counts[number];
+        self.counts[number] = count + 1;
         self.again += weigh(count > 0);
         self.live += 1;
         self.bits[place] = true;
-        Ok(())
     }
 
-    fn clear(&mut self, keys: &[u64], place: usize) -> Result<(), AllocError>
-        requires within { place < length keys.now }
-        requires agrees { Agrees keys.now self.old }
+    fn clear(&mut self, numbers: &[usize], place: usize)
+        requires within { place < length numbers.now }
+        requires agrees { Agrees numbers.now self.old }
         requires set_one { get_or self.old.bits.items place false ≡ true }
-        ensures agrees { OnOk result (Agrees keys.now self.new) }
-        ensures cleared { OnOk result (self.new.bits.items ≡ set self.old.bits.items place false) }
+        ensures agrees { Agrees numbers.now self.new }
+        ensures cleared { self.new.bits.items ≡ set self.old.bits.items place false }
     {
-        let key = keys[place];
-        let count = count_of(&self.counts, key);
-        set_count(&mut self.counts, key, count - 1)?;
+        let number = numbers[place];
+        let count = self.counts[number];
+        self.counts[number] = count - 1;
         self.again -= weigh(count > 1);
         self.live -= 1;
         self.bits[place] = false;
-        Ok(())
     }
 
-    fn turn(&mut self, keys: &[u64], place: usize) -> Result<(), AllocError>
-        requires within { place < length keys.now }
-        requires agrees { Agrees keys.now self.old }
-        ensures agrees { OnOk result (Agrees keys.now self.new) }
-        ensures turned { OnOk result (self.new.bits.items
-            ≡ set self.old.bits.items place (not (get_or self.old.bits.items place false))) }
+    fn turn(&mut self, numbers: &[usize], place: usize)
+        requires within { place < length numbers.now }
+        requires agrees { Agrees numbers.now self.old }
+        ensures agrees { Agrees numbers.now self.new }
+        ensures turned { self.new.bits.items
+            ≡ set self.old.bits.items place (not (get_or self.old.bits.items place false)) }
     {
         if self.bits[place] {
-            self.clear(keys, place)
+            self.clear(numbers, place);
         } else {
-            self.add(keys, place)
+            self.add(numbers, place);
         }
     }
 
     // Changes the bits of one word of a delta.
-    fn apply_word(
-        &mut self,
-        keys: &[u64],
-        base: usize,
-        size: usize,
-        at: usize,
-        word: u64,
-    ) -> Result<(), AllocError>
-        requires within { base + size ≤ length keys.now }
+    fn apply_word(&mut self, numbers: &[usize], base: usize, size: usize, at: usize, word: u64)
+        requires within { base + size ≤ length numbers.now }
         requires room { 64 * at ≤ size }
-        requires agrees { Agrees keys.now self.old }
-        ensures agrees { OnOk result (Agrees keys.now self.new) }
-        ensures flips { OnOk result (Flips base size (word_at at word)
-            self.old.bits.items self.new.bits.items) }
+        requires agrees { Agrees numbers.now self.old }
+        ensures agrees { Agrees numbers.now self.new }
+        ensures flips { Flips base size (word_at at word) self.old.bits.items self.new.bits.items }
     {
         'bits: for k in 0..64u32 {
             let slot = 64 * at + k as usize;
             if slot < size && (word >> k) % 2 == 1 {
-                self.turn(keys, base + slot)?;
+                self.turn(numbers, base + slot);
             }
         }
-        Ok(())
     }
 
     // Changes the bits of a delta. Those past the records of its segment are no bits.
-    fn apply(
-        &mut self,
-        keys: &[u64],
-        base: usize,
-        size: usize,
-        delta: &Delta,
-    ) -> Result<(), AllocError>
-        requires within { base + size ≤ length keys.now }
-        requires agrees { Agrees keys.now self.old }
-        ensures agrees { OnOk result (Agrees keys.now self.new) }
-        ensures flips { OnOk result (Flips base size (delta_bit delta.now)
-            self.old.bits.items self.new.bits.items) }
+    fn apply(&mut self, numbers: &[usize], base: usize, size: usize, delta: &Delta)
+        requires within { base + size ≤ length numbers.now }
+        requires agrees { Agrees numbers.now self.old }
+        ensures agrees { Agrees numbers.now self.new }
+        ensures flips { Flips base size (delta_bit delta.now)
+            self.old.bits.items self.new.bits.items }
     {
         let words = delta.words.as_slice();
         'words: for i in 0..words.len() {
             let at = delta.first as usize + i;
             if at <= size / 64 {
-                self.apply_word(keys, base, size, at, words[i])?;
+                self.apply_word(numbers, base, size, at, words[i]);
             }
         }
-        Ok(())
     }
 
     // Changes the bits of a segment from one position to the next.
-    fn step_in(
-        &mut self,
-        keys: &[u64],
-        base: usize,
-        part: &SegmentPart,
-        lane: usize,
-        n: u64,
-    ) -> Result<(), AllocError>
-        requires within { base + length part.now.records ≤ length keys.now }
-        requires agrees { Agrees keys.now self.old }
-        ensures agrees { OnOk result (Agrees keys.now self.new) }
-        ensures flips { OnOk result (Flips base (length part.now.records)
+    fn step_in(&mut self, numbers: &[usize], base: usize, part: &SegmentPart, lane: usize, n: u64)
+        requires within { base + length part.now.records ≤ length numbers.now }
+        requires agrees { Agrees numbers.now self.old }
+        ensures agrees { Agrees numbers.now self.new }
+        ensures flips { Flips base (length part.now.records)
             (turned (get_or part.now.rows lane no_row) n)
-            self.old.bits.items self.new.bits.items) }
+            self.old.bits.items self.new.bits.items }
     {
         let size = part.records.as_slice().len();
         match delta_at(part.rows.as_slice(), lane, n) {
-            None => Ok(()),
-            Some(delta) => self.apply(keys, base, size, delta),
+            None => {}
+            Some(delta) => self.apply(numbers, base, size, delta),
         }
     }
 
     // Changes the bits of all segments from one position of a branch to the next.
     #[tactic(auto, using(crate::proofs::Steps::segment_next, crate::proofs::Steps::between_start, crate::proofs::Steps::between_end, crate::proofs::Steps::row_is, crate::proofs::Steps::base_next, crate::proofs::Steps::base_start, crate::proofs::Steps::base_within))]
-    fn step(
-        &mut self,
-        keys: &[u64],
-        segments: &[SegmentPart],
-        lanes: &[usize],
-        n: u64,
-    ) -> Result<(), AllocError>
-        requires keys { keys.now ≡ all_keys segments.now }
+    fn step(&mut self, numbers: &[usize], segments: &[SegmentPart], lanes: &[usize], n: u64)
+        requires numbers { length numbers.now ≡ length (all_keys segments.now) }
         requires lanes { length lanes.now ≡ length segments.now }
-        requires agrees { Agrees keys.now self.old }
-        ensures agrees { OnOk result (Agrees keys.now self.new) }
-        ensures shows { OnOk result ((b : ℕ) → lanes.now ≡ map (λ s. lane_of b s.rows) segments.now
+        requires agrees { Agrees numbers.now self.old }
+        ensures agrees { Agrees numbers.now self.new }
+        ensures shows { (b : ℕ) → lanes.now ≡ map (λ s. lane_of b s.rows) segments.now
             → Shows b segments.now n self.old.bits.items
-            → Shows b segments.now (suc n) self.new.bits.items) }
+            → Shows b segments.now (suc n) self.new.bits.items }
     {
         let mut base = 0usize;
         'segments: for i in 0..segments.len() {
-            self.step_in(keys, base, &segments[i], lanes[i], n)?;
+            self.step_in(numbers, base, &segments[i], lanes[i], n);
             base += segments[i].records.as_slice().len();
         }
-        Ok(())
     }
 
     // Have the set records distinct keys, and are they few enough?
@@ -249,6 +202,35 @@ impl Walk {
     {
         self.again == 0 && self.live <= MOST_KEYS
     }
+}
+
+// The place that a map has for a key. If it has none, it is given this one.
+fn number_at(first: &mut BTreeMap<u64, usize>, key: u64, place: usize) -> Result<usize, AllocError>
+    ensures number { IfOk result (λ n. n ≡ or_place (get nat_cmp first.old key) place) }
+    ensures first { OnOk result ((other : ℕ) → get nat_cmp first.new other
+        ≡ cond (key == other) (Some (or_place (get nat_cmp first.old key) place))
+        (get nat_cmp first.old other)) }
+{
+    if let Some(found) = first.get(&key) {
+        return Ok(*found);
+    }
+    match first.insert(key, place) {
+        Ok(_) => Ok(place),
+        Err(_) => Err(AllocError),
+    }
+}
+
+// For each key the place of the first one that is equal.
+fn numbers_of(alloc: Global, keys: &[u64]) -> Result<Vec<usize>, AllocError>
+    ensures { IfOk result (λ numbers. numbers.items ≡ map (first_of keys.now) keys.now) }
+{
+    let mut first: BTreeMap<u64, usize> = BTreeMap::new(alloc);
+    let mut numbers: Vec<usize> = Vec::with_capacity(alloc, keys.len())?;
+    'keys: for i in 0..keys.len() {
+        let number = number_at(&mut first, keys[i], i)?;
+        numbers.push(number)?;
+    }
+    Ok(numbers)
 }
 
 fn put_keys(keys: &mut Vec<u64>, part: &SegmentPart) -> Result<(), AllocError>
@@ -302,18 +284,18 @@ fn lanes_of(
 // Do the records that a branch has at each position up to its last one have distinct keys?
 fn is_keyed(
     alloc: Global,
-    keys: &[u64],
+    numbers: &[usize],
     segments: &[SegmentPart],
     last: u32,
     branch: usize,
 ) -> Result<bool, AllocError>
-    requires { keys.now ≡ all_keys segments.now }
+    requires { numbers.now ≡ map (first_of (all_keys segments.now)) (all_keys segments.now) }
     ensures { IfOk result (λ ok. ok ≡ is_keyed segments.now last branch) }
 {
     let lanes = lanes_of(alloc, segments, branch)?;
-    let mut walk = Walk::of(alloc, keys.len())?;
+    let mut walk = Walk::of(alloc, numbers.len())?;
     'positions: for n in 0..last as u64 + 1 {
-        walk.step(keys, segments, &lanes, n)?;
+        walk.step(numbers, segments, &lanes, n);
         if !walk.is_table() {
             return Ok(false);
         }
@@ -321,14 +303,23 @@ fn is_keyed(
     Ok(true)
 }
 
+// The numbers of the keys of all records, segment by segment.
+fn all_numbers(alloc: Global, segments: &[SegmentPart]) -> Result<Vec<usize>, AllocError>
+    ensures { IfOk result (λ numbers.
+        numbers.items ≡ map (first_of (all_keys segments.now)) (all_keys segments.now)) }
+{
+    let keys = keys_of(alloc, segments)?;
+    numbers_of(alloc, &keys)
+}
+
 /// Have the records that are set distinct keys, at each position of each branch?
 #[tactic(auto, using(crate::proofs::Tables::goes, crate::proofs::Tables::stops, crate::proofs::Tables::ends, crate::proofs::Tables::last_is))]
 pub fn keys_once(alloc: Global, lasts: &[u32], segments: &[SegmentPart]) -> Result<bool, AllocError>
     ensures { IfOk result (λ ok. ok ≡ keys_once lasts.now segments.now) }
 {
-    let keys = keys_of(alloc, segments)?;
+    let numbers = all_numbers(alloc, segments)?;
     'branches: for i in 0..lasts.len() {
-        if !is_keyed(alloc, &keys, segments, lasts[i], i)? {
+        if !is_keyed(alloc, &numbers, segments, lasts[i], i)? {
             return Ok(false);
         }
     }

@@ -5,5 +5,5 @@ use Rattle.image_parts.specs.Walk.{Agrees, Shows}
 use Rattle.image_parts.proofs.keys.is_keyed.Given as goal
 
 abbrev pub invariant-positions : goal.invariant-positions
-invariant-positions l = Agrees l.keys l.walk × Shows l.branch l.segments l.n l.walk.bits.items
+invariant-positions l = Agrees l.numbers l.walk × Shows l.branch l.segments l.n l.walk.bits.items
     × (list_all (λ (n : ℕ). is_table (keys_at l.branch n l.segments)) (range_with_len l.n (suc l.last - l.n)) ≡ is_keyed l.segments l.last l.branch)
