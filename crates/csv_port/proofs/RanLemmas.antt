@@ -13,10 +13,9 @@ use Rattle.db_core.specs.Marks.{entry_with}
 use Rattle.db_core.specs.Kept.{Logged, world_of}
 use Rattle.db_core.specs.Answered.{Ran}
 use Rattle.db_core.specs.Sits.{marked}
-use Rattle.script_run.specs.Output.{marked_as}
-use Rattle.script_run.specs.Heard.{RanLine}
-use Rattle.script_run.proofs.OutputLemmas.{heard_world}
-use Rattle.script_run.proofs.HeardLemmas.{hears_line}
+use Rattle.db_core.specs.Heard.{marked_as}
+use Rattle.db_core.specs.Runs.{RanLine}
+use Rattle.db_core.proofs.Hearing.{heard_world, hears_line}
 use Rattle.csv_port.specs.Lines.{importer, text_by, ReadsAs}
 use Rattle.csv_port.specs.Import.{reply_to, world_with}
 use Rattle.csv_port.specs.Ran.{RanStmt}

@@ -21,13 +21,11 @@ use Rattle.db_core.specs.Marks.{entry_with}
 use Rattle.db_core.specs.Kept.{Kept, Logged, Stands, saids, world_of}
 use Rattle.db_core.specs.Sits.{marked}
 use Rattle.db_core.proofs.Marked.{failed_law, refused_law}
-use Rattle.script_run.specs.Output.{Marked, marked_as, unmarked, lines_of}
-use Rattle.script_run.specs.Acknowledged.{StoresAll}
-use Rattle.script_run.specs.Heard.{Hears}
-use Rattle.script_run.specs.Runs.{Runs}
-use Rattle.script_run.proofs.OutputLemmas.{hears_more, hears_none}
-use Rattle.script_run.proofs.StoreLemmas.{stores_none}
-use Rattle.script_run.proofs.HeardLemmas.{heard_state, ran_more, runs_to, runs_more}
+use Rattle.db_core.specs.Heard.{Marked, marked_as, unmarked, lines_of, Hears}
+use Rattle.db_core.specs.Acknowledged.{StoresAll}
+use Rattle.db_core.specs.Runs.{Runs}
+use Rattle.db_core.proofs.Hearing.{hears_more, hears_none, heard_state, ran_more, runs_to, runs_more}
+use Rattle.db_core.proofs.Storing.{stores_none}
 use Rattle.csv_port.specs.declared.stop.ImportStop.{ImportStop}
 use Rattle.csv_port.specs.declared.stop.ImportStop.TheVariants.{BadRow, DiskFault, Full, KeyThere, Memory, NoRelation}
 use Rattle.csv_port.specs.declared.imports.Imported.{Imported}

@@ -10,9 +10,8 @@ use Rattle.db_value.specs.declared.record.Record.{Record}
 use Rattle.db_store.specs.State.{State, dataset_of}
 use Rattle.entry_codec.specs.Logs.{Opening}
 use Rattle.db_core.specs.Kept.{Logged, Stands, world_of}
-use Rattle.script_run.proofs.OutputLemmas.{hears_none}
-use Rattle.script_run.proofs.StoreLemmas.{stores_none}
-use Rattle.script_run.proofs.HeardLemmas.{runs_to}
+use Rattle.db_core.proofs.Hearing.{hears_none, runs_to}
+use Rattle.db_core.proofs.Storing.{stores_none}
 use Rattle.csv_port.specs.declared.stop.ImportStop.{ImportStop}
 use Rattle.csv_port.specs.declared.stop.ImportStop.TheVariants.{BadRow, DiskFault, Full, KeyThere, Memory, NoRelation}
 use Rattle.csv_port.specs.Rows.{GivesRows, rows_in}

@@ -9,9 +9,8 @@ use Rattle.stmt_text.specs.declared.stmt.Stmt.{Stmt}
 use Rattle.db_core.specs.Kept.{Logged, world_of}
 use Rattle.db_core.specs.Order.{reply_in}
 use Rattle.db_core.specs.Sits.{marked}
-use Rattle.script_run.specs.Output.{Marked, marked_as, unmarked}
-use Rattle.script_run.specs.Heard.{RanLine}
-use Rattle.script_run.specs.Runs.{Runs}
+use Rattle.db_core.specs.Heard.{Marked, marked_as, unmarked}
+use Rattle.db_core.specs.Runs.{RanLine, Runs}
 use Rattle.csv_port.specs.declared.stop.ImportStop.{ImportStop}
 use Rattle.csv_port.specs.declared.stop.ImportStop.TheVariants.{DiskFault}
 use Rattle.csv_port.specs.Lines.{importer, text_by}

@@ -5,6 +5,9 @@ pub mod Laws
 pub mod Kept
 pub mod Sits
 pub mod Answered
+pub mod Heard
+pub mod Acknowledged
+pub mod Runs
 pub mod Desk
 pub mod Sessions
 pub mod Local

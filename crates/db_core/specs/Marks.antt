@@ -30,6 +30,11 @@ abbrev pub AllMayFail : World → List Said → Type 0
 AllMayFail w [] = Unit {0}
 AllMayFail w (x ∷ xs) = MayFail w x × AllMayFail (next w x) xs
 
+-- none of these lines would store an entry, one after another from this world on
+abbrev pub NoneStores : World → List Said → Type 0
+NoneStores w [] = Unit {0}
+NoneStores w (x ∷ xs) = (entry_with w x.session x.stmt ≡ None) × NoneStores (next w x) xs
+
 -- how many lines have the mark
 abbrev pub failed_lines : List Step → ℕ
 failed_lines [] = 0

@@ -22,10 +22,10 @@ use Rattle.generations.specs.Files.{opened, counts, reads}
 use Rattle.generations.specs.Pairs.{moments_of, AreAllOnDisk, BothOnlyRead}
 use Rattle.generations.specs.Reopens.{StaysQuiet}
 use Rattle.script_run.specs.Device.{Appends, AppendsShort}
-use Rattle.script_run.specs.Output.{Marked, failures, lines_of, unmarked}
-use Rattle.script_run.specs.Acknowledged.{StoresAll}
-use Rattle.script_run.specs.Runs.{Runs}
-use Rattle.script_run.proofs.StoreLemmas.{stores_none}
+use Rattle.db_core.specs.Heard.{Marked, failures, lines_of, unmarked}
+use Rattle.db_core.specs.Acknowledged.{StoresAll}
+use Rattle.db_core.specs.Runs.{Runs}
+use Rattle.db_core.proofs.Storing.{stores_none}
 use Rattle.decibel_main.specs.Ends.{IsRowsStatus, IsUntouched}
 use Rattle.decibel_main.specs.Imports.{imported_text, line_refused, stop_status, TellsMade, EndedBy, EndsImport, ImportsAll, ImportsLog, RunsImport}
 use Rattle.decibel_main.specs.declared.status.Status.{Status}

@@ -18,11 +18,11 @@ use Rattle.generations.specs.Pairs.{moments_of, AreAllOnDisk, RoseInOne, BothOnl
 use Rattle.generations.specs.Reopens.{StaysQuiet}
 use Rattle.script_run.specs.declared.run.RunStop.{RunStop}
 use Rattle.script_run.specs.declared.run.RunStop.TheVariants.{Fault, Memory as NoMemory}
-use Rattle.script_run.specs.Output.{Marked, failures, world_after}
-use Rattle.script_run.specs.Acknowledged.{acknowledged, begun, GivesAny, GivesDuring, StoresAll}
+use Rattle.db_core.specs.Heard.{Marked, failures, world_after}
+use Rattle.db_core.specs.Acknowledged.{acknowledged, begun, GivesAny, GivesDuring, StoresAll}
 use Rattle.script_run.specs.Runs.{RunsAll, RunsCut, RunsWhole}
 use Rattle.script_run.proofs.OutputLemmas.{out_end}
-use Rattle.script_run.proofs.StoreLemmas.{stores_none, may_any}
+use Rattle.db_core.proofs.Storing.{stores_none, may_any}
 use Rattle.decibel_main.specs.Ends.{IsEndOf}
 use Rattle.decibel_main.specs.Images.{OpensNow, OpensSince, faults_in}
 use Rattle.decibel_main.specs.Scripts.{RunsLog, RunsOn, RunsScript}

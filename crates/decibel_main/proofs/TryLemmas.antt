@@ -5,7 +5,8 @@ use Rattle.std.proofs.lemmas.List.{append-nil}
 use Rattle.db_core.specs.Order.{World, next}
 use Rattle.db_core.specs.Kept.{Kept, Stands, world_of}
 use Rattle.script_run.specs.Device.{Appends, AppendsFront, AppendsShort}
-use Rattle.script_run.specs.Output.{Marked, unmarked, lines_of, failures, said, world_after, answer_of, out}
+use Rattle.db_core.specs.Heard.{Marked, unmarked, lines_of, failures, said, world_after}
+use Rattle.script_run.specs.Output.{answer_of, out}
 use Rattle.script_run.specs.Runs.{IsOneMore}
 use Rattle.script_run.specs.declared.run.RunStop.{RunStop}
 use Rattle.script_run.specs.declared.run.RunStop.TheVariants.{Fault, Memory as NoMemory}

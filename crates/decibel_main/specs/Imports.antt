@@ -13,9 +13,9 @@ use Rattle.csv_port.specs.Import.{import_told, lines_told}
 use Rattle.db_core.specs.Order.{opening}
 use Rattle.generations.specs.declared.pair.Pair.{Pair}
 use Rattle.generations.specs.Files.{opened, counts, reads}
-use Rattle.script_run.specs.Acknowledged.{StoresAll}
+use Rattle.db_core.specs.Acknowledged.{StoresAll}
 use Rattle.script_run.specs.Device.{Appends, AppendsShort}
-use Rattle.script_run.specs.Output.{Marked, failures, lines_of}
+use Rattle.db_core.specs.Heard.{Marked, failures, lines_of}
 use Rattle.decibel_main.specs.Scripts.{RunsOn, Stops}
 use Rattle.decibel_main.specs.declared.status.Status.{Status}
 use Rattle.decibel_main.specs.declared.status.Status.TheVariants.{Done, NotDataset, Damaged, WriteFault, DiskFault, Memory, BadLine}

@@ -12,8 +12,9 @@ use Rattle.generations.specs.declared.look.OpenStop.{OpenStop}
 use Rattle.generations.specs.declared.look.OpenStop.TheVariants.{NotDataset as NoDataset, Damaged as DamagedAt, DiskFault as DiskFailed, Memory as NoMemory}
 use Rattle.generations.specs.Pairs.{moments_of, AreAllOnDisk, BothOnlyRead}
 use Rattle.script_run.specs.Device.{Appends, AppendsShort}
-use Rattle.script_run.specs.Output.{Marked, lines_of, failures, world_after, answer_of, out}
-use Rattle.script_run.specs.Acknowledged.{acknowledged, begun, GivesAny, GivesDuring, StoresAll}
+use Rattle.db_core.specs.Heard.{Marked, lines_of, failures, world_after}
+use Rattle.script_run.specs.Output.{answer_of, out}
+use Rattle.db_core.specs.Acknowledged.{acknowledged, begun, GivesAny, GivesDuring, StoresAll}
 use Rattle.script_run.specs.Runs.{IsOneMore}
 use Rattle.decibel_main.specs.Images.{OpensNow, OpensSince, faults_in}
 use Rattle.decibel_main.specs.declared.status.Status.{Status}

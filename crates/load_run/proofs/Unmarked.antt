@@ -5,8 +5,8 @@ use Rattle.db_value.specs.declared.step.Step.{Step}
 use Rattle.db_store.specs.State.{State}
 use Rattle.db_core.specs.Order.{Said, opening, after, replies}
 use Rattle.db_core.specs.Kept.{Kept, Stands, saids}
-use Rattle.script_run.specs.Output.{Marked, marked_as, unmarked, said, lines_run, lines_of, failures}
-use Rattle.script_run.specs.Heard.{Hears}
+use Rattle.db_core.specs.Heard.{Marked, marked_as, unmarked, said, lines_of, failures, Hears}
+use Rattle.script_run.specs.Output.{lines_run}
 use Rattle.load_run.specs.Quiet.{HasRun}
 
 not_failed : (b : Bool) (n : ℕ) → cond b (suc n) n ≡ 0 → b ≡ false

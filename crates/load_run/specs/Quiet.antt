@@ -4,7 +4,8 @@ use Rattle.db_value.specs.declared.step.Step.{Step}
 use Rattle.db_store.specs.State.{State}
 use Rattle.db_core.specs.Kept.{Kept}
 use Rattle.db_core.specs.Order.{World, opening, replies}
-use Rattle.script_run.specs.Output.{said, unmarked, lines_run, world_after}
+use Rattle.db_core.specs.Heard.{said, unmarked, world_after}
+use Rattle.script_run.specs.Output.{lines_run}
 
 -- The lines of a script were run on this state, and no others: each has the reply of its whole transaction, and the state is the one after them.
 pub record HasRun (k : Kept) (s : State) (lines : List (List ℕ)) : Type 0 where

@@ -3,17 +3,18 @@ use Rattle.std.proofs.Common.{◌≡◌, ℕ, suc, true, false, cond, List, [], 
 use Rattle.std.proofs.lemmas.List.{append-nil, append_cancel_left, map-append, length-map}
 use Rattle.db_value.specs.Text.{lines, is_passed_over}
 use Rattle.db_value.specs.declared.reply.Reply.{Reply}
-use Rattle.db_value.specs.declared.step.Step.{Step}
 use Rattle.db_store.specs.State.{State}
 use Rattle.reply_text.specs.Reply.{echo_text, reply_text}
 use Rattle.db_core.specs.Order.{Said, World, opening, next, after, replies}
 use Rattle.db_core.specs.Laws.{AllHaveRoom}
 use Rattle.db_core.specs.Kept.{Kept, saids, world_of, Stands}
+use Rattle.db_core.specs.Heard.{Marked, said, world_after}
 use Rattle.db_core.proofs.Boards.{growth_law}
-use Rattle.db_core.proofs.Rooms.{room_law}
+use Rattle.db_core.proofs.Seating.{after_all}
+use Rattle.db_core.proofs.Standing.{all_roomy}
+use Rattle.db_core.proofs.Hearing.{marked_roomy}
 use Rattle.script_run.specs.Device.{Appends, AppendsFront, AppendsShort}
-use Rattle.script_run.specs.Output.{Marked, lines_run, lines_of, said, world_after, answer_of, out}
-use Rattle.script_run.specs.Heard.{Hears}
+use Rattle.script_run.specs.Output.{lines_run, answer_of, out}
 
 -- ---- a script's lines
 
@@ -28,43 +29,11 @@ pub lines_empty : (bs : List ℕ) → length bs ≡ 0 → lines bs ≡ []
 lines_empty [] e = refl
 lines_empty (b ∷ bs) e = absurd (omega arith)
 
--- lines with one more of them run
-pub lines_more : (ran : List Marked) (m : Marked) (rest : List (List ℕ)) → lines_of (ran ++ m ∷ []) ++ rest ≡ lines_of ran ++ m.line ∷ rest
-lines_more ran m rest = ap (λ t. t ++ rest) (map-append (λ (x : Marked). x.line) ran (m ∷ [])) ∙ append_assoc (lines_of ran) (m.line ∷ []) rest
-
 -- ---- the room of lines that are read
-
-pub all_roomy : (ran : List Marked) → AllHaveRoom (map said ran)
-all_roomy [] = tt
-all_roomy (m ∷ more) = (room_law m.line m.failed, all_roomy more)
-
-steps_roomy : (steps : List Step) → AllHaveRoom (saids steps)
-steps_roomy [] = tt
-steps_roomy (s ∷ more) = (room_law s.line s.failed, steps_roomy more)
 
 roomy-append : (xs ys : List Said) → AllHaveRoom xs → AllHaveRoom ys → AllHaveRoom (xs ++ ys)
 roomy-append [] ys p q = q
 roomy-append (x ∷ xs) ys p q = (p.0, roomy-append xs ys p.1 q)
-
--- ---- worlds
-
-after-append : (w : World) (xs ys : List Said) → after w (xs ++ ys) ≡ after (after w xs) ys
-after-append w [] ys = refl
-after-append w (x ∷ xs) ys = after-append (next w x) xs ys
-
--- what a core has heard made its world
-pub heard_world : (old new : Kept) (ran : List Marked) → Hears old new ran → world_of new ≡ world_after (world_of old) ran
-heard_world old new ran h =
-    ap (λ (s : State). after (opening s) (saids new.steps)) h.opening ∙ ap (after (opening old.opening)) h.steps ∙ after-append (opening old.opening) (saids old.steps) (map said ran)
-
-pub hears_more : (old mid new : Kept) (xs ys : List Marked) → Hears old mid xs → Hears mid new ys → Hears old new (xs ++ ys)
-hears_more old mid new xs ys p q = record {
-  opening = q.opening ∙ p.opening;
-  steps = q.steps ∙ ap (λ t. t ++ map said ys) p.steps ∙ append_assoc (saids old.steps) (map said xs) (map said ys) ∙ ap (λ t. saids old.steps ++ t) (sym (map-append said xs ys));
-}
-
-pub hears_none : (k : Kept) → Hears k k []
-hears_none k = record { opening = refl; steps = sym (append-nil (saids k.steps)) }
 
 -- ---- replies behind those of a core
 
@@ -73,14 +42,14 @@ grows : (k : Kept) (xs ys : List Said) → Stands k → AllHaveRoom xs → AllHa
 grows k xs ys stands p q =
     let w : World = opening k.opening in
     let past : List Said = saids k.steps in
-    let old : AllHaveRoom past = steps_roomy k.steps in
+    let old : AllHaveRoom past = all_roomy k.steps in
     append_cancel_left (replies w past) (replies (world_of k) (xs ++ ys)) (replies (world_of k) xs ++ replies (after (world_of k) xs) ys) (
     sym (growth_law k.opening past (xs ++ ys) stands.sound stands.counted stands.ordered old (roomy-append xs ys p q))
     ∙ ap (replies w) (sym (append_assoc past xs ys))
     ∙ growth_law k.opening (past ++ xs) ys stands.sound stands.counted stands.ordered (roomy-append past xs old p) q
     ∙ ap (λ t. t ++ replies (after w (past ++ xs)) ys) (growth_law k.opening past xs stands.sound stands.counted stands.ordered old p)
     ∙ append_assoc (replies w past) (replies (world_of k) xs) (replies (after w (past ++ xs)) ys)
-    ∙ ap (λ (v : World). replies w past ++ (replies (world_of k) xs ++ replies v ys)) (after-append w past xs)
+    ∙ ap (λ (v : World). replies w past ++ (replies (world_of k) xs ++ replies v ys)) (after_all w past xs)
     )
 
 -- ---- output
@@ -114,7 +83,7 @@ out-append k ran more stands =
     let v : World = world_after w ran in
     out_answers w (ran ++ more)
     ∙ ap (λ (s : List Said). answers (ran ++ more) (replies w s)) (map-append said ran more)
-    ∙ ap (answers (ran ++ more)) (grows k (map said ran) (map said more) stands (all_roomy ran) (all_roomy more))
+    ∙ ap (answers (ran ++ more)) (grows k (map said ran) (map said more) stands (marked_roomy ran) (marked_roomy more))
     ∙ answers-append ran more (replies w (map said ran)) (replies v (map said more)) (length-replies w (map said ran) ∙ length-map ran said)
     ∙ ap (λ t. t ++ answers more (replies v (map said more))) (sym (out_answers w ran))
     ∙ ap (λ t. out w ran ++ t) (sym (out_answers v more))

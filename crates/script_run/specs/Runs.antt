@@ -4,19 +4,10 @@ use Rattle.db_value.specs.declared.entry.Entry.{Entry}
 use Rattle.db_store.specs.State.{State}
 use Rattle.entry_codec.specs.Logs.{Opening}
 use Rattle.db_core.specs.Kept.{Logged, world_of}
+use Rattle.db_core.specs.Heard.{Marked, world_after}
+use Rattle.db_core.specs.Runs.{Runs}
 use Rattle.script_run.specs.Device.{Appends, AppendsShort}
-use Rattle.script_run.specs.Output.{Marked, lines_of, world_after, answer_of, out}
-use Rattle.script_run.specs.Acknowledged.{StoresAll}
-use Rattle.script_run.specs.Heard.{Hears}
-
--- Of all these lines the first ones were run, with their marks, and these were not. The core has heard them, the state is that after them, and the log did for them what a log does.
-pub record Runs
-    {L : Type 0} (faults : L → ℕ) (Keeps : L → State → List Entry → Option (List ℕ) → Type 0) (generation : L → ℕ) (moment : L → ℕ × ℕ) (opens_since : L → ℕ × ℕ → Opening → Type 0) (Quiet : L → ℕ × ℕ → Type 0)
-    (old new : Logged L) (all : List (List ℕ)) (ran : List Marked) (rest : List (List ℕ)) : Type 0 where
-  pub lines : all ≡ lines_of ran ++ rest
-  pub heard : Hears old.kept new.kept ran
-  pub state : new.kept.now ≡ (world_after (world_of old.kept) ran).state
-  pub stores : StoresAll faults Keeps generation moment opens_since Quiet (world_of old.kept) ran old.log new.log
+use Rattle.script_run.specs.Output.{answer_of, out}
 
 -- all lines were run, and answered whole
 pub record RunsAll

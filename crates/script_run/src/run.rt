@@ -2,9 +2,10 @@
 ghost use Rattle.std.specs.Prelude.{◌≡◌, IfOk, OnOk, OnErr, IsErrOf};
 ghost use Rattle.db_value.specs.Text.{lines};
 ghost use Rattle.db_core.specs.Kept.{Stands};
+ghost use Rattle.db_core.specs.Runs.{RanAtMost};
 ghost use Rattle.script_run.specs.Device.{CountsIf};
 ghost use Rattle.script_run.specs.Output.{lines_run};
-ghost use Rattle.script_run.specs.Heard.{AnswersLine, RanAtMost, WritesAnswer, CutsAnswer};
+ghost use Rattle.script_run.specs.Answers.{AnswersLine, WritesAnswer, CutsAnswer};
 ghost use Rattle.script_run.specs.Runs.{RunsAll, RunsCut, RunsWhole};
 
 use crate::devices::put_all;

@@ -1,6 +1,7 @@
 use Rattle.std.proofs.Common.{◌∙◌, inl, inr, ⊎_elim}
 use Rattle.std.proofs.lemmas.Result.{IfOk-weaker, on_err_weaker}
-use Rattle.script_run.proofs.HeardLemmas.{hears_line, told_always}
+use Rattle.db_core.proofs.Hearing.{hears_line}
+use Rattle.script_run.proofs.HeardLemmas.{told_always}
 use Rattle.script_run.proofs.run.answer.Goals as goal
 
 pub returns-clause-bytes : goal.returns-clause-bytes

@@ -5,11 +5,12 @@ use Rattle.db_value.specs.Text.{lines}
 use Rattle.db_core.specs.Order.{World}
 use Rattle.db_core.specs.Kept.{Kept, Stands, world_of}
 use Rattle.script_run.specs.Device.{Appends, AppendsShort}
-use Rattle.script_run.specs.Output.{Marked, marked_as, lines_run, lines_of, world_after, answer_of, out}
-use Rattle.script_run.specs.Heard.{Hears}
-use Rattle.script_run.proofs.OutputLemmas.{not_passed, lines_empty, lines_more, heard_world, hears_more, hears_none, out_end, out_more, appends_then, short_then}
-use Rattle.script_run.proofs.StoreLemmas.{stores_none}
-use Rattle.script_run.proofs.HeardLemmas.{ran_more, runs_to, runs_more, runs_whole}
+use Rattle.db_core.specs.Heard.{Marked, marked_as, lines_of, world_after, Hears}
+use Rattle.script_run.specs.Output.{lines_run, answer_of, out}
+use Rattle.script_run.proofs.OutputLemmas.{not_passed, lines_empty, out_end, out_more, appends_then, short_then}
+use Rattle.db_core.proofs.Hearing.{lines_more, heard_world, hears_more, hears_none, ran_more, runs_to, runs_more}
+use Rattle.db_core.proofs.Storing.{stores_none}
+use Rattle.script_run.proofs.HeardLemmas.{runs_whole}
 use Rattle.script_run.proofs.run.run_script.Goals as goal
 
 pub loop-rest-init : goal.loop-rest-init

@@ -2,9 +2,9 @@ use Rattle.std.proofs.Common.{◌≡◌, ◌≤◌, ◌++◌, List, length}
 use Rattle.db_value.specs.Text.{lines}
 use Rattle.db_core.specs.Kept.{Stands, world_of}
 use Rattle.script_run.specs.Device.{Appends}
-use Rattle.script_run.specs.Output.{Marked, lines_run, lines_of, out}
-use Rattle.script_run.specs.Acknowledged.{StoresAll}
-use Rattle.script_run.specs.Heard.{Hears}
+use Rattle.db_core.specs.Heard.{Marked, lines_of, Hears}
+use Rattle.script_run.specs.Output.{lines_run, out}
+use Rattle.db_core.specs.Acknowledged.{StoresAll}
 use Rattle.script_run.proofs.run.run_script.Given as goal
 
 -- the lines that were run stand before the rest, the core has heard them, the log did for them what a log does, and the sink has their output

@@ -7,7 +7,7 @@ use Rattle.entry_codec.specs.Logs.{Opening, gives, GivesMore, IsNoLater, AddsOnl
 use Rattle.store_tx.specs.Stored.{stored_if}
 use Rattle.db_core.specs.Order.{World, said_of, next}
 use Rattle.db_core.specs.Marks.{AllMayFail, entry_with}
-use Rattle.script_run.specs.Output.{Marked, said, failures, world_after}
+use Rattle.db_core.specs.Heard.{Marked, said, failures, world_after}
 
 -- the entry that a line stores, if it stores one
 abbrev pub entry_in : World → Marked → Option Entry

@@ -1,7 +1,9 @@
 -- What a log keeps of one line more.
-use Rattle.std.proofs.Common.{◌≡◌, ◌⊎◌, inl, inr, ◌∙◌, ◌+◌, ◌-◌, ◌^◌, ◌<◌, ◌≤◌, ◌++◌, ◌∷◌, [], List, ℕ, suc, cond, Bool, true, false, is_some, map, refl, sym, ap, subst, arith, append_assoc, Option, Some, None}
+use Rattle.std.proofs.Common.{◌≡◌, ◌⊎◌, ⊎_elim, inl, inr, ◌∙◌, ◌+◌, ◌-◌, ◌^◌, ◌<◌, ◌≤◌, ◌++◌, ◌∷◌, [], List, ℕ, suc, cond, Bool, true, false, is_some, map, refl, sym, ap, subst, arith, append_assoc, Option, Some, None}
 use Rattle.std.specs.Prelude.{Result, Ok, Err}
 use Rattle.std.proofs.lemmas.List.{append-nil, map-append}
+use Rattle.std.proofs.lemmas.Bool.{true≢false}
+use Rattle.db_value.specs.declared.step.Step.{Step}
 use Rattle.db_value.specs.declared.entry.Entry.{Entry}
 use Rattle.db_store.specs.State.{State, dataset_of}
 use Rattle.lock_table.specs.Rows.{holder}
@@ -14,9 +16,13 @@ use Rattle.entry_codec.specs.Logs.{Opening, MayGive, IsNoLater, AddsOnly}
 use Rattle.store_tx.specs.Ends.{grown, is_open, ends}
 use Rattle.store_tx.specs.Stored.{Stores, GivesIf, EndsIf, stored_if}
 use Rattle.db_core.specs.Order.{Said, World, said_as, said_of, next, after, fate_of, needs_of, next_by}
-use Rattle.db_core.specs.Marks.{MayFail, AllMayFail, entry_by, entry_with}
-use Rattle.script_run.specs.Output.{Marked, marked_as, said, failures, world_after}
-use Rattle.script_run.specs.Acknowledged.{entry_in, listed, acknowledged, batch_of, begun_by, begun, next_batch, IsAmong, IsPending, GivesAny, GivesDuring, KeepsAny, StoresAll}
+use Rattle.db_core.specs.Marks.{MayFail, AllMayFail, NoneStores, entry_by, entry_with}
+use Rattle.db_core.specs.Kept.{saids}
+use Rattle.db_core.specs.Desk.{AllOf}
+use Rattle.db_core.proofs.Seating.{after_more}
+use Rattle.db_core.proofs.Standing.{may_all, as_marked}
+use Rattle.db_core.specs.Heard.{Marked, marked_as, said, failures, world_after, marked_step, marked_steps}
+use Rattle.db_core.specs.Acknowledged.{entry_in, listed, acknowledged, batch_of, begun_by, begun, next_batch, IsAmong, IsPending, GivesAny, GivesDuring, KeepsAny, StoresAll}
 
 -- ---- the state after a line
 
@@ -45,12 +51,8 @@ state_next w m = state_as w (line_of m.line) m.failed
 
 -- ---- one line more
 
-after-more : (w : World) (xs : List Said) (x : Said) → after w (xs ++ x ∷ []) ≡ next (after w xs) x
-after-more w [] x = refl
-after-more w (y ∷ ys) x = after-more (next w y) ys x
-
 pub world_more : (w : World) (ran : List Marked) (m : Marked) → world_after w (ran ++ m ∷ []) ≡ next (world_after w ran) (said m)
-world_more w ran m = ap (after w) (map-append said ran (m ∷ [])) ∙ after-more w (map said ran) (said m)
+world_more w ran m = ap (after w) (map-append said ran (m ∷ [])) ∙ after_more w (map said ran) (said m)
 
 acknowledged-more : (w : World) (ran : List Marked) (m : Marked) → acknowledged w (ran ++ m ∷ []) ≡ acknowledged w ran ++ listed (stored_if m.failed (entry_in (world_after w ran) m))
 acknowledged-more w [] m = append-nil (listed (stored_if m.failed (entry_in w m)))
@@ -75,10 +77,6 @@ failures-more (x ∷ xs) m = by x.failed m.failed (failures (xs ++ m ∷ [])) (f
     by true false a b e = omega (arith, e)
     by false true a b e = omega (arith, e)
     by false false a b e = omega (arith, e)
-
-marks-more : (w : World) (xs : List Said) (x : Said) → AllMayFail w xs → MayFail (after w xs) x → AllMayFail w (xs ++ x ∷ [])
-marks-more w [] x all may = (may, tt)
-marks-more w (y ∷ ys) x all may = (all.0, marks-more (next w y) ys x all.1 may)
 
 -- the mark of a line that has an entry
 may_by : (w : World) (r : Result Line ℕ) (failed : Bool) → (failed ≡ true → is_some (entry_with w (said_as r false).session (said_as r false).stmt) ≡ true) → MayFail w (said_as r failed)
@@ -224,7 +222,7 @@ module _ {L : Type 0} (faults : L → ℕ) (Keeps : L → State → List Entry �
     -- one line more was run
     pub stores_more : All w (ran ++ m ∷ []) old new
     stores_more = record {
-      marks = subst (AllMayFail w) (sym (map-append said ran (m ∷ []))) (marks-more w (map said ran) (said m) all.marks may);
+      marks = subst (AllMayFail w) (sym (map-append said ran (m ∷ []))) (may_all w (map said ran) (said m ∷ []) all.marks (may, tt));
       few = λ below. omega (arith, failures-more ran m, few_more (failures ran) (faults old) (faults mid) (faults new) m.failed all.few line.later line.cause below);
       any_moment = more_moment;
       kept = more_kept;
@@ -232,3 +230,52 @@ module _ {L : Type 0} (faults : L → ℕ) (Keeps : L → State → List Entry �
       time = no_later (moment old) (moment mid) (moment new) all.time line.time;
       later = omega (arith, all.later, line.later);
     }
+
+  -- a line without the mark that stores nothing
+  module _ (w : World) (ran : List Marked) (m : Marked) (old new : L) (all : All w ran old new) (unfailed : m.failed ≡ false) (none : entry_in (world_after w ran) m ≡ None) where
+    abbrev u : World
+    u = world_after w ran
+
+    same_state : (world_after w (ran ++ m ∷ [])).state ≡ u.state
+    same_state = ap (λ (v : World). v.state) (world_more w ran m) ∙ state_next u m ∙ (λ i. grown u.state (stored_if (unfailed i) (none i)))
+
+    same_entries : acknowledged w (ran ++ m ∷ []) ≡ acknowledged w ran
+    same_entries = acknowledged-more w ran m ∙ (λ i. acknowledged w ran ++ listed (stored_if (unfailed i) (none i))) ∙ append-nil (acknowledged w ran)
+
+    same_begun : (bs : List (List ℕ)) → begun w bs (ran ++ m ∷ []) ≡ begun w bs ran
+    same_begun bs = begun-more w bs ran m ∙ (λ i. begun_by (unfailed i) (none i) (begun w bs ran))
+
+    same_failures : failures (ran ++ m ∷ []) ≡ cond false 1 0 + failures ran
+    same_failures = failures-more ran m ∙ ap (λ (b : Bool). cond b 1 0 + failures ran) unfailed
+
+    still_moment : (es : List Entry) (f : Option (List ℕ)) → Keeps old w.state es f → Adds old new (GivesDuring (generation old) w es f (ran ++ m ∷ []))
+    still_moment es f k =
+        let a = all.any_moment es f k in
+        record { stays = a.stays; adds = λ t le q o since. ⊎_elim (λ before. inl before) (λ h. inr (during_before (generation old) w es f ran m o h)) (a.adds t le q o since) }
+
+    still_kept : (es : List Entry) (f : Option (List ℕ)) → Keeps old w.state es f → KeepsAny Keeps new (world_after w (ran ++ m ∷ [])).state (es ++ acknowledged w (ran ++ m ∷ [])) (begun w (listed f) (ran ++ m ∷ []))
+    still_kept es f k = subst (λ (p : State × List Entry × List (List ℕ)). KeepsAny Keeps new p.0 p.1 p.2)
+        (λ i. (sym same_state i, es ++ sym same_entries i, sym (same_begun (listed f)) i)) (all.kept es f k)
+
+    stores_still : All w (ran ++ m ∷ []) old new
+    stores_still = record {
+      marks = subst (AllMayFail w) (sym (map-append said ran (m ∷ []))) (may_all w (map said ran) (said m ∷ []) all.marks (may_as u m.line m.failed (λ bad. absurd (true≢false (sym bad ∙ unfailed))), tt));
+      few = λ below. omega (arith, same_failures, all.few below);
+      any_moment = still_moment;
+      kept = still_kept;
+      generation_stays = all.generation_stays;
+      time = all.time;
+      later = all.later;
+    }
+
+  -- lines of a session, without the mark, that store nothing
+  pub stores_waiting : (n : ℕ) (steps : List Step) (w : World) (ran : List Marked) (old new : L) → All w ran old new → AllOf n (saids steps) → NoneStores (world_after w ran) (saids steps) → All w (ran ++ marked_steps steps) old new
+  stores_waiting n [] w ran old new all own none = subst (λ (r : List Marked). All w r old new) (sym (append-nil ran)) all
+  stores_waiting n (s ∷ ss) w ran old new all own none =
+      let m : Marked = marked_step s in
+      let v : World = world_after w ran in
+      let unfailed : s.failed ≡ false = sym (ap (λ (y : Said). y.failed) (as_marked (line_of s.line) s.failed)) ∙ own.0.1 in
+      let here : entry_in v m ≡ None = ap (λ (b : Bool). entry_with v (said_of s.line b).session (said_of s.line b).stmt) (sym unfailed) ∙ none.0 in
+      let first : All w (ran ++ m ∷ []) old new = stores_still w ran m old new all unfailed here in
+      subst (λ (r : List Marked). All w r old new) (append_assoc ran (m ∷ []) (marked_steps ss))
+      (stores_waiting n ss w (ran ++ m ∷ []) old new first own.1 (subst (λ (z : World). NoneStores z (saids ss)) (sym (world_more w ran m)) none.1))
