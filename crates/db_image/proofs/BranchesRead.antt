@@ -39,7 +39,7 @@ pub record AreBranches (s : List BranchPart × List VersionPlace) : Type 0 where
   pub master : 0 < length s.0 → name_at s.0 0 ≡ codes "master"
   pub apart : (c b : ℕ) → c < b → b < length s.0 → same (name_at s.0 c) (name_at s.0 b) ≡ false
 
-bases_push : (bases : List VersionPlace) (xs : List BranchLaid) (y : BranchLaid) → bases_from bases (xs ++ y ∷ []) ≡ bases_from bases xs ++ base_in (bases_from bases xs) y.origin ∷ []
+pub bases_push : (bases : List VersionPlace) (xs : List BranchLaid) (y : BranchLaid) → bases_from bases (xs ++ y ∷ []) ≡ bases_from bases xs ++ base_in (bases_from bases xs) y.origin ∷ []
 bases_push bases [] y = refl
 bases_push bases (x ∷ xs) y = bases_push (bases ++ base_in bases x.origin ∷ []) xs y
 

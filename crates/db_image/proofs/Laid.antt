@@ -63,7 +63,7 @@ past_part : (relations : List Relation) (r k : ℕ) (sss : List (List SegmentPar
 past_part relations r k [] l = refl
 past_part relations r k (ss ∷ sss) l = split_part relations r k ss sss ∙ (λ i. other_part relations r k ss (λ e. omega (arith, e, l)) i ++ past_part relations r (suc k) sss (omega (arith, l)) i)
 
-part_at : (relations : List Relation) (r k j : ℕ) (sss : List (List SegmentPart)) → k + j ≡ r → laid.parts_of r (segments_from relations k sss) ≡ map (segment_part relations r) (get_or sss j none_read)
+pub part_at : (relations : List Relation) (r k j : ℕ) (sss : List (List SegmentPart)) → k + j ≡ r → laid.parts_of r (segments_from relations k sss) ≡ map (segment_part relations r) (get_or sss j none_read)
 part_at relations r k j [] e = refl
 part_at relations r k zero (ss ∷ sss) e =
     let q : k ≡ r = omega (arith, e) in

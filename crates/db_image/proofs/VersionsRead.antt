@@ -30,16 +30,16 @@ pub record AreVersions (bases : List VersionPlace) (s : List ℕ × List MadeVer
   pub branches : (b k : ℕ) (p : VersionPlace) → get_or (seconds_of b (laid_versions s.1)) k None ≡ Some p → p.branch < length bases
   pub grown : IsGrown bases (last_of s.0) (λ b. seconds_of b (laid_versions s.1)) (order_of (laid_versions s.1))
 
-places_push : (front vs : List VersionLaid) (v : VersionLaid) → places_from front (vs ++ v ∷ []) ≡ places_from front vs ++ record { branch = v.branch; position = suc (length (versions_of v.branch (front ++ vs))) } ∷ []
+pub places_push : (front vs : List VersionLaid) (v : VersionLaid) → places_from front (vs ++ v ∷ []) ≡ places_from front vs ++ record { branch = v.branch; position = suc (length (versions_of v.branch (front ++ vs))) } ∷ []
 places_push front [] v = ap (λ l. record { branch = v.branch; position = suc (length (versions_of v.branch l)) } ∷ []) (sym (append-nil front))
 places_push front (w ∷ vs) v =
     ap (λ l. record { branch = w.branch; position = suc (length (versions_of w.branch front)) } ∷ l)
     (places_push (front ++ w ∷ []) vs v ∙ ap (λ l. places_from (front ++ w ∷ []) vs ++ record { branch = v.branch; position = suc (length (versions_of v.branch l)) } ∷ []) (append_assoc front (w ∷ []) vs))
 
-own_versions : (b : ℕ) (vs : List VersionLaid) (v : VersionLaid) → v.branch ≡ b → versions_of b (vs ++ v ∷ []) ≡ versions_of b vs ++ v ∷ []
+pub own_versions : (b : ℕ) (vs : List VersionLaid) (v : VersionLaid) → v.branch ≡ b → versions_of b (vs ++ v ∷ []) ≡ versions_of b vs ++ v ∷ []
 own_versions b vs v e = filter-append (λ (w : VersionLaid). w.branch == b) vs (v ∷ []) ∙ ap (λ q. versions_of b vs ++ cond q (v ∷ []) []) (eq-eqb v.branch b e)
 
-other_versions : (b : ℕ) (vs : List VersionLaid) (v : VersionLaid) → v.branch ≢ b → versions_of b (vs ++ v ∷ []) ≡ versions_of b vs
+pub other_versions : (b : ℕ) (vs : List VersionLaid) (v : VersionLaid) → v.branch ≢ b → versions_of b (vs ++ v ∷ []) ≡ versions_of b vs
 other_versions b vs v e = filter-append (λ (w : VersionLaid). w.branch == b) vs (v ∷ []) ∙ ap (λ q. versions_of b vs ++ cond q (v ∷ []) []) (ne_eqb v.branch b e) ∙ append-nil (versions_of b vs)
 
 begun_is : (bases : List VersionPlace) (lasts : List ℕ) (b : ℕ) → is_begun bases lasts b ≡ true → (b < length lasts) × HasBegun bases (last_of lasts) b

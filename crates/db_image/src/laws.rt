@@ -1,11 +1,26 @@
-//! An image that is read stands for sound parts of a layout, which can be made.
-ghost use Rattle.std.specs.Prelude.{◌≡◌, List, ℕ, Ok};
-ghost use Rattle.hybrid_store.specs.Parts.{AreSound};
+//! An image that is read stands for sound parts of a layout, which can be made. The image of a layout
+//! stands for the layout, if its versions stand in the order made.
+ghost use Rattle.std.specs.Prelude.{◌≡◌, List, ℕ, Ok, true};
+ghost use Rattle.db_value.specs.declared.entry.Entry.{Entry};
+ghost use Rattle.db_value.specs.declared.schema.Relation.{Relation};
+ghost use Rattle.db_store.specs.Fits.{fits};
+ghost use Rattle.db_store.specs.Sound.{IsSound};
+ghost use Rattle.db_store.specs.Layout.{Layout, dataset_in, new_layout};
+ghost use Rattle.db_store.specs.LayoutGrowth.{grow_layout};
+ghost use Rattle.hybrid_store.specs.declared.parts.LayoutParts.{LayoutParts};
+ghost use Rattle.hybrid_store.specs.Parts.{AreSound, layout_of_parts};
+ghost use Rattle.hybrid_store.specs.Store.{layout_of};
 ghost use Rattle.image_text.specs.declared.image.Image.{Image};
 ghost use Rattle.image_parts.specs.Whole.{image_at};
 ghost use Rattle.image_text.specs.Laws.{IsBytes};
+ghost use Rattle.image_text.specs.Spelling.{spelling};
 ghost use Rattle.db_image.specs.Parts.{parts_of};
 ghost use Rattle.db_image.specs.Read.{IsFit};
+ghost use Rattle.db_image.specs.Images.{image_of};
+ghost use Rattle.db_image.specs.Imaged.{AreWithin, AreInOrder};
+ghost use Rattle.db_image.specs.Rules.{IsRuled};
+
+use hybrid_store::HybridStore;
 
 /// The parts that an image stands for are sound.
 pub fn parts_law()
@@ -15,4 +30,32 @@ pub fn parts_law()
 /// An image that is read is one of which the parts can be made.
 pub fn fit_law()
     ensures { (b : List ℕ) (i : Image) → IsBytes b → image_at b ≡ Ok i → IsFit i }
+{}
+
+/// The image of a layout stands for the layout, if its rows are those of its segments and its versions
+/// stand in the order made.
+pub fn layout_law()
+    ensures { (l : Layout) → AreWithin l → AreInOrder l
+        → layout_of_parts (parts_of (image_of l)) ≡ l }
+{}
+
+/// The rows of a store's layout are those of its segments.
+pub fn within_law(store: &HybridStore)
+    ensures { AreWithin (layout_of store.now) }
+{
+    let _store = store;
+}
+
+/// The versions of a new layout and of a layout of parts stand in the order made, and growth keeps it.
+pub fn order_law()
+    ensures first { (schema : List Relation) → AreInOrder (new_layout schema) }
+    ensures stays { (l : Layout) (e : Entry) → IsSound (dataset_in l)
+        → fits (dataset_in l) e ≡ true → AreInOrder l → AreInOrder (grow_layout l e) }
+    ensures parts { (p : LayoutParts) → IsSound (dataset_in (layout_of_parts p))
+        → AreInOrder (layout_of_parts p) }
+{}
+
+/// An image that keeps all rules is read from its spelling.
+pub fn rules_law()
+    ensures { (i : Image) → IsRuled i → image_at (spelling i) ≡ Ok i }
 {}

@@ -1,7 +1,8 @@
-//! The layout of a store, from an image of it.
+//! The layout of a store, from an image of it, and the image of a store's layout.
 //!
-//! The layer above relies on one statement: what is read as an image stands for sound parts of a
-//! layout (`parts_of` in `specs/Parts.antt`).
+//! The layer above relies on two statements: what is read as an image stands for sound parts of a
+//! layout (`parts_of` in `specs/Parts.antt`), and what is written is the one spelling of the image of a
+//! store's layout (`image_of` in `specs/Images.antt`).
 //!
 //! | file | has |
 //! |---|---|
@@ -12,10 +13,18 @@
 //! | `src/whole.rt` | the parts of a layout, from an image |
 //! | `specs/Stores.antt`, `src/decoding.rt` | the store of which bytes are an image |
 //! | `src/laws.rt` | these parts are sound, and can be made |
+//! | `specs/Images.antt`, `specs/Imaged.antt` | the image of a layout, and of which layouts it tells all |
+//! | `src/image_versions.rt` | relations, branches and versions of an image, from those of a store |
+//! | `src/image_deltas.rt`, `src/image_segments.rt` | deltas, rows and segments, from those of a store |
+//! | `src/encoding.rt` | the bytes of the image of a store |
 #![tactic(auto)]
 
 mod decoding;
 mod deltas;
+mod encoding;
+mod image_deltas;
+mod image_segments;
+mod image_versions;
 mod laws;
 mod rows;
 mod segments;
@@ -24,7 +33,9 @@ mod whole;
 
 pub use decoding::decode;
 pub use deltas::delta_of;
-pub use laws::{fit_law, parts_law};
+pub use encoding::{ImageBytes, encode, image_of_store};
+pub use image_deltas::{delta_image, deltas_image};
+pub use laws::{fit_law, layout_law, order_law, parts_law, rules_law, within_law};
 pub use rows::{history_of, row_of, rows_of};
 pub use segments::{put_segments, segment_of};
 pub use versions::{branches_of, versions_of};

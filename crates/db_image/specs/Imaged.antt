@@ -1,0 +1,60 @@
+-- The layouts of which an image tells all.
+use Rattle.std.specs.Prelude.{◌≡◌, ℕ, ◌-◌, ◌<◌, true, List, [], length, map}
+use Rattle.std.specs.List.{All, range_with_len}
+use Rattle.std.proofs.Common.{get_or}
+use Rattle.db_store.specs.Dataset.{root}
+use Rattle.db_store.specs.Layout.{Segment, Row, Lane, Layout, has, slots_where, lane_at, records_at, segments_at, rows_at, by_relation}
+use Rattle.db_store.specs.LaidOut.{rises}
+use Rattle.hybrid_store.specs.declared.made.MadeVersion.{MadeVersion}
+use Rattle.hybrid_store.specs.declared.parts.BranchPart.{BranchPart}
+use Rattle.hybrid_store.specs.Readers.{made_version}
+use Rattle.hybrid_store.specs.Parts.{bases_from, order_of, seconds_of}
+use Rattle.db_image.specs.Images.{image_of}
+use Rattle.db_image.specs.Rules.{IsRuled}
+
+-- the branches of a layout, by name and origin
+abbrev pub made_branches : Layout → List BranchPart
+made_branches l = map (λ b. record { name = (lane_at l b).name; origin = (lane_at l b).origin }) (range_with_len 0 (length l.lanes))
+
+-- its versions after the root, in the order made
+abbrev pub made_versions : Layout → List MadeVersion
+made_versions l = map (made_version l) (range_with_len 0 (length l.order - 1))
+
+-- these are slots of so many records, and they ascend
+abbrev pub AreSlots : ℕ → List ℕ → Type 0
+AreSlots size slots = slots ≡ slots_where (has slots) size
+
+-- a row is of a segment that is there, and changes slots of its records
+pub record IsRowOf (ss : List Segment) (row : Row) : Type 0 where
+  pub there : row.segment < length ss
+  pub slots : All (AreSlots (length (records_at ss row.segment))) row.deltas
+
+-- the rows of a branch in a relation stand by ascending segment
+pub record AreRowsIn (ss : List Segment) (rows : List Row) : Type 0 where
+  pub ascend : rises 0 rows ≡ true
+  pub each : All (IsRowOf ss) rows
+
+-- the rows of a lane are those of the relations
+pub record HasRows (l : Layout) (lane : Lane) : Type 0 where
+  pub wide : lane.rows ≡ by_relation l.schema (rows_at lane)
+  pub rows : (r : ℕ) → r < length l.schema → AreRowsIn (segments_at l.segments r) (rows_at lane r)
+
+-- position 0 of a lane is the version that stands at its origin, and its versions are those of the order made
+pub record IsNumbered (l : Layout) (b : ℕ) (lane : Lane) : Type 0 where
+  pub base : lane.base ≡ get_or (bases_from [] (made_branches l)) b root
+  pub seconds : lane.seconds ≡ seconds_of b (made_versions l)
+
+-- the segments and the rows of a layout are those of its relations
+pub record AreWithin (l : Layout) : Type 0 where
+  pub segments : l.segments ≡ by_relation l.schema (segments_at l.segments)
+  pub lanes : (b : ℕ) → b < length l.lanes → HasRows l (lane_at l b)
+
+-- the versions of a layout stand in the order made, each at the next position of its branch
+pub record AreInOrder (l : Layout) : Type 0 where
+  pub order : l.order ≡ order_of (made_versions l)
+  pub lanes : (b : ℕ) → b < length l.lanes → IsNumbered l b (lane_at l b)
+
+-- the image of a layout keeps all rules of images, and its versions stand in the order made
+pub record IsImaged (l : Layout) : Type 0 where
+  pub ordered : AreInOrder l
+  pub ruled : IsRuled (image_of l)

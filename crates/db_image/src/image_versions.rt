@@ -1,0 +1,106 @@
+//! The relations, branches and versions of an image, from those of a store.
+ghost use Rattle.std.specs.Prelude.{◌≡◌, ◌<◌, ◌≤◌, ◌^◌, length, IfOk};
+ghost use Rattle.std.specs.List.{All};
+ghost use Rattle.db_store.specs.Layout.{lane_at};
+ghost use Rattle.hybrid_store.specs.Store.{layout_of};
+ghost use Rattle.image_text.specs.Spelling.{FitsRelation};
+ghost use Rattle.db_image.specs.Images.{branch_image, branches_image, versions_image};
+
+use crate::image_segments::branch_count;
+use db_store::Store;
+use db_value::{ListOf, Name, Names, Relation};
+use hybrid_store::HybridStore;
+use image_text::{BranchPart as BranchRead, MadeVersion as VersionRead};
+use std::alloc::{AllocError, Global};
+
+// The same names.
+fn names_image(alloc: Global, names: &[Name]) -> Result<Names, AllocError>
+    ensures value { IfOk result (λ made. made ≡ names.now) }
+    ensures short { IfOk result (λ made. All (λ name. length name ≤ 32) made) }
+{
+    let mut made = Vec::with_capacity(alloc, names.len())?;
+    for name in names {
+        let _count = name.count();
+        made.push(*name)?;
+    }
+    Ok(ListOf::of(made))
+}
+
+// The same relation.
+fn relation_image(alloc: Global, relation: &Relation) -> Result<Relation, AllocError>
+    requires { length relation.now.columns ≤ 15 }
+    ensures value { IfOk result (λ made. made ≡ relation.now) }
+    ensures fits { IfOk result FitsRelation }
+{
+    let _count = relation.name.count();
+    let columns = names_image(alloc, relation.columns.as_slice())?;
+    Ok(Relation {
+        name: relation.name,
+        columns,
+    })
+}
+
+/// The same relations.
+pub(crate) fn relations_image(
+    alloc: Global,
+    relations: &[Relation],
+) -> Result<ListOf<Relation>, AllocError>
+    requires { All (λ relation. length relation.columns ≤ 15) relations.now }
+    ensures value { IfOk result (λ made. made ≡ relations.now) }
+    ensures fits { IfOk result (λ made. All FitsRelation made) }
+{
+    let mut made = Vec::with_capacity(alloc, relations.len())?;
+    for relation in relations {
+        made.push(relation_image(alloc, relation)?)?;
+    }
+    Ok(ListOf::of(made))
+}
+
+// A branch.
+fn branch_image(store: &HybridStore, branch: u32) -> BranchRead
+    requires { branch < length (layout_of store.now).lanes }
+    ensures value { result ≡ branch_image (lane_at (layout_of store.now) branch) }
+    ensures short { length result.name ≤ 32 }
+{
+    let name = store.branch_name(branch);
+    let _count = name.count();
+    BranchRead {
+        name,
+        origin: store.origin(branch),
+    }
+}
+
+/// The branches.
+pub(crate) fn branches_image(
+    alloc: Global,
+    store: &HybridStore,
+) -> Result<ListOf<BranchRead>, AllocError>
+    ensures value { IfOk result (λ made. made ≡ branches_image (layout_of store.now)) }
+    ensures short { IfOk result (λ made. All (λ branch. length branch.name ≤ 32) made) }
+    ensures few { IfOk result (λ made. length made < 2 ^ 32) }
+{
+    let mut made = Vec::new(alloc);
+    for branch in 0..branch_count(store) {
+        made.push(branch_image(store, branch))?;
+    }
+    Ok(ListOf::of(made))
+}
+
+/// The versions after the root, in the order made.
+pub(crate) fn versions_image(
+    alloc: Global,
+    store: &HybridStore,
+) -> Result<ListOf<VersionRead>, AllocError>
+    ensures value { IfOk result (λ made. made ≡ versions_image (layout_of store.now)) }
+    ensures few { IfOk result (λ made. length made < 2 ^ 32) }
+{
+    let mut made = Vec::new(alloc);
+    for index in 0..store.versions() {
+        let version = store.version(index);
+        made.push(VersionRead {
+            branch: version.branch,
+            second: version.second,
+        })?;
+    }
+    Ok(ListOf::of(made))
+}
