@@ -27,7 +27,7 @@ weigh_half true x = omega arith
 weigh_half false x = omega arith
 
 -- a bit of a number that bits make
-number_bit : (n slot k : ℕ) (p : ℕ → Bool) → k < n → word_bit (number_of p slot n) k ≡ p (slot + k)
+pub number_bit : (n slot k : ℕ) (p : ℕ → Bool) → k < n → word_bit (number_of p slot n) k ≡ p (slot + k)
 unfolding number_of
 number_bit zero slot k p l = absurd (omega (arith, l))
 number_bit (suc n) slot zero p l =
@@ -40,7 +40,7 @@ number_bit (suc n) slot (suc k) p l =
     ∙ number_bit n (suc slot) k p (omega (arith, l))
     ∙ ap p (omega arith)
 
-no_bit : (k : ℕ) → word_bit 0 k ≡ false
+pub no_bit : (k : ℕ) → word_bit 0 k ≡ false
 no_bit k = ap (λ n. n % 2 == 1) (zero-div (2 ^ k))
 
 -- a slot stands in no word before the first one

@@ -77,7 +77,7 @@ first_some bits place next = sym (first_in (bit_of bits) (length bits) 0 place (
 
 -- ---- the last word
 
-end_more : (p : ℕ → Bool) (n : ℕ) → end_of (slots_where p (suc n)) ≡ cond (p n) (suc n) (end_of (slots_where p n))
+pub end_more : (p : ℕ → Bool) (n : ℕ) → end_of (slots_where p (suc n)) ≡ cond (p n) (suc n) (end_of (slots_where p n))
 end_more p n =
     let one : suc n ≡ n + 1 = omega arith in
     ap (λ k. end_of (slots_where p k)) one ∙ ap end_of (slots_more p n) ∙ at (p n)

@@ -27,7 +27,7 @@ parts_agree : {X : Type 0} (f g : ℕ → List X) (n a : ℕ) → ((k : ℕ) →
 parts_agree f g zero a h = refl
 parts_agree f g (suc n) a h = λ i. h a (omega arith) (omega arith) i ++ parts_agree f g n (a + 1) (λ k le lt. h k (omega (arith, le)) (omega (arith, lt))) i
 
-map_twice : {X Y Z : Type 0} (f : Y → Z) (g : X → Y) (xs : List X) → map f (map g xs) ≡ map (λ x. f (g x)) xs
+pub map_twice : {X Y Z : Type 0} (f : Y → Z) (g : X → Y) (xs : List X) → map f (map g xs) ≡ map (λ x. f (g x)) xs
 map_twice f g [] = refl
 map_twice f g (x ∷ xs) = ap (λ l. f (g x) ∷ l) (map_twice f g xs)
 

@@ -29,3 +29,5 @@ pub mod ReadWhole
 pub mod StoreImage
 pub mod HeadSmall
 pub mod FewColumns
+pub mod RuledDelta
+pub mod LinesKept

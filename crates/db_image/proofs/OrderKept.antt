@@ -93,7 +93,7 @@ module _ (l : Layout) (b : ℕ) (second : Option VersionPlace) (changes : List C
       at (inl e) = subst (λ k. (lane_at m k).base ≡ (lane_at l k).base) (sym e) (ap (λ (x : Lane). x.base) own_lane)
       at (inr n) = ap (λ (x : Lane). x.base) (other_lane c n)
 
-  same_branches : made_branches m ≡ made_branches l
+  pub same_branches : made_branches m ≡ made_branches l
   same_branches = ap (λ n. map (λ c. part_of (lane_at m c)) (range_with_len 0 n)) count ∙ maps_agree (λ c. part_of (lane_at m c)) (λ c. part_of (lane_at l c)) (length l.lanes) 0 (λ c g k. same_part c)
 
   same_second : (c k : ℕ) → k < length (lane_at l c).seconds → get_or (lane_at m c).seconds k nothing ≡ get_or (lane_at l c).seconds k nothing
@@ -128,7 +128,7 @@ module _ (l : Layout) (b : ℕ) (second : Option VersionPlace) (changes : List C
             j;
       }
 
-  versions_next : made_versions m ≡ vs ++ v ∷ []
+  pub versions_next : made_versions m ≡ vs ++ v ∷ []
   versions_next =
       let some = some_made l are in
       let n : length m.order - 1 ≡ (length l.order - 1) + 1 = let k = length_push l.order place in omega (arith, k, some) in
@@ -175,7 +175,7 @@ module _ (l : Layout) (b : ℕ) (second : Option VersionPlace) (changes : List C
 
 -- ---- a new branch
 
-length_bases : (bases : List VersionPlace) (xs : List BranchPart) → length (bases_from bases xs) ≡ length bases + length xs
+pub length_bases : (bases : List VersionPlace) (xs : List BranchPart) → length (bases_from bases xs) ≡ length bases + length xs
 length_bases bases [] = omega arith
 length_bases bases (x ∷ xs) = let r = length_bases (bases ++ base_in bases x.origin ∷ []) xs in let n = length_push bases (base_in bases x.origin) in omega (arith, r, n)
 
@@ -217,13 +217,13 @@ module _ (l : Layout) (q : Bool) (name : List ℕ) (origin : VersionPlace) (are 
   same_seconds : (c : ℕ) → c < length l.lanes → (lane_at wide c).seconds ≡ (lane_at l c).seconds
   same_seconds = same (λ (x : Lane). x.seconds) refl
 
-  branches_next : made_branches wide ≡ made_branches l ++ record { name = name; origin = origin } ∷ []
+  pub branches_next : made_branches wide ≡ made_branches l ++ record { name = name; origin = origin } ∷ []
   branches_next =
       ap (λ n. map (λ c. part_of (lane_at wide c)) (range_with_len 0 n)) wide_count
       ∙ map-range_with_len_more (λ c. part_of (lane_at wide c)) 0 (length l.lanes) (length l.lanes) (omega arith)
       ∙ (λ j. maps_agree (λ c. part_of (lane_at wide c)) (λ c. part_of (lane_at l c)) (length l.lanes) 0 (λ c g k. same part_of refl c (omega (arith, k))) j ++ part_of (new_lane j) ∷ [])
 
-  same_versions : made_versions wide ≡ made_versions l
+  pub same_versions : made_versions wide ≡ made_versions l
   same_versions = maps_agree (made_version wide) (made_version l) (length l.order - 1) 0 (λ i g k.
       let t = place_there l sound (i + 1) (omega (arith, k)) in
       λ j. record {

@@ -1,7 +1,10 @@
 -- The layouts of which an image tells all.
-use Rattle.std.specs.Prelude.{◌≡◌, ℕ, ◌-◌, ◌<◌, true, List, [], length, map}
+use Rattle.std.specs.Prelude.{◌≡◌, ℕ, ◌-◌, ◌<◌, true, List, [], length, map, replicate}
 use Rattle.std.specs.List.{All, range_with_len}
 use Rattle.std.proofs.Common.{get_or}
+use Rattle.db_value.specs.Text.{is_name}
+use Rattle.db_value.specs.declared.entry.Entry.{Entry}
+use Rattle.db_value.specs.declared.entry.Entry.TheVariants.{Commit, Branch as NewBranch}
 use Rattle.db_store.specs.Dataset.{root}
 use Rattle.db_store.specs.Layout.{Segment, Row, Lane, Layout, has, slots_where, lane_at, records_at, segments_at, rows_at, by_relation}
 use Rattle.db_store.specs.LaidOut.{rises}
@@ -9,8 +12,8 @@ use Rattle.hybrid_store.specs.declared.made.MadeVersion.{MadeVersion}
 use Rattle.hybrid_store.specs.declared.parts.BranchPart.{BranchPart}
 use Rattle.hybrid_store.specs.Readers.{made_version}
 use Rattle.hybrid_store.specs.Parts.{bases_from, order_of, seconds_of}
-use Rattle.db_image.specs.Images.{image_of}
-use Rattle.db_image.specs.Rules.{IsRuled}
+use Rattle.db_image.specs.Images.{branches_image, versions_image, image_of}
+use Rattle.db_image.specs.Rules.{EachNext, branch_next, IsNextBranch, version_next, IsNextVersion, branches_seen, IsRuled}
 
 -- the branches of a layout, by name and origin
 abbrev pub made_branches : Layout → List BranchPart
@@ -53,6 +56,16 @@ pub record AreWithin (l : Layout) : Type 0 where
 pub record AreInOrder (l : Layout) : Type 0 where
   pub order : l.order ≡ order_of (made_versions l)
   pub lanes : (b : ℕ) → b < length l.lanes → IsNumbered l b (lane_at l b)
+
+-- the branches and the versions of the image of a layout keep their rules
+pub record HasLines (l : Layout) : Type 0 where
+  pub branches : EachNext branch_next IsNextBranch ([], []) (branches_image l)
+  pub versions : EachNext version_next (IsNextVersion (branches_seen (image_of l)).1) (replicate (length (branches_seen (image_of l)).1) 0, []) (versions_image l)
+
+-- the name of a new branch is a name
+abbrev pub IsNamed : Entry → Type 0
+IsNamed (Commit b second changes) = Unit {0}
+IsNamed (NewBranch name origin) = is_name name ≡ true
 
 -- the image of a layout keeps all rules of images, and its versions stand in the order made
 pub record IsImaged (l : Layout) : Type 0 where

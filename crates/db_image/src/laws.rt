@@ -1,6 +1,6 @@
 //! An image that is read stands for sound parts of a layout, which can be made. The image of a layout
 //! stands for the layout, if its versions stand in the order made.
-ghost use Rattle.std.specs.Prelude.{◌≡◌, List, ℕ, Ok, true};
+ghost use Rattle.std.specs.Prelude.{◌≡◌, ◌<◌, ◌^◌, List, ℕ, Ok, true};
 ghost use Rattle.db_value.specs.declared.entry.Entry.{Entry};
 ghost use Rattle.db_value.specs.declared.schema.Relation.{Relation};
 ghost use Rattle.db_store.specs.Fits.{fits};
@@ -14,11 +14,12 @@ ghost use Rattle.image_text.specs.declared.image.Image.{Image};
 ghost use Rattle.image_parts.specs.Whole.{image_at};
 ghost use Rattle.image_text.specs.Laws.{IsBytes};
 ghost use Rattle.image_text.specs.Spelling.{spelling};
-ghost use Rattle.db_image.specs.Parts.{parts_of};
+ghost use Rattle.hybrid_view.specs.Deltas.{slots_of};
+ghost use Rattle.db_image.specs.Parts.{bits_of, parts_of};
 ghost use Rattle.db_image.specs.Read.{IsFit};
-ghost use Rattle.db_image.specs.Images.{image_of};
-ghost use Rattle.db_image.specs.Imaged.{AreWithin, AreInOrder};
-ghost use Rattle.db_image.specs.Rules.{IsRuled};
+ghost use Rattle.db_image.specs.Images.{delta_image, image_of};
+ghost use Rattle.db_image.specs.Imaged.{AreSlots, AreWithin, AreInOrder, HasLines, IsNamed};
+ghost use Rattle.db_image.specs.Rules.{IsDelta, IsRuled};
 
 use hybrid_store::HybridStore;
 
@@ -58,4 +59,21 @@ pub fn order_law()
 /// An image that keeps all rules is read from its spelling.
 pub fn rules_law()
     ensures { (i : Image) → IsRuled i → image_at (spelling i) ≡ Ok i }
+{}
+
+/// The delta of an image of slots keeps the rules of deltas, and changes these slots.
+pub fn delta_law()
+    ensures rules { (size : ℕ) (slots : List ℕ) → AreSlots size slots → size < 2 ^ 32
+        → IsDelta size (delta_image slots) }
+    ensures slots { (size : ℕ) (slots : List ℕ) → AreSlots size slots
+        → slots_of (bits_of size (delta_image slots)) ≡ slots }
+{}
+
+/// The branches and the versions of the image of a new layout keep their rules, and growth keeps it, if
+/// the name of a new branch is a name.
+pub fn lines_law()
+    ensures first { (schema : List Relation) → HasLines (new_layout schema) }
+    ensures stays { (l : Layout) (e : Entry) → IsSound (dataset_in l)
+        → fits (dataset_in l) e ≡ true → IsNamed e → AreInOrder l → HasLines l
+        → HasLines (grow_layout l e) }
 {}

@@ -35,7 +35,9 @@ pub use decoding::decode;
 pub use deltas::delta_of;
 pub use encoding::{ImageBytes, encode, image_of_store};
 pub use image_deltas::{delta_image, deltas_image};
-pub use laws::{fit_law, layout_law, order_law, parts_law, rules_law, within_law};
+pub use laws::{
+    delta_law, fit_law, layout_law, lines_law, order_law, parts_law, rules_law, within_law,
+};
 pub use rows::{history_of, row_of, rows_of};
 pub use segments::{put_segments, segment_of};
 pub use versions::{branches_of, versions_of};

@@ -3,7 +3,7 @@ use db_value::VersionPlace;
 use image_parts::{ImageStop, decode, encode};
 use std::test::Fail;
 
-const NEW: [u8; 67] = [
+pub(crate) const NEW: [u8; 67] = [
     1, 5, 0x69, 0x74, 0x65, 0x6d, 0x73, 2, 1, 0x61, 1, 0x62, 1, 0, 0, 0, 6, 0x6d, 0x61, 0x73, 0x74,
     0x65, 0x72, 0, 0, 0, 0, 0, 0, 0, 0, 0, 0, 0, 0, 1, 0, 0, 0, 1, 0, 0, 0, 0, 0, 0, 0, 1, 0, 0, 0,
     0, 0, 0, 0, 0, 0, 0, 0, 0, 0, 0, 0, 0, 0, 0, 0,
@@ -47,7 +47,7 @@ const END: [u8; 36] = [
 ];
 
 // Branch dev of master@1, on which a record was changed: an internal segment of two records, and two heads.
-fn of_two_branches(rt: &HostRuntime) -> Result<Vec<u8>, Fail> {
+pub(crate) fn of_two_branches(rt: &HostRuntime) -> Result<Vec<u8>, Fail> {
     let mut bytes = Vec::new(rt.alloc());
     bytes.extend_from_slice(&HEAD)?;
     for _ in 0..4048usize {

@@ -3,3 +3,5 @@
 
 #[cfg(test)]
 mod image_parts_tests;
+#[cfg(test)]
+mod store_image_tests;
