@@ -16,7 +16,7 @@ heads_of b [] = 0
 heads_of b (s ∷ ss) = cond (s.head == suc b) (suc (heads_of b ss)) (heads_of b ss)
 
 -- so many more, where no more than 2 are counted
-abbrev steps : ℕ → ℕ → ℕ
+abbrev pub steps : ℕ → ℕ → ℕ
 steps zero c = c
 steps (suc k) c = steps k (one_more c)
 
@@ -41,14 +41,14 @@ same_length : (counts : List ℕ) (h : ℕ) → length (counted_next counts h) �
 same_length counts zero = refl
 same_length counts (suc c) = ap (λ q. length (cond q counts (set counts (suc c - 1) (one_more (get_or counts (suc c - 1) 0))))) (ne_eqb (suc c) 0 (λ e. omega (arith, e))) ∙ length-set counts (suc c - 1) (one_more (get_or counts (suc c - 1) 0))
 
-counts_are : (b : ℕ) (counts : List ℕ) (ss : List SegmentPart) → b < length counts → get_or (counts_from counts ss) b 0 ≡ steps (heads_of b ss) (get_or counts b 0)
+pub counts_are : (b : ℕ) (counts : List ℕ) (ss : List SegmentPart) → b < length counts → get_or (counts_from counts ss) b 0 ≡ steps (heads_of b ss) (get_or counts b 0)
 unfolding counts_from
 counts_are b counts [] l = refl
 counts_are b counts (s ∷ ss) l =
     counts_are b (counted_next counts s.head) ss (let e = same_length counts s.head in omega (arith, e, l))
     ∙ one_counted counts b s.head l (heads_of b ss)
 
-length_counts : (counts : List ℕ) (ss : List SegmentPart) → length (counts_from counts ss) ≡ length counts
+pub length_counts : (counts : List ℕ) (ss : List SegmentPart) → length (counts_from counts ss) ≡ length counts
 unfolding counts_from
 length_counts counts [] = refl
 length_counts counts (s ∷ ss) = length_counts (counted_next counts s.head) ss ∙ same_length counts s.head
@@ -65,7 +65,7 @@ one_is (suc (suc k)) e = absurd (let t = two_stay k in omega (arith, e, t))
 abbrev zeros : ℕ → List ℕ
 zeros n = replicate n 0
 
-zero_in : (n b : ℕ) → get_or (zeros n) b 0 ≡ 0
+pub zero_in : (n b : ℕ) → get_or (zeros n) b 0 ≡ 0
 zero_in zero b = refl
 zero_in (suc n) zero = refl
 zero_in (suc n) (suc b) = zero_in n b

@@ -59,7 +59,7 @@ head_back (Some b) = refl
 segment_back : (l : Layout) (r s : ℕ) → segment_laid (segment_part l.schema r (segment_image l r s)) ≡ get_or (segments_at l.segments r) s no_segment
 segment_back l r s = λ i. record { head = head_back (head_at (segments_at l.segments r) s) i; records = records_at (segments_at l.segments r) s }
 
-parts_are : (l : Layout) (r : ℕ) → r < length l.schema → laid.parts_of r (p l).segments ≡ map (segment_part l.schema r) (segments_image l r)
+pub parts_are : (l : Layout) (r : ℕ) → r < length l.schema → laid.parts_of r (p l).segments ≡ map (segment_part l.schema r) (segments_image l r)
 parts_are l r h =
     part_at l.schema r 0 r (image_of l).segments (omega arith)
     ∙ ap (map (segment_part l.schema r)) (at_relation l.schema (segments_image l) r [] h)
@@ -69,7 +69,7 @@ numbered xs d =
     ext_get_or d (map (λ s. get_or xs s d) (range_with_len 0 (length xs))) xs (length-map-range_with_len (λ s. get_or xs s d) 0 (length xs))
     (λ k h. get_or-map-range_with_len (λ s. get_or xs s d) 0 (length xs) k k d (let n = length-map-range_with_len (λ s. get_or xs s d) 0 (length xs) in omega (arith, n, h)) (omega arith))
 
-segments_back : (l : Layout) (r : ℕ) → r < length l.schema → map segment_laid (laid.parts_of r (p l).segments) ≡ segments_at l.segments r
+pub segments_back : (l : Layout) (r : ℕ) → r < length l.schema → map segment_laid (laid.parts_of r (p l).segments) ≡ segments_at l.segments r
 segments_back l r h =
     ap (map segment_laid) (parts_are l r h)
     ∙ ap (map segment_laid) (map_twice (segment_part l.schema r) (segment_image l r) (range_with_len 0 (length (segments_at l.segments r))))

@@ -31,3 +31,5 @@ pub mod HeadSmall
 pub mod FewColumns
 pub mod RuledDelta
 pub mod LinesKept
+pub mod RuledRows
+pub mod RuledWhole

@@ -30,7 +30,7 @@ use Rattle.image_text.specs.Reading.{is_named, has_turn, is_earlier, is_position
 use Rattle.db_image.specs.Parts.{branch_part, version_part}
 use Rattle.db_image.specs.Images.{branch_image, branches_image, version_image, versions_image, image_of}
 use Rattle.db_image.specs.Imaged.{made_branches, made_versions, AreInOrder, HasLines, IsNamed}
-use Rattle.db_image.specs.Rules.{EachNext, after, IsPlace, branch_next, IsNextBranch, version_next, IsSecond, IsNextVersion, branches_seen}
+use Rattle.db_image.specs.Rules.{EachNext, after, IsPlace, branch_next, IsNextBranch, version_next, IsSecond, IsNextVersion, branches_seen, lasts_of}
 use Rattle.db_image.proofs.BranchesRead.{bases_push}
 use Rattle.db_image.proofs.LayoutBack.{map_twice}
 use Rattle.db_image.proofs.OrderKept.{versions_next, same_branches, branches_next, same_versions, length_bases, part_of}
@@ -116,14 +116,17 @@ bases_count : (l : Layout) → length (bases_of l) ≡ length l.lanes
 bases_count l = length_bases [] (made_branches l) ∙ (let n = length-map-range_with_len (λ b. part_of (lane_at l b)) 0 (length l.lanes) in omega (arith, n))
 
 -- the last positions
-abbrev lasts : Layout → List ℕ
+abbrev pub lasts : Layout → List ℕ
 lasts l = (after version_next (replicate (length (bases_of l)) 0, no_versions) (versions_image l)).0
 
+pub lasts_same : (l : Layout) → lasts_of (image_of l) ≡ lasts l
+lasts_same l = ap (λ (seen : List BranchPart × List VersionPlace). (after version_next (replicate (length seen.1) 0, no_versions) (versions_image l)).0) (seen_is l)
+
 module _ (l : Layout) (are : AreInOrder l) (sound : IsSound (dataset_in l)) where
-  count : length (lasts l) ≡ length l.lanes
+  pub count : length (lasts l) ≡ length l.lanes
   count = lasts_count (replicate (length (bases_of l)) 0) no_versions (versions_image l) ∙ length-replicate {A = ℕ} (length (bases_of l)) 0 ∙ bases_count l
 
-  last_is : (c : ℕ) → c < length l.lanes → suc (last_of (lasts l) c) ≡ length (lane_at l c).seconds
+  pub last_is : (c : ℕ) → c < length l.lanes → suc (last_of (lasts l) c) ≡ length (lane_at l c).seconds
   last_is c h =
       let n = bases_count l in
       let z = length-replicate {A = ℕ} (length (bases_of l)) 0 in
@@ -135,7 +138,7 @@ module _ (l : Layout) (are : AreInOrder l) (sound : IsSound (dataset_in l)) wher
       omega (arith, e, o, v, s, m)
 
   -- a made place is there
-  there : (at : VersionPlace) → IsMade (dataset_in l) at → at.position ≤ last_of (lasts l) at.branch
+  pub there : (at : VersionPlace) → IsMade (dataset_in l) at → at.position ≤ last_of (lasts l) at.branch
   there at m = let t = made_there l at m in let e = last_is at.branch t.0 in let p = t.1 in omega (arith, e, p)
 
   begun : (c : ℕ) → c < length l.lanes → is_begun (bases_of l) (lasts l) c ≡ true
@@ -145,7 +148,7 @@ module _ (l : Layout) (are : AreInOrder l) (sound : IsSound (dataset_in l)) wher
       and_from (nat_lt c (length (lasts l))) (is_there (lasts l) (get_or (bases_of l) c root)) (lt-ltb c (length (lasts l)) (let n = count in omega (arith, n, h)))
       (le-leb (get_or (bases_of l) c root).position (last_of (lasts l) (get_or (bases_of l) c root).branch) (there (get_or (bases_of l) c root) base))
 
-  lanes_few : length l.lanes ≤ 1024
+  pub lanes_few : length l.lanes ≤ 1024
   lanes_few = let n = length-map l.lanes (branch_of l.schema l.segments) in let f = sound.few_branches in omega (arith, n, f)
 
   place : (at : VersionPlace) → IsMade (dataset_in l) at → IsPlace at

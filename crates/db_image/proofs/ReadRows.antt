@@ -198,7 +198,7 @@ segment_read columns lasts seen s rest some most is =
     ∙ step (λ rows_few. repeat (next_row lasts (length s.records)) (length s.rows) no_rows (flat_map row_bytes s.rows ++ rest) >>= λ rows. Ok (seen ++ record { head = s.head; records = (pages_read s).1; rows = rows.0 } ∷ [], rows.1)) (test_is (nat_le (length s.rows) (length lasts)) (counted row_bytes s.rows ++ rest) (le-leb (length s.rows) (length lasts) is.rows_within))
     ∙ step (λ rows. Ok (seen ++ record { head = s.head; records = (pages_read s).1; rows = rows.0 } ∷ [], rows.1)) (repeat_onto (IsNextRow lasts (length s.records)) row_bytes (next_row lasts (length s.records)) (row_back lasts (length s.records)) no_rows s.rows rest is.rows)
 
-segment_back : (columns : ℕ) → 0 < columns → columns ≤ 15 → (lasts : List ℕ) (seen : List SegmentPart) (s : SegmentPart) (rest : List ℕ) → IsSegment columns lasts s → next_segment columns lasts seen (segment_bytes columns s ++ rest) ≡ Ok (onto seen s, rest)
+pub segment_back : (columns : ℕ) → 0 < columns → columns ≤ 15 → (lasts : List ℕ) (seen : List SegmentPart) (s : SegmentPart) (rest : List ℕ) → IsSegment columns lasts s → next_segment columns lasts seen (segment_bytes columns s ++ rest) ≡ Ok (onto seen s, rest)
 segment_back columns some most lasts seen s rest is =
     ap (λ b. next_segment columns lasts seen (to_le_bytes w32 s.head ++ (to_le_bytes w32 (length s.records) ++ b))) (append_assoc (pages_bytes columns (pages_for columns (length s.records)) s.records) (counted row_bytes s.rows) rest)
     ∙ segment_read columns lasts seen s rest some most is

@@ -83,7 +83,7 @@ segment_rest columns h n lasts recs s b x le all e =
     subst (λ (y : List SegmentPart × List ℕ). (a : SegmentPart) × IsSegment columns lasts a × (y.0 ≡ s ++ a ∷ [])) (ok_is (s ++ record { head = h; records = recs; rows = rs.0.0 } ∷ [], rs.0.1) x rs.2)
     (record { head = h; records = recs; rows = rs.0.0 }, record { head = le; records = all; rows = rows }, refl)
 
-segment_adds : (columns : ℕ) (lasts : List ℕ) (s : List SegmentPart) (b : List ℕ) (x : List SegmentPart × List ℕ) → next_segment columns lasts s b ≡ Ok x → (a : SegmentPart) × IsSegment columns lasts a × (x.0 ≡ s ++ a ∷ [])
+pub segment_adds : (columns : ℕ) (lasts : List ℕ) (s : List SegmentPart) (b : List ℕ) (x : List SegmentPart × List ℕ) → next_segment columns lasts s b ≡ Ok x → (a : SegmentPart) × IsSegment columns lasts a × (x.0 ≡ s ++ a ∷ [])
 unfolding next_segment
 segment_adds columns lasts s b x e =
     let h = bind_ok (number_at w32 b) (λ h. test (nat_le h.0 (length lasts)) b >>= λ hd. number_at w32 h.1 >>= λ n. test (has_room lasts h.0 n.0) h.1 >>= λ few. repeat (next_page columns) (pages_for columns n.0) (n.0, no_records) n.1 >>= λ p. (number_at w32 p.1 >>= λ k. test (nat_le k.0 (length lasts)) p.1 >>= λ u. repeat (next_row lasts n.0) k.0 no_rows k.1 >>= λ rs. Ok (s ++ record { head = h.0; records = p.0.1; rows = rs.0 } ∷ [], rs.1))) x e in

@@ -1,13 +1,15 @@
 -- The layouts of which an image tells all.
-use Rattle.std.specs.Prelude.{◌≡◌, ℕ, ◌-◌, ◌<◌, true, List, [], length, map, replicate}
+use Rattle.std.specs.Prelude.{◌≡◌, ℕ, ◌-◌, ◌*◌, ◌^◌, ◌<◌, ◌≤◌, true, List, [], length, map, replicate, Some}
 use Rattle.std.specs.List.{All, range_with_len}
 use Rattle.std.proofs.Common.{get_or}
 use Rattle.db_value.specs.Text.{is_name}
+use Rattle.db_value.specs.Relations.{columns_at}
 use Rattle.db_value.specs.declared.entry.Entry.{Entry}
 use Rattle.db_value.specs.declared.entry.Entry.TheVariants.{Commit, Branch as NewBranch}
-use Rattle.db_store.specs.Dataset.{root}
-use Rattle.db_store.specs.Layout.{Segment, Row, Lane, Layout, has, slots_where, lane_at, records_at, segments_at, rows_at, by_relation}
-use Rattle.db_store.specs.LaidOut.{rises}
+use Rattle.db_store.specs.Dataset.{root, IsMade}
+use Rattle.db_store.specs.Layout.{Segment, Row, Lane, Layout, has, slots_where, lane_at, records_at, segments_at, rows_at, by_relation, dataset_in}
+use Rattle.db_store.specs.LaidOut.{rises, head_at}
+use Rattle.record_page.specs.Page.{IsRecord}
 use Rattle.hybrid_store.specs.declared.made.MadeVersion.{MadeVersion}
 use Rattle.hybrid_store.specs.declared.parts.BranchPart.{BranchPart}
 use Rattle.hybrid_store.specs.Readers.{made_version}
@@ -62,10 +64,30 @@ pub record HasLines (l : Layout) : Type 0 where
   pub branches : EachNext branch_next IsNextBranch ([], []) (branches_image l)
   pub versions : EachNext version_next (IsNextVersion (branches_seen (image_of l)).1) (replicate (length (branches_seen (image_of l)).1) 0, []) (versions_image l)
 
+-- the place from which each branch was made is made
+abbrev pub HasOrigins : Layout → Type 0
+HasOrigins l = (b : ℕ) → b < length l.lanes → IsMade (dataset_in l) (lane_at l b).origin
+
 -- the name of a new branch is a name
 abbrev pub IsNamed : Entry → Type 0
 IsNamed (Commit b second changes) = Unit {0}
 IsNamed (NewBranch name origin) = is_name name ≡ true
+
+-- a segment has fewer than 2^32 records, which keep their rules, and the head of a branch has at most 65,536 of them for each version after position 0
+pub record IsFilled (l : Layout) (r s : ℕ) : Type 0 where
+  pub few : length (records_at (segments_at l.segments r) s) < 2 ^ 32
+  pub records : All (IsRecord (length (columns_at l.schema r))) (records_at (segments_at l.segments r) s)
+  pub room : (b : ℕ) → head_at (segments_at l.segments r) s ≡ Some b → length (records_at (segments_at l.segments r) s) ≤ 65536 * (length (lane_at l b).seconds - 1)
+
+-- a row that begins after position 0 changes nothing where it begins
+abbrev pub IsBlank : Row → Type 0
+IsBlank row = 0 < row.from → get_or row.deltas 0 [] ≡ []
+
+-- the segments and the rows of a layout are such that an image can have them
+pub record HasSegments (l : Layout) : Type 0 where
+  pub few : (r : ℕ) → r < length l.schema → length (segments_at l.segments r) < 2 * length l.lanes
+  pub filled : (r s : ℕ) → r < length l.schema → s < length (segments_at l.segments r) → IsFilled l r s
+  pub blank : (b r : ℕ) → b < length l.lanes → r < length l.schema → All IsBlank (rows_at (lane_at l b) r)
 
 -- the image of a layout keeps all rules of images, and its versions stand in the order made
 pub record IsImaged (l : Layout) : Type 0 where

@@ -4,22 +4,24 @@ ghost use Rattle.std.specs.Prelude.{◌≡◌, ◌<◌, ◌^◌, List, ℕ, Ok, 
 ghost use Rattle.db_value.specs.declared.entry.Entry.{Entry};
 ghost use Rattle.db_value.specs.declared.schema.Relation.{Relation};
 ghost use Rattle.db_store.specs.Fits.{fits};
+ghost use Rattle.db_store.specs.Counted.{IsCounted};
 ghost use Rattle.db_store.specs.Sound.{IsSound};
 ghost use Rattle.db_store.specs.Layout.{Layout, dataset_in, new_layout};
+ghost use Rattle.db_store.specs.LaidOut.{IsLaid};
 ghost use Rattle.db_store.specs.LayoutGrowth.{grow_layout};
 ghost use Rattle.hybrid_store.specs.declared.parts.LayoutParts.{LayoutParts};
 ghost use Rattle.hybrid_store.specs.Parts.{AreSound, layout_of_parts};
 ghost use Rattle.hybrid_store.specs.Store.{layout_of};
 ghost use Rattle.image_text.specs.declared.image.Image.{Image};
-ghost use Rattle.image_parts.specs.Whole.{image_at};
+ghost use Rattle.image_parts.specs.Whole.{image_at, is_whole};
 ghost use Rattle.image_text.specs.Laws.{IsBytes};
 ghost use Rattle.image_text.specs.Spelling.{spelling};
 ghost use Rattle.hybrid_view.specs.Deltas.{slots_of};
 ghost use Rattle.db_image.specs.Parts.{bits_of, parts_of};
 ghost use Rattle.db_image.specs.Read.{IsFit};
 ghost use Rattle.db_image.specs.Images.{delta_image, image_of};
-ghost use Rattle.db_image.specs.Imaged.{AreSlots, AreWithin, AreInOrder, HasLines, IsNamed};
-ghost use Rattle.db_image.specs.Rules.{IsDelta, IsRuled};
+ghost use Rattle.db_image.specs.Imaged.{AreSlots, AreWithin, AreInOrder, HasLines, HasOrigins, HasSegments, IsNamed};
+ghost use Rattle.db_image.specs.Rules.{lasts_of, AreByRelation, IsDelta, IsRuled};
 
 use hybrid_store::HybridStore;
 
@@ -76,4 +78,20 @@ pub fn lines_law()
     ensures stays { (l : Layout) (e : Entry) → IsSound (dataset_in l)
         → fits (dataset_in l) e ≡ true → IsNamed e → AreInOrder l → HasLines l
         → HasLines (grow_layout l e) }
+{}
+
+/// The segments of the image of a layout keep their rules, if those of the layout are filled as those of
+/// an image can be.
+pub fn segments_law()
+    ensures { (l : Layout) → IsLaid l → IsSound (dataset_in l) → AreWithin l → AreInOrder l
+        → HasSegments l
+        → AreByRelation l.schema (lasts_of (image_of l)) 0 (image_of l).segments }
+{}
+
+/// The rules over the whole hold of the image of a layout, if its segments are filled as those of an
+/// image can be and the place from which each branch was made is made.
+pub fn whole_law()
+    ensures { (l : Layout) → IsLaid l → IsSound (dataset_in l) → IsCounted (dataset_in l)
+        → AreWithin l → AreInOrder l → HasSegments l → HasOrigins l
+        → is_whole (image_of l) (lasts_of (image_of l)) ≡ true }
 {}
