@@ -33,3 +33,4 @@ pub mod RuledDelta
 pub mod LinesKept
 pub mod RuledRows
 pub mod RuledWhole
+pub mod Ruled

@@ -15,7 +15,7 @@ use Rattle.hybrid_store.specs.declared.parts.BranchPart.{BranchPart}
 use Rattle.hybrid_store.specs.Readers.{made_version}
 use Rattle.hybrid_store.specs.Parts.{bases_from, order_of, seconds_of}
 use Rattle.db_image.specs.Images.{branches_image, versions_image, image_of}
-use Rattle.db_image.specs.Rules.{EachNext, branch_next, IsNextBranch, version_next, IsNextVersion, branches_seen, IsRuled}
+use Rattle.db_image.specs.Rules.{EachNext, onto, IsNextRelation, branch_next, IsNextBranch, version_next, IsNextVersion, branches_seen}
 
 -- the branches of a layout, by name and origin
 abbrev pub made_branches : Layout → List BranchPart
@@ -89,7 +89,10 @@ pub record HasSegments (l : Layout) : Type 0 where
   pub filled : (r s : ℕ) → r < length l.schema → s < length (segments_at l.segments r) → IsFilled l r s
   pub blank : (b r : ℕ) → b < length l.lanes → r < length l.schema → All IsBlank (rows_at (lane_at l b) r)
 
--- the image of a layout keeps all rules of images, and its versions stand in the order made
+-- a layout of which an image can be: its versions stand in the order made, and it keeps the rules of images that not every layout keeps
 pub record IsImaged (l : Layout) : Type 0 where
   pub ordered : AreInOrder l
-  pub ruled : IsRuled (image_of l)
+  pub relations : EachNext onto IsNextRelation [] l.schema
+  pub lines : HasLines l
+  pub origins : HasOrigins l
+  pub segments : HasSegments l
