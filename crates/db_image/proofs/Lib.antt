@@ -34,3 +34,4 @@ pub mod LinesKept
 pub mod RuledRows
 pub mod RuledWhole
 pub mod Ruled
+pub mod SegmentsKept

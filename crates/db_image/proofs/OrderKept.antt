@@ -67,19 +67,19 @@ module _ (l : Layout) (b : ℕ) (second : Option VersionPlace) (changes : List C
   abbrev place : VersionPlace
   place = record { branch = b; position = length (lane_at l b).seconds }
 
-  count : length m.lanes ≡ length l.lanes
+  pub count : length m.lanes ≡ length l.lanes
   count = length-set l.lanes b (lane_after l (segments_after l b changes) (lane_at l b) second changes)
 
-  own_lane : lane_at m b ≡ lane_after l (segments_after l b changes) (lane_at l b) second changes
+  pub own_lane : lane_at m b ≡ lane_after l (segments_after l b changes) (lane_at l b) second changes
   own_lane = get_or-set_same l.lanes b (lane_after l (segments_after l b changes) (lane_at l b) second changes) no_lane h
 
-  other_lane : (c : ℕ) → c ≢ b → lane_at m c ≡ lane_at l c
+  pub other_lane : (c : ℕ) → c ≢ b → lane_at m c ≡ lane_at l c
   other_lane c n = get_or-set_other l.lanes b c (lane_after l (segments_after l b changes) (lane_at l b) second changes) no_lane n
 
-  own_seconds : (lane_at m b).seconds ≡ (lane_at l b).seconds ++ second ∷ []
+  pub own_seconds : (lane_at m b).seconds ≡ (lane_at l b).seconds ++ second ∷ []
   own_seconds = ap (λ (x : Lane). x.seconds) own_lane
 
-  same_part : (c : ℕ) → part_of (lane_at m c) ≡ part_of (lane_at l c)
+  pub same_part : (c : ℕ) → part_of (lane_at m c) ≡ part_of (lane_at l c)
   same_part c = at (cases_eq c b)
     where
       at : (c ≡ b) ⊎ (c ≢ b) → part_of (lane_at m c) ≡ part_of (lane_at l c)
@@ -201,20 +201,29 @@ module _ (l : Layout) (q : Bool) (name : List ℕ) (origin : VersionPlace) (are 
   old_count : length old ≡ length l.lanes
   old_count = length-set l.lanes origin.branch source
 
-  wide_count : length wide.lanes ≡ length l.lanes + 1
+  pub wide_count : length wide.lanes ≡ length l.lanes + 1
   wide_count = length_push old added ∙ ap (λ n. n + 1) old_count
 
-  new_lane : lane_at wide (length l.lanes) ≡ added
+  pub new_lane : lane_at wide (length l.lanes) ≡ added
   new_lane = get_or_push old added no_lane (length l.lanes) old_count
 
-  same : {X : Type 0} (f : Lane → X) → f source ≡ f (lane_at l origin.branch) → (c : ℕ) → c < length l.lanes → f (lane_at wide c) ≡ f (lane_at l c)
+  first_lanes : (c : ℕ) → c < length l.lanes → lane_at wide c ≡ get_or old c no_lane
+  first_lanes c g = get_or_append_left old (added ∷ []) no_lane c (let n = old_count in omega (arith, n, g))
+
+  pub source_lane : (c : ℕ) → c < length l.lanes → c ≡ origin.branch → lane_at wide c ≡ source
+  source_lane c g e = first_lanes c g ∙ ap (λ k. get_or old k no_lane) e ∙ get_or-set_same l.lanes origin.branch source no_lane h
+
+  pub older_lane : (c : ℕ) → c < length l.lanes → c ≢ origin.branch → lane_at wide c ≡ lane_at l c
+  older_lane c g n = first_lanes c g ∙ get_or-set_other l.lanes origin.branch c source no_lane n
+
+  pub same : {X : Type 0} (f : Lane → X) → f source ≡ f (lane_at l origin.branch) → (c : ℕ) → c < length l.lanes → f (lane_at wide c) ≡ f (lane_at l c)
   same f e c g = ap f (get_or_append_left old (added ∷ []) no_lane c (let n = old_count in omega (arith, n, g))) ∙ at (cases_eq c origin.branch)
     where
       at : (c ≡ origin.branch) ⊎ (c ≢ origin.branch) → f (get_or old c no_lane) ≡ f (lane_at l c)
       at (inl k) = subst (λ d. f (get_or old d no_lane) ≡ f (lane_at l d)) (sym k) (ap f (get_or-set_same l.lanes origin.branch source no_lane h) ∙ e)
       at (inr n) = ap f (get_or-set_other l.lanes origin.branch c source no_lane n)
 
-  same_seconds : (c : ℕ) → c < length l.lanes → (lane_at wide c).seconds ≡ (lane_at l c).seconds
+  pub same_seconds : (c : ℕ) → c < length l.lanes → (lane_at wide c).seconds ≡ (lane_at l c).seconds
   same_seconds = same (λ (x : Lane). x.seconds) refl
 
   pub branches_next : made_branches wide ≡ made_branches l ++ record { name = name; origin = origin } ∷ []

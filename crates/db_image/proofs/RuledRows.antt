@@ -1,6 +1,5 @@
 -- The segments of a layout's image keep their rules.
 use Rattle.std.proofs.Common.{◌≡◌, ◌⊎◌, inl, inr, ℕ, zero, suc, ◌+◌, ◌-◌, ◌*◌, ◌^◌, ◌<◌, ◌≤◌, ◌==◌, ◌||◌, Bool, true, false, cond, List, [], ◌∷◌, ◌++◌, map, take, length, get_or, Option, Some, None, refl, sym, ap, subst, ◌∙◌, arith}
-use Rattle.std.specs.Prelude.{nat_lt, nat_le}
 use Rattle.std.specs.List.{All, flat_map, range_with_len}
 use Rattle.std.proofs.lemmas.Bool.{eqb-true, eq-eqb, ne_eqb, lt-ltb, le-leb, cases_lt}
 use Rattle.std.proofs.lemmas.List.{length-append, length-map, get_or-map}
@@ -8,19 +7,17 @@ use Rattle.std.proofs.lemmas.List.Elements.{All-nil, All-push}
 use Rattle.std.proofs.lemmas.List.FromFn.{get_or-map-range_with_len, length-map-range_with_len}
 use Rattle.db_value.specs.Relations.{columns_at}
 use Rattle.db_store.specs.Sound.{IsSound}
-use Rattle.db_store.specs.Layout.{Segment, Row, Layout, lane_at, records_at, segments_at, rows_at, branch_of, dataset_in}
+use Rattle.db_store.specs.Layout.{Segment, Row, Layout, lane_at, records_at, segments_at, no_segment, branch_of, dataset_in}
 use Rattle.db_store.specs.LayoutGrowth.{is_head_of}
 use Rattle.db_store.specs.LaidOut.{no_row, row_at, head_at, IsRow, IsLaid}
 use Rattle.db_store.proofs.LayoutLaw.{count_is}
 use Rattle.hybrid_store.specs.Readers.{place_from, from_at, deltas_at, rows_in}
-use Rattle.image_text.specs.declared.image.Delta.{Delta}
 use Rattle.image_text.specs.declared.image.RowPart.{RowPart}
-use Rattle.image_text.specs.declared.image.SegmentPart.{SegmentPart}
 use Rattle.image_text.specs.Reading.{rises, are_blank, last_of, has_room}
 use Rattle.image_text.specs.Reading as image
-use Rattle.db_image.specs.Images.{delta_image, row_with, row_image, rows_image, head_image, segment_image, segments_image, image_of}
-use Rattle.db_image.specs.Imaged.{AreSlots, IsRowOf, AreWithin, AreInOrder, IsBlank, HasSegments}
-use Rattle.db_image.specs.Rules.{EachNext, onto, IsDelta, IsNextRow, IsSegment, AreSegments, AreByRelation, lasts_of, after, version_next, versions_seen}
+use Rattle.db_image.specs.Images.{delta_image, row_with, row_image, head_image, segment_image, segments_image, image_of}
+use Rattle.db_image.specs.Imaged.{AreSlots, AreWithin, AreInOrder, HasSegments}
+use Rattle.db_image.specs.Rules.{EachNext, onto, IsDelta, IsNextRow, IsSegment, AreSegments, AreByRelation, lasts_of}
 use Rattle.db_image.proofs.RuledDelta.{delta_ruled}
 use Rattle.db_image.proofs.LinesKept.{lasts, lasts_same, count, last_is, lanes_few}
 
@@ -91,7 +88,7 @@ module _ (l : Layout) (laid : IsLaid l) (sound : IsSound (dataset_in l)) (within
           let c = count l are sound in
           let f = lanes_few l are sound in
           let m = length-map (row_at (rows_in l r b) y.0).deltas delta_image in
-          let few = (has.filled r s hr hs).few in
+          let few = (has.filled r hr s no_segment hs).few in
           let slots : All (AreSlots (length (records_at (segments_at l.segments r) s))) (row_at (rows_in l r b) y.0).deltas =
           subst (λ k. All (AreSlots (length (records_at (segments_at l.segments r) k))) (row_at (rows_in l r b) y.0).deltas) y.3 of.slots in
           inr (
@@ -133,7 +130,7 @@ module _ (l : Layout) (laid : IsLaid l) (sound : IsSound (dataset_in l)) (within
     where
       at : (b < length l.lanes) ⊎ (length l.lanes ≤ b) → (suc b ≤ length l.lanes) × (has_room (lasts l) (suc b) (size s) ≡ true)
       at (inl h) =
-          let room = (has.filled r s hr hs).room b e in
+          let room = (has.filled r hr s no_segment hs).room b e in
           let last = last_is l are sound b h in
           let same : length (lane_at l b).seconds - 1 ≡ last_of (lasts l) b = omega (arith, last) in
           (omega (arith, h), le-leb (size s) (65536 * last_of (lasts l) b) (subst (λ k. size s ≤ 65536 * k) same room))
@@ -149,9 +146,9 @@ module _ (l : Layout) (laid : IsLaid l) (sound : IsSound (dataset_in l)) (within
       record {
         head = omega (arith, h, f);
         there = omega (arith, h, c);
-        few = (has.filled r s hr hs).few;
+        few = (has.filled r hr s no_segment hs).few;
         room = head.1;
-        records = (has.filled r s hr hs).records;
+        records = (has.filled r hr s no_segment hs).records;
         few_rows = omega (arith, n, f);
         rows_within = omega (arith, n, c);
         rows = rows_each s hs (length l.lanes) 0 [] (All-nil (λ (y : RowPart). y.branch < 0)) (omega arith);

@@ -5,7 +5,7 @@ use Rattle.std.specs.List.{All, flat_map, list_any, list_all, range_with_len}
 use Rattle.std.specs.FinMap as finite
 use Rattle.std.proofs.lemmas.Cmp.{nat_cmp_total}
 use Rattle.std.proofs.lemmas.Bool.{and_from, eqb-true, eq-eqb, ne_eqb, le-leb, cases_eq, cases_lt}
-use Rattle.std.proofs.lemmas.List.{length-map, length-replicate, get_or-map}
+use Rattle.std.proofs.lemmas.List.{length-map, length-replicate}
 use Rattle.std.proofs.lemmas.List.FromFn.{get_or-map-range_with_len, length-map-range_with_len}
 use Rattle.db_value.specs.Value.{Value}
 use Rattle.db_value.specs.Relations.{columns_at}
@@ -16,9 +16,9 @@ use Rattle.db_store.specs.Dataset.{table_at, IsMade}
 use Rattle.db_store.specs.Sound.{IsSound}
 use Rattle.db_store.specs.Counted.{IsCounted}
 use Rattle.db_store.specs.SameRows.{fields_in}
-use Rattle.db_store.specs.Layout.{Segment, Row, Layout, no_segment, lane_at, records_at, segments_at, rows_at, live_in, contents_of, table_in, branch_of, dataset_in}
+use Rattle.db_store.specs.Layout.{Segment, Row, Layout, no_segment, lane_at, segments_at, rows_at, live_in, contents_of, branch_of, dataset_in}
 use Rattle.db_store.specs.LayoutGrowth.{is_head_of}
-use Rattle.db_store.specs.LaidOut.{no_row, row_at, head_at, has_head, times, IsLaid}
+use Rattle.db_store.specs.LaidOut.{row_at, head_at, times, IsLaid}
 use Rattle.db_store.proofs.BitLemmas.{get_contents}
 use Rattle.db_store.proofs.SegmentLemmas.{at_relation}
 use Rattle.db_store.proofs.LayoutLaw.{count_is, table_at_is}
@@ -37,7 +37,7 @@ use Rattle.db_image.specs.Images.{branch_image, branches_image, row_with, row_im
 use Rattle.db_image.specs.Imaged.{AreWithin, AreInOrder, HasOrigins, HasSegments}
 use Rattle.db_image.specs.Rules.{lasts_of}
 use Rattle.db_image.proofs.Heads.{heads_of, counts_are, length_counts, zero_in, steps}
-use Rattle.db_image.proofs.RowsLaid.{key_of, laid_segments, laid_at, length_laid, Sits, keys_are}
+use Rattle.db_image.proofs.RowsLaid.{key_of, laid_segments, laid_at, length_laid, keys_are}
 use Rattle.db_image.proofs.SegmentsRead.{IsSegment, segment_adds}
 use Rattle.db_image.proofs.LayoutBack.{parts_are, segments_back, rows_back}
 use Rattle.db_image.proofs.LinesKept.{lasts, lasts_same, count, last_is, there}

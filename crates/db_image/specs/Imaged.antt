@@ -1,6 +1,10 @@
 -- The layouts of which an image tells all.
-use Rattle.std.specs.Prelude.{◌≡◌, ℕ, ◌-◌, ◌*◌, ◌^◌, ◌<◌, ◌≤◌, true, List, [], length, map, replicate, Some}
-use Rattle.std.specs.List.{All, range_with_len}
+use Rattle.std.specs.Prelude.{◌≡◌, ℕ, ◌-◌, ◌*◌, ◌^◌, ◌<◌, ◌≤◌, true, List, [], length, map, replicate, Option, Some, None}
+use Rattle.std.specs.List.{All, AllByRecursion, range_with_len}
+use Rattle.std.specs.Int.{w64}
+use Rattle.std.specs.Int.RustNames.{FitsSigned}
+use Rattle.db_value.specs.Value.{Value}
+use Rattle.db_value.specs.declared.entry.Change.{Change}
 use Rattle.std.proofs.Common.{get_or}
 use Rattle.db_value.specs.Text.{is_name}
 use Rattle.db_value.specs.Relations.{columns_at}
@@ -8,7 +12,7 @@ use Rattle.db_value.specs.declared.entry.Entry.{Entry}
 use Rattle.db_value.specs.declared.entry.Entry.TheVariants.{Commit, Branch as NewBranch}
 use Rattle.db_store.specs.Dataset.{root, IsMade}
 use Rattle.db_store.specs.Layout.{Segment, Row, Lane, Layout, has, slots_where, lane_at, records_at, segments_at, rows_at, by_relation, dataset_in}
-use Rattle.db_store.specs.LaidOut.{rises, head_at}
+use Rattle.db_store.specs.LaidOut.{rises}
 use Rattle.record_page.specs.Page.{IsRecord}
 use Rattle.hybrid_store.specs.declared.made.MadeVersion.{MadeVersion}
 use Rattle.hybrid_store.specs.declared.parts.BranchPart.{BranchPart}
@@ -74,10 +78,14 @@ IsNamed (Commit b second changes) = Unit {0}
 IsNamed (NewBranch name origin) = is_name name ≡ true
 
 -- a segment has fewer than 2^32 records, which keep their rules, and the head of a branch has at most 65,536 of them for each version after position 0
-pub record IsFilled (l : Layout) (r s : ℕ) : Type 0 where
-  pub few : length (records_at (segments_at l.segments r) s) < 2 ^ 32
-  pub records : All (IsRecord (length (columns_at l.schema r))) (records_at (segments_at l.segments r) s)
-  pub room : (b : ℕ) → head_at (segments_at l.segments r) s ≡ Some b → length (records_at (segments_at l.segments r) s) ≤ 65536 * (length (lane_at l b).seconds - 1)
+pub record IsFilled (columns : ℕ) (last : ℕ → ℕ) (s : Segment) : Type 0 where
+  pub few : length s.records < 2 ^ 32
+  pub records : All (IsRecord columns) s.records
+  pub room : (b : ℕ) → s.head ≡ Some b → length s.records ≤ 65536 * last b
+
+-- the last position of a branch
+abbrev pub last_at : Layout → ℕ → ℕ
+last_at l b = length (lane_at l b).seconds - 1
 
 -- a row that begins after position 0 changes nothing where it begins
 abbrev pub IsBlank : Row → Type 0
@@ -86,8 +94,18 @@ IsBlank row = 0 < row.from → get_or row.deltas 0 [] ≡ []
 -- the segments and the rows of a layout are such that an image can have them
 pub record HasSegments (l : Layout) : Type 0 where
   pub few : (r : ℕ) → r < length l.schema → length (segments_at l.segments r) < 2 * length l.lanes
-  pub filled : (r s : ℕ) → r < length l.schema → s < length (segments_at l.segments r) → IsFilled l r s
+  pub filled : (r : ℕ) → r < length l.schema → All (IsFilled (length (columns_at l.schema r)) (last_at l)) (segments_at l.segments r)
   pub blank : (b r : ℕ) → b < length l.lanes → r < length l.schema → All IsBlank (rows_at (lane_at l b) r)
+
+-- the key and each value that a change puts have 64 bits
+abbrev pub AreRanged : Option (List Value) → Type 0
+AreRanged None = Unit {0}
+AreRanged (Some fields) = AllByRecursion (FitsSigned w64) fields
+
+-- so have those of an entry's changes, since they have their types
+abbrev pub HasRanges : Entry → Type 0
+HasRanges (Commit b second changes) = AllByRecursion (λ (c : Change). (c.key < 2 ^ 64) × AreRanged c.fields) changes
+HasRanges (NewBranch name origin) = Unit {0}
 
 -- a layout of which an image can be: its versions stand in the order made, and it keeps the rules of images that not every layout keeps
 pub record IsImaged (l : Layout) : Type 0 where

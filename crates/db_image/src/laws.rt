@@ -1,6 +1,6 @@
 //! An image that is read stands for sound parts of a layout, which can be made. The image of a layout
 //! stands for the layout, if its versions stand in the order made.
-ghost use Rattle.std.specs.Prelude.{◌≡◌, ◌<◌, ◌^◌, List, ℕ, Ok, true};
+ghost use Rattle.std.specs.Prelude.{◌≡◌, ◌<◌, ◌^◌, List, [], ℕ, Ok, true};
 ghost use Rattle.db_value.specs.declared.entry.Entry.{Entry};
 ghost use Rattle.db_value.specs.declared.schema.Relation.{Relation};
 ghost use Rattle.db_store.specs.Fits.{fits};
@@ -20,8 +20,8 @@ ghost use Rattle.hybrid_view.specs.Deltas.{slots_of};
 ghost use Rattle.db_image.specs.Parts.{bits_of, parts_of};
 ghost use Rattle.db_image.specs.Read.{IsFit};
 ghost use Rattle.db_image.specs.Images.{delta_image, image_of};
-ghost use Rattle.db_image.specs.Imaged.{AreSlots, AreWithin, AreInOrder, HasLines, HasOrigins, HasSegments, IsNamed};
-ghost use Rattle.db_image.specs.Rules.{lasts_of, AreByRelation, IsDelta, IsRuled};
+ghost use Rattle.db_image.specs.Imaged.{AreSlots, AreWithin, AreInOrder, HasLines, HasOrigins, HasRanges, HasSegments, IsImaged, IsNamed};
+ghost use Rattle.db_image.specs.Rules.{lasts_of, onto, AreByRelation, EachNext, IsDelta, IsNextRelation, IsRuled};
 
 use hybrid_store::HybridStore;
 
@@ -94,4 +94,14 @@ pub fn whole_law()
     ensures { (l : Layout) → IsLaid l → IsSound (dataset_in l) → IsCounted (dataset_in l)
         → AreWithin l → AreInOrder l → HasSegments l → HasOrigins l
         → is_whole (image_of l) (lasts_of (image_of l)) ≡ true }
+{}
+
+/// An image can be of a new layout whose relations have names as they must. Growth keeps it, if the name of a
+/// new branch is a name.
+pub fn imaged_law()
+    ensures first { (schema : List Relation) → EachNext onto IsNextRelation [] schema
+        → IsImaged (new_layout schema) }
+    ensures stays { (l : Layout) (e : Entry) → IsLaid l → IsSound (dataset_in l)
+        → fits (dataset_in l) e ≡ true → IsNamed e → HasRanges e → IsImaged l
+        → IsImaged (grow_layout l e) }
 {}

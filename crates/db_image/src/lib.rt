@@ -36,8 +36,8 @@ pub use deltas::delta_of;
 pub use encoding::{ImageBytes, encode, image_of_store};
 pub use image_deltas::{delta_image, deltas_image};
 pub use laws::{
-    delta_law, fit_law, layout_law, lines_law, order_law, parts_law, rules_law, segments_law,
-    whole_law, within_law,
+    delta_law, fit_law, imaged_law, layout_law, lines_law, order_law, parts_law, rules_law,
+    segments_law, whole_law, within_law,
 };
 pub use rows::{history_of, row_of, rows_of};
 pub use segments::{put_segments, segment_of};
