@@ -24,6 +24,8 @@ impl<St: Store> Log<St> for Faulty {
 
     ghost Keeps = { λ _ _ _ _. ⊥ };
 
+    ghost Owes = { λ _ _ _ _. ⊥ };
+
     ghost generation = { λ _. 0 };
 
     ghost moment = { λ _. (0, 0) };
@@ -55,6 +57,8 @@ impl<St: Store> Log<St> for Faulty {
     }
 
     ghost kept_opens = { λ log s es f keeps o opens. absurd opens };
+
+    ghost owes_opens = { λ log s es f owes o opens. absurd opens };
 
     ghost counts_now = { λ log t o le opens. opens };
 

@@ -19,15 +19,15 @@ module _ {D : Type 0} (g : Ghosts D) where
   -- what a dataset keeps tells what its files open to
   pub keeps_pairs : (l : Dataset D g) (s : State) (es : List Entry) (f : Option (List ℕ)) → KeepsIn l s es f → OpensNow g (pair_in l) (MayGive (generation_in l) s es f)
   keeps_pairs l s es f k = λ c d hc hd.
-      kept_gives g.image l.second l.generation l.file.journal.at l.file.journal.clean l.file.disk l.beside s es f k (opening_of (reads c d)) (c, d, hc, hd, refl)
+      kept_gives g.image l.second l.generation l.file.journal.at l.file.journal.clean l.file.disk l.beside.disk s es f k (opening_of (reads c d)) (c, d, hc, hd, refl)
 
   faults_by : (second : Bool) (file beside : D) → g.faults (cond second beside file) + g.faults (cond second file beside) ≡ g.faults file + g.faults beside
   faults_by false file beside = refl
   faults_by true file beside = omega arith
 
   -- the count of a dataset is that of its two files
-  pub faults_are : (l : Dataset D g) → faults_in g (pair_in l) ≡ g.faults l.file.disk + g.faults l.beside
-  faults_are l = faults_by l.second l.file.disk l.beside
+  pub faults_are : (l : Dataset D g) → faults_in g (pair_in l) ≡ g.faults l.file.disk + g.faults l.beside.disk
+  faults_are l = faults_by l.second l.file.disk l.beside.disk
 
   -- disks that no call was made of
   one_still : (disk : D) → ((c : List ℕ) → g.since disk (g.moment disk) c → g.image disk c) → OnlyReads g.faults g.writes g.seen g.image g.moment g.since disk disk

@@ -123,7 +123,7 @@ module _ {L : Type 0} (faults : L → ℕ) (Keeps : L → State → List Entry �
 
 module _ {D : Type 0} (g : Ghosts D) where
   abbrev pub faults_l : Dataset D g → ℕ
-  faults_l l = g.faults l.file.disk + g.faults l.beside
+  faults_l l = g.faults l.file.disk + g.faults l.beside.disk
 
   -- lines that were run, and what a log did for them
   module _ (disks : Pair D) (a b : Dataset D g) (s : State) (es : List Entry) (only : BothOnlyRead g disks (pair_in a)) (kept : KeepsIn a s es None) (ran : List Marked)

@@ -9,15 +9,17 @@
 //! | `specs/Spelling.antt` | the bytes of an entry |
 //! | `specs/Grammar.antt` | how an entry is read from the front of bytes |
 //! | `src/write.rt`, `src/read.rt` | both ways as code |
-//! | `specs/Logs.antt`, `src/log.rt` | a log, and the one that stores nothing |
+//! | `specs/Logs.antt`, `src/log.rt`, `src/stop.rt` | a log, and the one that stores nothing |
 #![tactic(auto)]
 
 mod laws;
 mod log;
 mod read;
+mod stop;
 mod write;
 
 pub use laws::{codec_laws, fitting_law};
 pub use log::{Log, NoLog};
 pub use read::{EntryStop, decode};
+pub use stop::CheckpointStop;
 pub use write::{EntryBytes, encode};

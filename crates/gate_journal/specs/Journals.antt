@@ -26,6 +26,11 @@ pub record FailsToAppend (bytes : List ℕ) (image : List ℕ → Type 0) (old n
   pub shut : new.clean ≡ true → InAll image (IsShut old.at)
   pub behind : new.clean ≡ false → InAll image (IsBehind old.at bytes)
 
+-- after a failure the gate at this place is closed, or its write was called and these bytes stand whole behind it
+pub record IsUnopened (at : ℕ) (bytes : List ℕ) (image : List ℕ → Type 0) (shut : Bool) : Type 0 where
+  pub closed : shut ≡ true → InAll image (IsShut at)
+  pub behind : shut ≡ false → InAll image (IsBehind at bytes)
+
 -- how many writes an append called: it is clean after a failure if the second, the gate's, wasn't called
 abbrev pub writes_of : Bool → Bool → ℕ
 writes_of failed clean = if failed && clean then 1 else 2

@@ -1,5 +1,5 @@
 -- What two files open to after calls of the one that counts.
-use Rattle.std.proofs.Common.{◌≡◌, ◌⊎◌, inl, inr, ⊎_elim, ◌≤◌, ℕ, Bool, true, false, cond, List, Option, Some, arith}
+use Rattle.std.proofs.Common.{◌≡◌, ◌⊎◌, inl, inr, ⊎_elim, ◌≤◌, ℕ, Bool, true, false, cond, List, Option, Some, sym, subst, arith}
 use Rattle.db_value.specs.declared.entry.Entry.{Entry}
 use Rattle.db_store.specs.State.{State}
 use Rattle.db_outside.specs.Disk.{LeavesOnly, InAll}
@@ -12,6 +12,20 @@ use Rattle.generations.specs.FrontLaws.{one_of}
 use Rattle.generations.specs.Fronts.{IsFront, IsBeside}
 use Rattle.generations.specs.Given.{opening_of, Opens}
 use Rattle.generations.specs.LogLaws.{gives_one}
+
+module _ {D : Type 0} (g : Ghosts D) (old new aside_old aside_new : D) where
+  -- no moment of either is earlier
+  pub none_earlier : (second : Bool) → g.moment old ≤ g.moment new → g.moment aside_old ≤ g.moment aside_new
+      → IsNoLater (g.moment (cond second aside_old old), g.moment (cond second old aside_old)) (g.moment (cond second aside_new new), g.moment (cond second new aside_new))
+  none_earlier false le aside = (le, aside)
+  none_earlier true le aside = (aside, le)
+
+  -- since the first call, by what calls of each leave
+  pub any_of_both : (P Q : List ℕ → Type 0) (R : Opening → Type 0) → LeavesOnly g.moment g.since old new P → LeavesOnly g.moment g.since aside_old aside_new Q
+      → (second : Bool) → ((c d : List ℕ) (o : Opening) → P c → Q d → opening_of (reads_by second c d) ≡ o → R o)
+      → (o : Opening) → Opens (g.since (cond second aside_new new) (g.moment (cond second aside_old old))) (g.since (cond second new aside_new) (g.moment (cond second old aside_old))) o → R o
+  any_of_both P Q R leaves aside false so o opens = so opens.0 opens.1 o (leaves.each opens.0 opens.2) (aside.each opens.1 opens.3) opens.4
+  any_of_both P Q R leaves aside true so o opens = so opens.1 opens.0 o (leaves.each opens.1 opens.3) (aside.each opens.0 opens.2) opens.4
 
 module _ {D : Type 0} (g : Ghosts D) (old new beside : D) where
   -- no moment is earlier
@@ -38,6 +52,24 @@ module _ {D : Type 0} (g : Ghosts D) (old new beside : D) where
         ⊎_elim (λ was. inl (opens.0, opens.1, was, opens.3, opens.4)) (λ p. inr (so opens.0 opens.1 o p (quiet opens.1 opens.3) opens.4)) (leaves.before t.0 opens.0 le.0 opens.2)
     adds_pair true so t le quiet o opens =
         ⊎_elim (λ was. inl (opens.0, opens.1, opens.2, was, opens.4)) (λ p. inr (so opens.1 opens.0 o p (quiet opens.0 opens.2) opens.4)) (leaves.before t.1 opens.1 le.1 opens.3)
+
+-- the same where the file beside is as it was
+module _ {D : Type 0} (g : Ghosts D) (old new beside beside_2 : D) (same : beside_2 ≡ beside) where
+  module _ (n : ℕ) (P : List ℕ → Type 0) (R : Opening → Type 0) (leaves : LeavesOnly g.moment g.since old new P) (second : Bool)
+      (so : (c d : List ℕ) (o : Opening) → P c → IsBeside second n d → opening_of (reads_by second c d) ≡ o → R o) where
+    pub any_pair_beside : ((c : List ℕ) → g.since beside (g.moment beside) c → g.image beside c) → InAll (g.image beside) (IsBeside second n)
+        → (o : Opening) → Opens (g.since (cond second beside_2 new) (g.moment (cond second beside old))) (g.since (cond second new beside_2) (g.moment (cond second old beside))) o → R o
+    any_pair_beside only other = subst (λ (x : D). (o : Opening) → Opens (g.since (cond second x new) (g.moment (cond second beside old))) (g.since (cond second new x) (g.moment (cond second old beside))) o → R o) (sym same)
+        (any_pair g old new beside n P R leaves second so only other)
+
+    pub adds_pair_beside : (t : ℕ × ℕ) → IsNoLater t (g.moment (cond second beside old), g.moment (cond second old beside)) → InAll (g.since beside (moment_beside second t)) (IsBeside second n)
+        → (o : Opening) → Opens (g.since (cond second beside_2 new) t.0) (g.since (cond second new beside_2) t.1) o
+        → Opens (g.since (cond second beside old) t.0) (g.since (cond second old beside) t.1) o ⊎ R o
+    adds_pair_beside t le quiet = subst (λ (x : D). (o : Opening) → Opens (g.since (cond second x new) t.0) (g.since (cond second new x) t.1) o → Opens (g.since (cond second beside old) t.0) (g.since (cond second old beside) t.1) o ⊎ R o) (sym same)
+        (adds_pair g old new beside n P R leaves second so t le quiet)
+
+  pub stays_beside : (second : Bool) (n : ℕ) (t : ℕ × ℕ) → InAll (g.since beside (moment_beside second t)) (IsBeside second n) → InAll (g.since beside_2 (moment_beside second t)) (IsBeside second n)
+  stays_beside second n t quiet = subst (λ (x : D). InAll (g.since x (moment_beside second t)) (IsBeside second n)) (sym same) quiet
 
 -- the file that counts ends as after an append
 pub one_batch : (second : Bool) (n : ℕ) (s : State) (es : List Entry) (front : List ℕ) (is : IsFront front n s es) (f : Option (List ℕ)) (batch : List ℕ) → ((body : List ℕ) → f ≡ Some body → Follows s body) → Follows s batch

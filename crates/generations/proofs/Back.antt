@@ -1,5 +1,5 @@
 -- What a file with a closed gate is read as is the front of the file.
-use Rattle.std.proofs.Common.{◌≡◌, ◌⊎◌, inl, inr, zero, suc, ℕ, ◌+◌, ◌<◌, ◌≤◌, ◌^◌, ◌==◌, ◌&&◌, nat_le, nat_eq, cond, Bool, true, false, List, [], ◌∷◌, ◌++◌, length, get_or, take, drop, refl, sym, ◌∙◌, ap, subst, arith, append_assoc, length-append, length-drop, Option, Some, None}
+use Rattle.std.proofs.Common.{◌≡◌, ◌⊎◌, inl, inr, zero, suc, ℕ, ◌+◌, ◌<◌, ◌≤◌, ◌^◌, ◌==◌, ◌&&◌, nat_le, nat_eq, cond, Bool, true, false, List, [], ◌∷◌, ◌++◌, length, get_or, take, drop, refl, sym, ◌∙◌, ap, subst, arith, append_assoc, length-append, length-drop, Option, Some, None, Result, Ok, Err}
 use Rattle.std.proofs.lemmas.Bool.{and_from, and_parts, eqb-true}
 use Rattle.std.proofs.lemmas.List.{drop_at, take-append-le, drop-append-le, get_or-drop, append-nil, take-take, drop-take, length-take-le, take-append-drop}
 use Rattle.std.specs.Int.{w32, w64, from_le_bytes}
@@ -11,11 +11,11 @@ use Rattle.db_outside.specs.Record.{most_body}
 use Rattle.entry_codec.specs.Grammar.{entries_in}
 use Rattle.gate_journal.specs.declared.cause.Cause.TheVariants.{Length, Digest}
 use Rattle.gate_journal.specs.Reading.{closed_at, damaged_at, Reading, size_in, digest_in, inner, is_long, is_sound, nothing, onto, one_record, reading}
-use Rattle.db_value.specs.declared.schema.Relation.{Relation}
-use Rattle.generations.specs.NewState.{new_state}
+use Rattle.image_text.specs.declared.image.Image.{Image}
+use Rattle.generations.specs.ImageState.{image_state}
 use Rattle.gate_journal.specs.Reading.{records_from}
-use Rattle.new_image.specs.Image.{schema_in}
-use Rattle.generations.specs.Files.{mark, has_header, generation_of, image_length, image_digest, image_in, by_header, by_schema}
+use Rattle.image_parts.specs.Whole.{image_at}
+use Rattle.generations.specs.Files.{mark, has_header, generation_of, image_length, image_digest, image_in, by_header, by_image}
 use Rattle.generations.proofs.Opening.{header_3}
 use Rattle.generations.proofs.Walks.{behind_none}
 use Rattle.generations.specs.Ends.{Ends}
@@ -164,13 +164,13 @@ header_some true true false o t es at is = absurd (cc is)
 header_some true false r o t es at is = absurd (cc is)
 header_some false q r o t es at is = absurd (cc is)
 
-schema_some : (x : Option (List Relation)) (go : List Relation → Outcome) (t : State) (es : List Entry) (at : ℕ) → by_schema x go ≡ opened t es at → (rs : List Relation) × (x ≡ Some rs) × (go rs ≡ opened t es at)
-schema_some None go t es at is = absurd (cc is)
-schema_some (Some rs) go t es at is = (rs, refl, is)
+image_some : (size : ℕ) (x : Result Image ℕ) (go : Image → Outcome) (t : State) (es : List Entry) (at : ℕ) → by_image size x go ≡ opened t es at → (i : Image) × (x ≡ Ok i) × (go i ≡ opened t es at)
+image_some size (Err left) go t es at is = absurd (cc is)
+image_some size (Ok i) go t es at is = (i, refl, is)
 
--- whatever stands behind a header and its image, the file is read from the new dataset on
-module _ (front : List ℕ) (rs : List Relation) (header : has_header front ≡ true) (can : nat_le 1 (generation_of front) && nat_le (generation_of front) (2 ^ 63) ≡ true)
-    (size : length front ≡ 57 + image_length front) (sound : pointwise nat_eq (sha256 (image_in front)) (image_digest front) ≡ true) (schema : schema_in (image_in front) ≡ Some rs) where
+-- whatever stands behind a header and its image, the file is read from the image's state on
+module _ (front : List ℕ) (i : Image) (header : has_header front ≡ true) (can : nat_le 1 (generation_of front) && nat_le (generation_of front) (2 ^ 63) ≡ true)
+    (size : length front ≡ 57 + image_length front) (sound : pointwise nat_eq (sha256 (image_in front)) (image_digest front) ≡ true) (image : image_at (image_in front) ≡ Ok i) where
   module _ (rest : List ℕ) where
     abbrev c : List ℕ
     c = front ++ rest
@@ -199,16 +199,16 @@ module _ (front : List ℕ) (rs : List Relation) (header : has_header front ≡ 
     sound_there : pointwise nat_eq (sha256 (image_in c)) (image_digest c) ≡ true
     sound_there = ap (λ (l : List ℕ). pointwise nat_eq (sha256 l) (image_digest c)) image_same ∙ ap (λ (l : List ℕ). pointwise nat_eq (sha256 (image_in front)) l) digest_same ∙ sound
 
-    reads_there : file_reads c ≡ walked (new_state rs) (length front) (reading (length rest) (length front) rest)
+    reads_there : file_reads c ≡ walked (image_state i) (length front) (reading (length rest) (length front) rest)
     reads_there =
         let place : 57 + image_length c ≡ length front = omega (arith, size, length_same) in
         header_3 _ _ _ _ can_there has_there sound_there
-        ∙ ap (λ (x : Option (List Relation)). by_schema x (λ xs. walked (new_state xs) (57 + image_length c) (records_from (57 + image_length c) c))) (ap schema_in image_same ∙ schema)
-        ∙ ap (λ (k : ℕ). walked (new_state rs) k (records_from k c)) place
-        ∙ ap (λ (l : List ℕ). walked (new_state rs) (length front) (reading (length l) (length front) l)) (drop_at front rest (length front) refl)
+        ∙ ap (λ (x : Result Image ℕ). by_image (length (image_in c)) x (λ j. walked (image_state j) (57 + image_length c) (records_from (57 + image_length c) c))) (ap image_at image_same ∙ image)
+        ∙ ap (λ (k : ℕ). walked (image_state i) k (records_from k c)) place
+        ∙ ap (λ (l : List ℕ). walked (image_state i) (length front) (reading (length l) (length front) l)) (drop_at front rest (length front) refl)
 
-  pub header_front : IsFront front (generation_of front) (new_state rs) []
-  header_front = record { header = header; generation = refl; reads_on = λ rest. reads_there rest ∙ sym (behind_none (walked (new_state rs) (length front) (reading (length rest) (length front) rest))) }
+  pub header_front : IsFront front (generation_of front) (image_state i) []
+  header_front = record { header = header; generation = refl; reads_on = λ rest. reads_there rest ∙ sym (behind_none (walked (image_state i) (length front) (reading (length rest) (length front) rest))) }
 
 mark_same : (front rest : List ℕ) → 57 ≤ length front → has_header (front ++ rest) ≡ true → has_header front ≡ true
 mark_same front rest long is =
@@ -220,8 +220,8 @@ mark_same front rest long is =
 pub found : (s : List ℕ) (t : State) (es : List Entry) (p : ℕ) → has_header s ≡ true → file_reads s ≡ opened t es p → Found s (generation_of s) t es p
 found s t es p header read =
     let parts = header_some (nat_le 1 (generation_of s) && nat_le (generation_of s) (2 ^ 63)) (nat_le (57 + image_length s) (length s)) (pointwise nat_eq (sha256 (image_in s)) (image_digest s))
-    (by_schema (schema_in (image_in s)) (λ rs. walked (new_state rs) (57 + image_length s) (records_from (57 + image_length s) s))) t es p read in
-    let schema = schema_some (schema_in (image_in s)) (λ rs. walked (new_state rs) (57 + image_length s) (records_from (57 + image_length s) s)) t es p parts.3 in
+    (by_image (length (image_in s)) (image_at (image_in s)) (λ i. walked (image_state i) (57 + image_length s) (records_from (57 + image_length s) s))) t es p read in
+    let found_image = image_some (length (image_in s)) (image_at (image_in s)) (λ i. walked (image_state i) (57 + image_length s) (records_from (57 + image_length s) s)) t es p parts.3 in
     let n = image_length s in
     let front = take (57 + n) s in
     let rest = drop (57 + n) s in
@@ -234,11 +234,11 @@ found s t es p header read =
     let digest : image_digest front ≡ image_digest s = sym (window 25 32 front rest (omega (arith, size))) ∙ ap image_digest (sym split) in
     let image : image_in front ≡ image_in s =
     ap (λ (k : ℕ). take k (drop 57 front)) number ∙ sym (window 57 n front rest (omega (arith, size))) ∙ ap (λ (l : List ℕ). take n (drop 57 l)) (sym split) in
-    let base = header_front front schema.0 header_too (ap (λ (k : ℕ). nat_le 1 k && nat_le k (2 ^ 63)) generation ∙ parts.0) (size ∙ ap (λ (k : ℕ). 57 + k) (sym number))
-    (ap (λ (l : List ℕ). pointwise nat_eq (sha256 l) (image_digest front)) image ∙ ap (λ (l : List ℕ). pointwise nat_eq (sha256 (image_in s)) l) digest ∙ parts.2) (ap schema_in image ∙ schema.1) in
-    let walks : walked (new_state schema.0) (length front) (reading (length rest) (length front) rest) ≡ opened t es p =
-    ap (λ (k : ℕ). walked (new_state schema.0) k (reading (length rest) k rest)) size ∙ schema.2 in
-    subst (λ (g : ℕ). Found s g t es p) generation (found_from s (generation_of front) (length rest) front rest (new_state schema.0) [] t es p base split (omega arith) walks)
+    let base = header_front front found_image.0 header_too (ap (λ (k : ℕ). nat_le 1 k && nat_le k (2 ^ 63)) generation ∙ parts.0) (size ∙ ap (λ (k : ℕ). 57 + k) (sym number))
+    (ap (λ (l : List ℕ). pointwise nat_eq (sha256 l) (image_digest front)) image ∙ ap (λ (l : List ℕ). pointwise nat_eq (sha256 (image_in s)) l) digest ∙ parts.2) (ap image_at image ∙ found_image.1) in
+    let walks : walked (image_state found_image.0) (length front) (reading (length rest) (length front) rest) ≡ opened t es p =
+    ap (λ (k : ℕ). walked (image_state found_image.0) k (reading (length rest) k rest)) size ∙ found_image.2 in
+    subst (λ (g : ℕ). Found s g t es p) generation (found_from s (generation_of front) (length rest) front rest (image_state found_image.0) [] t es p base split (omega arith) walks)
   where
     fits_there : (s : List ℕ) → nat_le (57 + image_length s) (length s) ≡ true → 57 + image_length s ≤ length s
     fits_there s is = le_there (57 + image_length s) (length s) is

@@ -1,12 +1,17 @@
 pub mod Appending
 pub mod Back
+pub mod Besides
 pub mod Both
 pub mod Creating
 pub mod Entries
 pub mod Looking
+pub mod NewLaid
+pub mod NewRead
 pub mod Opening
+pub mod Owing
 pub mod Picking
 pub mod Quieting
 pub mod Reopening
 pub mod Told
 pub mod Walks
+pub mod Writing

@@ -40,7 +40,7 @@ module _ {D : Type 0} (g : Ghosts D) where
       let first = only_image disks.first (pair_in l).first c told_c all.0 only.first in
       let second = only_image disks.second (pair_in l).second d told_d all.1 only.second in
       record {
-        quiet = beside_by l.second l.generation l.file.journal.at s es l.file.disk l.beside (moments_of g disks) c d is first second;
+        quiet = beside_by l.second l.generation l.file.journal.at s es l.file.disk l.beside.disk (moments_of g disks) c d is first second;
         opens = opens_one (g.since (pair_in l).first (g.moment disks.first)) (g.since (pair_in l).second (g.moment disks.second)) c d first second;
       }
 

@@ -1,11 +1,14 @@
 -- What an opened dataset keeps.
-use Rattle.std.proofs.Common.{◌≡◌, ◌≢◌, ℕ, ◌<◌, ◌≤◌, ◌&&◌, nat_lt, cond, Bool, true, false, List, refl, sym, ◌∙◌, subst, arith, Option, Some, None}
+use Rattle.std.proofs.Common.{◌≡◌, ◌≢◌, ℕ, ◌<◌, ◌≤◌, ◌&&◌, nat_lt, cond, Bool, true, false, List, refl, sym, ◌∙◌, ap, subst, arith, Option, Some, None}
 use Rattle.db_value.specs.declared.entry.Entry.{Entry}
 use Rattle.db_store.specs.State.{State}
 use Rattle.db_outside.specs.Disk.{Begins, IsAllOnDisk, InAll}
 use Rattle.gate_journal.specs.Gate.{IsShut}
 use Rattle.generations.specs.Files.{Outcome, opened, no_header, counts, has_header, generation_of, file_reads, counting, reads, number_of}
-use Rattle.generations.specs.Fronts.{IsFront, IsBeside, Keeps}
+use Rattle.generations.specs.declared.other_gate.OtherGate.{OtherGate}
+use Rattle.generations.specs.declared.other_gate.OtherGate.TheVariants.{Unread}
+use Rattle.generations.specs.Asides.{IsFront, IsBeside, StandsBy, is_owed}
+use Rattle.generations.specs.Fronts.{Keeps}
 use Rattle.generations.specs.Picks.{of_two}
 use Rattle.generations.proofs.Back.{found}
 
@@ -55,22 +58,26 @@ module _ (c d : List ℕ) (g : ℕ) (o : Outcome) where
   counted_by second is = by_tests (has_header c) (has_header d) (nat_lt (generation_of c) (generation_of d)) refl refl refl second is
 
 -- where both disks have on them what a read gives, the dataset keeps its state
-pub keeps_it : (second : Bool) (g at : ℕ) (clean : Bool) (image beside : List ℕ → Type 0) (s : State) (es : List Entry) (c d : List ℕ) → clean ≡ true → reads c d ≡ counts (number_of second) g (opened s es at)
-    → InAll image (λ i. i ≡ of_two second c d) → InAll beside (λ i. i ≡ of_two second d c) → Keeps second g at clean image beside s es None
-keeps_it second g at clean image beside s es c d is_clean is all all_beside =
+pub keeps_it : (second : Bool) (g at : ℕ) (clean : Bool) (gate : OtherGate) (image beside : List ℕ → Type 0) (s : State) (es : List Entry) (c d : List ℕ) → clean ≡ true → gate ≡ Unread → reads c d ≡ counts (number_of second) g (opened s es at)
+    → InAll image (λ i. i ≡ of_two second c d) → InAll beside (λ i. i ≡ of_two second d c) → Keeps second g at clean gate image beside s es None
+keeps_it second g at clean gate image beside s es c d is_clean unread is all all_beside =
     let counted = counted_by c d g (opened s es at) second is in
     let f = found (of_two second c d) s es at counted.header counted.is in
+    let aside : StandsBy Unread second g s beside = λ i now. subst (λ (l : List ℕ). IsBeside second g l) (sym (all_beside i now)) counted.beside in
     record {
-      front = f.front;
-      is_front = subst (λ (n : ℕ). IsFront f.front n s es) counted.generation f.is_front;
-      kept = record {
-        place = f.place;
-        begins = λ i now. subst (λ (l : List ℕ). Begins f.front l) (sym (all i now)) f.ends.spelled;
-        shut = λ _. (refl, λ i now. subst (λ (l : List ℕ). IsShut at l) (sym (all i now)) (subst (λ (n : ℕ). IsShut n (of_two second c d)) (sym f.place) f.ends.shut));
-        behind = λ unclean. let bad : true ≡ false = sym is_clean ∙ unclean in absurd (cc bad);
+      file = record {
+        front = f.front;
+        is_front = subst (λ (n : ℕ). IsFront f.front n s es) counted.generation f.is_front;
+        kept = record {
+          place = f.place;
+          begins = λ i now. subst (λ (l : List ℕ). Begins f.front l) (sym (all i now)) f.ends.spelled;
+          shut = λ _. (refl, λ i now. subst (λ (l : List ℕ). IsShut at l) (sym (all i now)) (subst (λ (n : ℕ). IsShut n (of_two second c d)) (sym f.place) f.ends.shut));
+          behind = λ unclean. let bad : true ≡ false = sym is_clean ∙ unclean in absurd (cc bad);
+        };
+        fits = λ body none. let bad : None ≡ Some body = none in absurd (cc bad);
       };
-      fits = λ body none. let bad : None ≡ Some body = none in absurd (cc bad);
-      other = λ i now. subst (λ (l : List ℕ). IsBeside second g l) (sym (all_beside i now)) counted.beside;
+      gate_is = ap is_owed unread;
+      other = subst (λ (x : OtherGate). StandsBy x second g s beside) (sym unread) aside;
     }
 
 some_same : (x y : List ℕ) → Some x ≡ Some y → x ≡ y

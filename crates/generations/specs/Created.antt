@@ -1,7 +1,5 @@
 -- The files of a new dataset.
-use Rattle.std.specs.Prelude.{◌≡◌, ◌⊎◌, ◌+◌, ◌<◌, ℕ, Bool, true, false, List, [], ◌∷◌, ◌++◌, length}
-use Rattle.std.specs.Int.{w64, to_le_bytes}
-use Rattle.sha2.specs.Sha256.{sha256}
+use Rattle.std.specs.Prelude.{◌≡◌, ◌⊎◌, ◌+◌, ◌<◌, ℕ, Bool, true, false, List, [], length}
 use Rattle.db_value.specs.declared.schema.Relation.{Relation}
 use Rattle.db_outside.specs.Device.{Rose}
 use Rattle.db_outside.specs.declared.disk.Disk.{Ghosts}
@@ -13,14 +11,6 @@ use Rattle.generations.specs.declared.pair.Pair.{Pair}
 use Rattle.generations.specs.Datasets.{generation_in, entries_read_in, counted_in, place_in}
 use Rattle.generations.specs.Pairs.{RoseInOne}
 use Rattle.new_image.specs.Image.{image_of}
-
--- behind the gate: the rest of the mark, generation 1, the image's length and digest, and the image
-abbrev pub behind_gate : List ℕ → List ℕ
-behind_gate image = ((((68 ∷ 69 ∷ 67 ∷ 73 ∷ 66 ∷ 69 ∷ 76 ∷ 49 ∷ []) ++ to_le_bytes w64 1) ++ to_le_bytes w64 (length image)) ++ sha256 image) ++ image
-
--- an open gate, and that
-abbrev pub new_front : List Relation → List ℕ
-new_front rs = 1 ∷ behind_gate (image_of rs)
 
 -- a new dataset: file 0 counts, with generation 1, no entry was read, and its first record goes behind the image
 pub record IsNew {D : Type 0} {g : Ghosts D} (d : Dataset D g) (rs : List Relation) : Type 0 where

@@ -1,9 +1,8 @@
 -- What the bytes of two files stand for.
-use Rattle.std.specs.Prelude.{◌+◌, ◌^◌, ◌&&◌, ℕ, Bool, true, false, nat_le, nat_lt, nat_eq, cond, List, [], ◌∷◌, ◌++◌, length, take, drop, Option, Some, None}
+use Rattle.std.specs.Prelude.{◌+◌, ◌-◌, ◌^◌, ◌&&◌, ℕ, Bool, true, false, nat_le, nat_lt, nat_eq, cond, List, [], ◌∷◌, ◌++◌, length, take, drop, Option, Some, None, Result, Ok, Err}
 use Rattle.std.specs.Int.{w64, from_le_bytes}
 use Rattle.std.specs.Cmp.Lexicographic.{pointwise}
 use Rattle.sha2.specs.Sha256.{sha256}
-use Rattle.db_value.specs.declared.schema.Relation.{Relation}
 use Rattle.db_value.specs.declared.entry.Entry.{Entry}
 use Rattle.db_store.specs.State.{State}
 use Rattle.entry_codec.specs.Grammar.{entries_in}
@@ -11,8 +10,9 @@ pub use Rattle.entry_codec.specs.Logs.{applied}
 use Rattle.gate_journal.specs.declared.cause.Cause.{Cause}
 use Rattle.gate_journal.specs.declared.cause.Cause.TheVariants.{Grammar, Length, Digest, EntryUnfit}
 use Rattle.gate_journal.specs.Reading.{End, closed_at, damaged_at, Reading, records_from}
-use Rattle.new_image.specs.Image.{schema_in}
-use Rattle.generations.specs.NewState.{new_state}
+use Rattle.image_text.specs.declared.image.Image.{Image}
+use Rattle.image_parts.specs.Whole.{image_at}
+use Rattle.generations.specs.ImageState.{image_state}
 
 -- a gate that is open, and then DECIBEL1
 abbrev pub mark : List ℕ
@@ -68,10 +68,10 @@ walk s at (body ∷ bodies) end = by_entries at (entries_in body) (λ es. by_sta
 abbrev pub walked : State → ℕ → Reading → Outcome
 walked s at r = walk s at r.bodies r.ends
 
--- an image that isn't a schema is damage
-abbrev pub by_schema : Option (List Relation) → (List Relation → Outcome) → Outcome
-by_schema None go = damaged 57 Grammar
-by_schema (Some rs) go = go rs
+-- so many bytes that aren't an image are damage, where the first item that breaks a rule begins
+abbrev pub by_image : ℕ → Result Image ℕ → (Image → Outcome) → Outcome
+by_image size (Err left) go = damaged (57 + (size - left)) Grammar
+by_image size (Ok image) go = go image
 
 -- the generation can be, the file has the image, and the image has its digest
 abbrev pub by_header : Bool → Bool → Bool → Outcome → Outcome
@@ -80,7 +80,7 @@ by_header can has sound next = cond can (cond has (cond sound next (damaged 25 D
 -- a file that has a header
 abbrev pub file_reads : List ℕ → Outcome
 file_reads c = by_header (nat_le 1 (generation_of c) && nat_le (generation_of c) (2 ^ 63)) (nat_le (57 + image_length c) (length c)) (pointwise nat_eq (sha256 (image_in c)) (image_digest c))
-    (by_schema (schema_in (image_in c)) (λ rs. walked (new_state rs) (57 + image_length c) (records_from (57 + image_length c) c)))
+    (by_image (length (image_in c)) (image_at (image_in c)) (λ i. walked (image_state i) (57 + image_length c) (records_from (57 + image_length c) c)))
 
 -- what two files stand for: neither has a header, or one of them counts, with its generation
 pub data Files : Type 0 where

@@ -15,7 +15,8 @@ use Rattle.gate_journal.specs.Reading.{closed_at, Reading, size_in, digest_in, i
 use Rattle.gate_journal.proofs.Walk.{enough, pick_2}
 use Rattle.generations.specs.Ends.{with_record, Ends, MayEnd, EndsInOneOf}
 use Rattle.generations.specs.Files.{mark, has_header, generation_of, file_reads, applied, behind, walk, walked, by_entries, by_state, Outcome, damaged, opened, Files, counts, counting, reads_by, no_header, number_of}
-use Rattle.generations.specs.Fronts.{IsFront, Follows, IsBeside, OpensTo, OpensToMore, MayOpenTo, OpensToOneOf}
+use Rattle.generations.specs.Asides.{IsFront, IsBeside}
+use Rattle.generations.specs.Fronts.{Follows, OpensTo, OpensToMore, MayOpenTo, OpensToOneOf}
 
 -- These bytes behind an open gate are a record of this body, whatever stands behind them.
 pub record IsRecord (w body : List ℕ) : Type 0 where
@@ -64,7 +65,7 @@ walked_onto s at body r f =
     ap (λ (o : Option (List Entry)). by_entries at o (λ es. by_state at (applied s es) (λ t. behind es (walk t (at + (37 + length body)) r.bodies r.ends)))) f.read
     ∙ ap (λ (o : Option State). by_state at o (λ t. behind f.entries (walk t (at + (37 + length body)) r.bodies r.ends))) f.fit
 
-header_there : (front rest : List ℕ) → has_header front ≡ true → has_header (front ++ rest) ≡ true
+pub header_there : (front rest : List ℕ) → has_header front ≡ true → has_header (front ++ rest) ≡ true
 header_there front rest is =
     let parts = and_parts (nat_le 57 (length front)) (pointwise nat_eq (take 9 front) mark) is in
     let long : 57 ≤ length front = search (arith, parts.0) in
@@ -74,7 +75,7 @@ header_there front rest is =
 long_front : (front : List ℕ) → has_header front ≡ true → 57 ≤ length front
 long_front front is = let parts = and_parts (nat_le 57 (length front)) (pointwise nat_eq (take 9 front) mark) is in search (arith, parts.0)
 
-generation_there : (front rest : List ℕ) → has_header front ≡ true → generation_of (front ++ rest) ≡ generation_of front
+pub generation_there : (front rest : List ℕ) → has_header front ≡ true → generation_of (front ++ rest) ≡ generation_of front
 generation_there front rest is =
     let long = long_front front is in
     ap (λ (l : List ℕ). from_le_bytes w64 (take 8 l)) (drop-append-le 9 front rest (omega (arith, long))) ∙ ap (λ (l : List ℕ). from_le_bytes w64 l) (take-append-le 8 (drop 9 front) rest (omega (arith, long, length-drop 9 front)))

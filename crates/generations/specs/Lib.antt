@@ -1,3 +1,6 @@
+pub mod AsideLaws
+pub mod Asides
+pub mod BesideKeeps
 pub mod Created
 pub mod Datasets
 pub mod Ends
@@ -6,6 +9,7 @@ pub mod FrontLaws
 pub mod Fronts
 pub mod Given
 pub mod Headers
+pub mod ImageState
 pub mod KeptFile
 pub mod KeptLaws
 pub mod LogLaws
@@ -17,3 +21,4 @@ pub mod Picks
 pub mod Reopens
 pub mod Replays
 pub mod Stored
+pub mod Written

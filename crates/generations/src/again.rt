@@ -3,13 +3,16 @@ ghost use Rattle.std.specs.Prelude.{◌≡◌, true, IfOk, IfErr};
 ghost use Rattle.db_outside.specs.Disk.{InAll};
 ghost use Rattle.gate_journal.specs.Gate.{IsShut};
 ghost use Rattle.generations.specs.Datasets.{pair_in};
+ghost use Rattle.generations.specs.declared.other_gate.OtherGate.TheVariants.{Unread};
 ghost use Rattle.generations.specs.Looks.{IsOpenStop};
 ghost use Rattle.generations.specs.Pairs.{disk_of, moments_of, IfTold, AreAllOnDisk, BothOnlyRead};
 ghost use Rattle.generations.specs.Reopens.{Reopens, StaysQuiet, StopsOpening};
 
+use crate::beside::Beside;
 use crate::dataset::Dataset;
 use crate::file::File;
 use crate::look::{Looked, OpenStop, look};
+use crate::other_gate::OtherGate;
 use crate::pair::Pair;
 use crate::store::DatasetStore;
 use db_outside::Disk;
@@ -18,6 +21,7 @@ use std::alloc::Global;
 
 // The dataset of these parts.
 fn assembled<D: Disk>(
+    alloc: Global,
     disks: Pair<D>,
     second: bool,
     generation: u64,
@@ -26,9 +30,11 @@ fn assembled<D: Disk>(
 ) -> Dataset<D>
     requires clean { journal.clean ≡ true }
     requires shut { InAll (D.image (disk_of second disks)) (IsShut journal.at) }
+    requires durable { AreAllOnDisk D.Disk disks }
     ensures disks { pair_in result ≡ disks }
     ensures second { result.second ≡ second }
     ensures journal { result.file.journal ≡ journal }
+    ensures gate { result.beside.gate ≡ Unread }
     ensures numbers { (result.generation ≡ generation) × (result.entries_read ≡ entries_read) }
 {
     let Pair {
@@ -41,7 +47,11 @@ fn assembled<D: Disk>(
                 disk: other,
                 journal,
             },
-            beside: first,
+            beside: Beside {
+                disk: first,
+                gate: OtherGate::Unread,
+            },
+            alloc,
             second,
             generation,
             entries_read,
@@ -52,7 +62,11 @@ fn assembled<D: Disk>(
             disk: first,
             journal,
         },
-        beside: other,
+        beside: Beside {
+            disk: other,
+            gate: OtherGate::Unread,
+        },
+        alloc,
         second,
         generation,
         entries_read,
@@ -84,7 +98,7 @@ pub fn reopen<D: Disk>(
                 store,
                 entries,
             } = looked;
-            let dataset = assembled(disks, second, generation, journal, entries);
+            let dataset = assembled(alloc, disks, second, generation, journal, entries);
             Ok((dataset, store))
         }
     }

@@ -2,17 +2,20 @@
 ghost use Rattle.std.specs.Prelude.{◌≡◌};
 ghost use Rattle.generations.specs.Datasets.{pair_in, generation_in, entries_read_in, counted_in, place_in};
 
+use crate::beside::Beside;
 use crate::file::File;
 use crate::pair::Pair;
+use crate::store::DatasetStore;
 use db_outside::{Batch, Disk, Failed};
-use db_store::Store;
 use entry_codec::Log;
+use std::alloc::Global;
 
 /// A dataset in two files, of which one counts.
 #[derive(Drop)]
 pub struct Dataset<D: Disk> {
+    pub(crate) alloc: Global,
     pub(crate) file: File<D>,
-    pub(crate) beside: D,
+    pub(crate) beside: Beside<D>,
     pub(crate) second: bool,
     pub(crate) generation: u64,
     pub(crate) entries_read: u64,
@@ -24,6 +27,7 @@ impl<D: Disk> Dataset<D> {
         ensures { result ≡ pair_in self }
     {
         let Dataset {
+            alloc: _,
             file,
             beside,
             second,
@@ -31,6 +35,10 @@ impl<D: Disk> Dataset<D> {
             entries_read: _,
         } = self;
         let File { disk, journal: _ } = file;
+        let Beside {
+            disk: beside,
+            gate: _,
+        } = beside;
         if second {
             return Pair {
                 first: beside,
@@ -73,15 +81,17 @@ impl<D: Disk> Dataset<D> {
 }
 
 /// A dataset keeps all that a log may keep. Its count of faults is that of both disks.
-impl<D: Disk + Drop, St: Store> Log<St> for Dataset<D> {
-    ghost use Rattle.std.specs.Prelude.{◌≡◌, ◌+◌};
+impl<D: Disk + Drop> Log<DatasetStore> for Dataset<D> {
+    ghost use Rattle.std.specs.Prelude.{◌≡◌, ◌+◌, true, false};
     ghost use Rattle.db_outside.specs.Count.{counted};
-    ghost use Rattle.generations.specs.Datasets.{pair_in, generation_in, KeepsIn, moment_in, OpensNowIn, OpensSinceIn, QuietIn};
-    ghost use Rattle.generations.specs.LogLaws.{kept_gives, counts_both};
+    ghost use Rattle.generations.specs.Datasets.{pair_in, generation_in, KeepsIn, OwesIn, faults_of, moment_in, OpensNowIn, OpensSinceIn, QuietIn};
+    ghost use Rattle.generations.specs.LogLaws.{kept_gives, owed_gives, counts_both};
 
-    ghost faults = { λ l. D.faults l.file.disk + D.faults l.beside };
+    ghost faults = { λ l. faults_of l };
 
     ghost Keeps = { λ l s es f. KeepsIn l s es f };
+
+    ghost Owes = { λ l s es f. OwesIn l s es f };
 
     ghost generation = { λ l. generation_in l };
 
@@ -98,6 +108,7 @@ impl<D: Disk + Drop, St: Store> Log<St> for Dataset<D> {
     }
 
     fn append(&mut self, batch: &Batch) -> Result<(), Failed> {
+        self.beside.close_owed()?;
         self.file.append(batch)?;
         Ok(())
     }
@@ -106,10 +117,12 @@ impl<D: Disk + Drop, St: Store> Log<St> for Dataset<D> {
         self.file
             .disk
             .fault_count()
-            .saturating_add(self.beside.fault_count())
+            .saturating_add(self.beside.disk.fault_count())
     }
 
-    ghost kept_opens = { λ l s es f keeps o opens. kept_gives D.image l.second l.generation l.file.journal.at l.file.journal.clean l.file.disk l.beside s es f keeps o opens };
+    ghost kept_opens = { λ l s es f keeps o opens. kept_gives D.image l.second l.generation l.file.journal.at l.file.journal.clean l.file.disk l.beside.disk s es f keeps o opens };
+
+    ghost owes_opens = { λ l s es f owes o opens. owed_gives D.image true l.second l.generation l.file.journal.at l.file.journal.clean l.file.disk l.beside.disk s es f owes o opens };
 
     ghost counts_now = { λ l t o le opens. counts_both (D.image (pair_in l).first) (D.image (pair_in l).second) (D.since (pair_in l).first t.0) (D.since (pair_in l).second t.1) o (λ c now. D.Disk.counts_now (pair_in l).first t.0 c le.0 now) (λ c now. D.Disk.counts_now (pair_in l).second t.1 c le.1 now) opens };
 

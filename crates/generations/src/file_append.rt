@@ -9,8 +9,8 @@ use crate::file::File;
 use db_outside::{Batch, Disk, Failed};
 
 impl<D: Disk> File<D> {
-    // Closes the gate of a record whose append failed there.
-    fn make_clean(&mut self) -> Result<(), Failed>
+    /// Closes the gate of a record whose append failed there.
+    pub fn make_clean(&mut self) -> Result<(), Failed>
         ensures any_moment { (a : List ℕ) (f : Option (List ℕ)) → IsKeptIn self.old a f →
             LeavesOnly D.moment D.since self.old.disk self.new.disk (MayEnd a f) }
         ensures done { OnOk result ((a : List ℕ) (f : Option (List ℕ)) → IsKeptIn self.old a f →

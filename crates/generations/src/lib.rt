@@ -20,6 +20,10 @@
 #![tactic(auto)]
 
 mod again;
+mod beside;
+mod beside_publish;
+mod bytes;
+mod checkpoint;
 mod dataset;
 mod file;
 mod file_append;
@@ -27,15 +31,18 @@ mod header;
 mod look;
 mod new;
 mod open;
+mod other_gate;
 mod pair;
 mod pick;
 mod replay;
 mod store;
 
 pub use again::reopen;
+pub use beside::Beside;
 pub use dataset::Dataset;
 pub use file::File;
 pub use look::OpenStop;
 pub use new::{CreateStop, create};
+pub use other_gate::OtherGate;
 pub use pair::Pair;
 pub use store::DatasetStore;

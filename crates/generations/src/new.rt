@@ -3,7 +3,9 @@ ghost use Rattle.std.specs.Prelude.{◌≡◌, ◌+◌, ◌≤◌, ◌<◌, ◌^
 ghost use Rattle.db_outside.specs.Device.{Rose};
 ghost use Rattle.db_outside.specs.Disk.{IsAllOnDisk, InAll, Begins};
 ghost use Rattle.gate_journal.specs.Reads.{OnlyReads};
-ghost use Rattle.generations.specs.Created.{AreEmpty, IsEmptyBy, AreEmptyBy, IsCreateStop, StopsCreating, IsNew, behind_gate};
+ghost use Rattle.generations.specs.Created.{AreEmpty, IsEmptyBy, AreEmptyBy, IsCreateStop, StopsCreating, IsNew};
+ghost use Rattle.generations.specs.Written.{behind_gate};
+ghost use Rattle.generations.specs.declared.other_gate.OtherGate.TheVariants.{Low};
 ghost use Rattle.generations.specs.Datasets.{KeepsIn};
 ghost use Rattle.generations.specs.Fronts.{Keeps};
 ghost use Rattle.new_image.specs.Schemas.{IsDeclared};
@@ -11,14 +13,16 @@ ghost use Rattle.new_image.specs.Image.{image_of};
 ghost use Rattle.generations.specs.NewState.{new_state};
 ghost use Rattle.generations.specs.Pairs.{IfTold, RoseInOne, BothOnlyRead};
 
+use crate::beside::Beside;
+use crate::bytes::new_bytes;
 use crate::dataset::Dataset;
 use crate::file::File;
+use crate::other_gate::OtherGate;
 use crate::pair::{Pair, sync_both};
 use db_outside::{Disk, Failed};
 use db_value::Schema;
 use gate_journal::{Journal, length_of, set_gate, stage};
 use new_image::image_bytes;
-use sha2::{Digest, Sha256};
 use std::alloc::{AllocError, Global};
 use thiserror::Error;
 
@@ -36,34 +40,17 @@ pub enum CreateStop {
     Memory,
 }
 
-// A closed gate, the header and the image behind it, and the closed gate of the first record.
-fn file_bytes(alloc: Global, image: &[u8]) -> Result<Vec<u8>, AllocError>
-    ensures bytes { IfOk result (λ v. v.items ≡ (0 ∷ behind_gate image.now) ++ 0 ∷ []) }
-    ensures long { IfOk result (λ v. length v.items ≡ 58 + length image.now) }
-{
-    let digest = Sha256::digest(image);
-    let mut bytes: Vec<u8> = Vec::new(alloc);
-    bytes.extend_from_slice(&[0, 68, 69, 67, 73, 66, 69, 76, 49])?;
-    bytes.extend_from_slice(&1u64.to_le_bytes())?;
-    bytes.extend_from_slice(&(image.len() as u64).to_le_bytes())?;
-    bytes.extend_from_slice(&digest)?;
-    bytes.extend_from_slice(image)?;
-    bytes.push(0)?;
-    Ok(bytes)
-}
-
 // The bytes of a new dataset's file, and where its first record goes.
 fn new_file(alloc: Global, schema: &Schema) -> Result<(Vec<u8>, Journal), AllocError>
     ensures bytes { IfOk result (λ r.
-        r.0.items ≡ 0 ∷ (behind_gate (image_of schema.now) ++ 0 ∷ [])) }
+        r.0.items ≡ 0 ∷ (behind_gate 1 (image_of schema.now) ++ 0 ∷ [])) }
     ensures few { IfOk result (λ r. length (image_of schema.now) < 2 ^ 64) }
     ensures at { IfOk result (λ r. r.1.at ≡ 57 + length (image_of schema.now)) }
     ensures clean { IfOk result (λ r. r.1.clean ≡ true) }
 {
     let image = image_bytes(alloc, schema.relations())?;
-    let bytes = file_bytes(alloc, &image)?;
-    let at = bytes.len() as u64 - 1;
-    Ok((bytes, Journal { at, clean: true }))
+    let file = new_bytes(alloc, &image)?;
+    Ok(file)
 }
 
 // Is a file empty? The length alone is asked for.
@@ -96,7 +83,7 @@ fn are_empty<D: Disk>(disks: &mut Pair<D>) -> Result<bool, Failed>
 }
 
 // Writes the bytes behind a closed gate, and then opens it.
-fn publish<D: Disk>(disk: &mut D, bytes: &[u8]) -> Result<(), Failed>
+fn make_file<D: Disk>(disk: &mut D, bytes: &[u8]) -> Result<(), Failed>
     requires { 0 < length bytes.now }
     ensures opened { OnOk result ((back : List ℕ) →
         bytes.now ≡ 0 ∷ back → InAll (D.image disk.new) (Begins (1 ∷ back))) }
@@ -112,7 +99,7 @@ fn publish<D: Disk>(disk: &mut D, bytes: &[u8]) -> Result<(), Failed>
 // Makes a new dataset on two empty files.
 fn made<D: Disk>(alloc: Global, disks: &mut Pair<D>, schema: &Schema) -> Result<Journal, CreateStop>
     requires { IsDeclared schema.now }
-    ensures kept { IfOk result (λ j. Keeps false 1 j.at j.clean
+    ensures kept { IfOk result (λ j. Keeps false 1 j.at j.clean Low
         (D.image disks.new.first) (D.image disks.new.second) (new_state schema.now) [] None) }
     ensures place { IfOk result (λ j. j.at ≡ 57 + length (image_of schema.now)) }
     ensures empty { OnOk result (IfTold D.Disk disks.old AreEmpty) }
@@ -129,7 +116,7 @@ fn made<D: Disk>(alloc: Global, disks: &mut Pair<D>, schema: &Schema) -> Result<
         Ok(file) => file,
         Err(_) => return Err(CreateStop::Memory),
     };
-    match publish(&mut disks.first, &bytes) {
+    match make_file(&mut disks.first, &bytes) {
         Ok(()) => Ok(journal),
         Err(_) => Err(CreateStop::DiskFault),
     }
@@ -160,7 +147,11 @@ pub fn create<D: Disk>(
                     disk: first,
                     journal,
                 },
-                beside: second,
+                beside: Beside {
+                    disk: second,
+                    gate: OtherGate::Low,
+                },
+                alloc,
                 second: false,
                 generation: 1,
                 entries_read: 0,

@@ -3,26 +3,27 @@ ghost use Rattle.std.specs.Prelude.{◌≡◌, ◌+◌, ◌≤◌, ◌<◌, List
 ghost use Rattle.db_outside.specs.Device.{Faulted};
 ghost use Rattle.gate_journal.specs.Reads.{OnlyReads};
 ghost use Rattle.generations.specs.Headers.{IsHeaderOf};
-ghost use Rattle.generations.specs.Openings.{IsImageBy, IsImageOf, EndsImage, IsReplayed, IsOpened, IsCleanOpened};
+ghost use Rattle.generations.specs.Openings.{IsImageBy, IsImageIn, EndsImage, IsReplayed, IsOpened, IsCleanOpened};
 ghost use Rattle.gate_journal.specs.Found.{end_of, SaysClean};
+ghost use Rattle.generations.specs.Stored.{state_in};
 
 use crate::header::{HEADER, Header};
 use crate::replay::{Replayed, take_bodies};
-use crate::store::{DatasetStore, new_store};
+use crate::store::DatasetStore;
+use db_image::decode;
 use db_outside::Disk;
-use db_value::Schema;
 use gate_journal::{Body, Cause, Journal, JournalEnd, ReadStop, bytes_at, read_all};
-use new_image::read_schema;
+use image_parts::ImageStop;
 use sha2::{Digest, Sha256};
 use std::alloc::{AllocError, Global};
 
 /// The last generation.
-const MOST_GENERATION: u64 = 9_223_372_036_854_775_808;
+pub const MOST_GENERATION: u64 = 9_223_372_036_854_775_808;
 
 // What stands in the place of the image.
 pub enum ImageFound {
     Damaged { at: u64, cause: Cause },
-    Whole { schema: Schema },
+    Whole { store: DatasetStore },
 }
 
 // What these bytes are, which the header says are the image.
@@ -35,12 +36,13 @@ fn judged(alloc: Global, header: &Header, image: &[u8]) -> Result<ImageFound, Al
             cause: Cause::Digest,
         });
     }
-    match read_schema(alloc, image)? {
-        None => Ok(ImageFound::Damaged {
-            at: HEADER,
+    match decode(alloc, image) {
+        Err(ImageStop::Memory) => Err(AllocError),
+        Err(ImageStop::NotAnImage { at }) => Ok(ImageFound::Damaged {
+            at: HEADER + at,
             cause: Cause::Grammar,
         }),
-        Some(schema) => Ok(ImageFound::Whole { schema }),
+        Ok(store) => Ok(ImageFound::Whole { store }),
     }
 }
 
@@ -48,7 +50,7 @@ fn judged(alloc: Global, header: &Header, image: &[u8]) -> Result<ImageFound, Al
 fn image_at<D: Disk>(alloc: Global, disk: &mut D, header: &Header) -> Result<ImageFound, ReadStop>
     requires long { HEADER ≤ header.now.len }
     requires says { (s : List ℕ) → D.seen disk.old ≡ Some s → IsHeaderOf (Some header.now) s }
-    ensures told { IfOk result (λ f. (s : List ℕ) → D.seen disk.old ≡ Some s → IsImageOf f s) }
+    ensures told { IfOk result (λ f. (s : List ℕ) → D.seen disk.old ≡ Some s → IsImageIn f s) }
     ensures within { IfOk result (λ f. EndsImage f header.now) }
     ensures reads { OnlyReads D.faults D.writes D.seen D.image D.moment D.since disk.old disk.new }
     ensures cause { IsErrOf result ReadStop.DiskFault → Faulted D.faults disk.old disk.new }
@@ -91,18 +93,18 @@ pub enum Opened {
     },
 }
 
-// The store of a schema's new dataset and the entries of bodies, and where the journal ended.
+// The store of an image and the entries of bodies, and where the journal ended.
 fn replayed(
     alloc: Global,
-    schema: Schema,
+    store: DatasetStore,
     from: u64,
     bodies: &[Body],
     end: JournalEnd,
 ) -> Result<Opened, AllocError>
-    ensures told { IfOk result (λ o. IsReplayed o schema from bodies.now (end_of end)) }
+    ensures told { IfOk result (λ o. IsReplayed o (state_in store) from bodies.now (end_of end)) }
     ensures clean { SaysClean end → IfOk result (λ o. IsCleanOpened o) }
 {
-    let mut store = new_store(alloc, schema)?;
+    let mut store = store;
     match take_bodies(alloc, &mut store, from, bodies)? {
         Replayed::Damaged { at, cause } => Ok(Opened::Damaged { at, cause }),
         Replayed::All { entries } => match end {
@@ -127,10 +129,10 @@ pub fn open_file<D: Disk>(alloc: Global, disk: &mut D, header: &Header) -> Resul
 {
     match image_at(alloc, disk, header)? {
         ImageFound::Damaged { at, cause } => Ok(Opened::Damaged { at, cause }),
-        ImageFound::Whole { schema } => {
+        ImageFound::Whole { store } => {
             let from = HEADER + header.image;
             let (bodies, end) = read_all(alloc, disk, from)?;
-            match replayed(alloc, schema, from, bodies.as_slice(), end) {
+            match replayed(alloc, store, from, bodies.as_slice(), end) {
                 Ok(opened) => Ok(opened),
                 Err(_) => Err(ReadStop::Memory),
             }

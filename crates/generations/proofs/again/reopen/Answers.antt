@@ -18,15 +18,15 @@ returns-in-Ok-clause-opens g c s d told_s told_d =
     let second = c.look.new.disks.second in
     let all_first = one_image (g.D.Disk.seen c.args.disks.first) (g.D.Disk.seen first) (g.D.Disk.image first) s told_s c.look.ensures.reads.first.seen_stays c.in-Ok.ensures.durable.0 in
     let all_second = one_image (g.D.Disk.seen c.args.disks.second) (g.D.Disk.seen second) (g.D.Disk.image second) d told_d c.look.ensures.reads.second.seen_stays c.in-Ok.ensures.durable.1 in
-    let disk = sym (file_of r.second r.file.disk r.beside) ∙ ap (λ (p : Pair g.row.D.Denot). cond r.second p.second p.first) made.disks in
-    let beside = sym (beside_of r.second r.file.disk r.beside) ∙ ap (λ (p : Pair g.row.D.Denot). cond r.second p.first p.second) made.disks in
+    let disk = sym (file_of r.second r.file.disk r.beside.disk) ∙ ap (λ (p : Pair g.row.D.Denot). cond r.second p.second p.first) made.disks in
+    let beside = sym (beside_of r.second r.file.disk r.beside.disk) ∙ ap (λ (p : Pair g.row.D.Denot). cond r.second p.first p.second) made.disks in
     let clean : r.file.journal.clean ≡ true = ap (λ (j : Journal). j.clean) made.journal ∙ c.in-Ok.ensures.clean.clean in (
       t.0,
       t.1 ∙ sym made.numbers.1,
       read,
-      keeps_it r.second r.generation r.file.journal.at r.file.journal.clean (g.D.Disk.image r.file.disk) (g.D.Disk.image r.beside) (state_in l.store) t.0 s d clean read
+      keeps_it r.second r.generation r.file.journal.at r.file.journal.clean r.beside.gate (g.D.Disk.image r.file.disk) (g.D.Disk.image r.beside.disk) (state_in l.store) t.0 s d clean made.gate read
           (all_two g.D.Disk.image r.second first second r.file.disk s d disk all_first all_second)
-          (all_two g.D.Disk.image r.second second first r.beside d s beside all_second all_first),
+          (all_two g.D.Disk.image r.second second first r.beside.disk d s beside all_second all_first),
     )
 
 pub returns-in-Ok-clause-quiet : goal.returns-in-Ok-clause-quiet
