@@ -1,5 +1,5 @@
 -- The state of a journal beside its disk, and what an append makes of it.
-use Rattle.std.specs.Prelude.{◌≡◌, ◌+◌, ◌<◌, ◌&&◌, if◌then◌else◌, ℕ, Bool, true, false, List, length}
+use Rattle.std.specs.Prelude.{◌≡◌, ◌+◌, ◌-◌, ◌^◌, ◌<◌, ◌≤◌, ◌&&◌, if◌then◌else◌, ℕ, Bool, true, false, List, length}
 use Rattle.db_outside.specs.Disk.{InAll}
 use Rattle.gate_journal.specs.Gate.{IsShut, IsBehind, IsOpen}
 use Rattle.gate_journal.specs.declared.place.Journal.{Journal}
@@ -25,6 +25,12 @@ pub record FailsToAppend (bytes : List ℕ) (image : List ℕ → Type 0) (old n
   pub stays : new.at ≡ old.at
   pub shut : new.clean ≡ true → InAll image (IsShut old.at)
   pub behind : new.clean ≡ false → InAll image (IsBehind old.at bytes)
+
+-- the gate at this place is open before these bytes, and no more said to be surely closed; and they end before the greatest number of 64 bits
+pub record IsPublished (at : ℕ) (bytes : List ℕ) (image : List ℕ → Type 0) (shut : Bool) : Type 0 where
+  pub opened : InAll image (IsOpen at bytes)
+  pub past : shut ≡ false
+  pub end : at + 1 + length bytes ≤ 2 ^ 64 - 1
 
 -- after a failure the gate at this place is closed, or its write was called and these bytes stand whole behind it
 pub record IsUnopened (at : ℕ) (bytes : List ℕ) (image : List ℕ → Type 0) (shut : Bool) : Type 0 where

@@ -7,5 +7,5 @@ use Rattle.generations.proofs.beside.Beside.fill.Goals as goal
 pub returns-clause-stands : goal.returns-clause-stands
 returns-clause-stands g c second n s stands next =
     opened_keeps second n s c.args.self.now _ c.args.bytes.now next c.publish-done.ensures.any_moment c.publish-done.new.shut c.gate_after-self.ensures
-    (λ is d now. by_result c.publish-done.result c.publish-done.ensures.past c.publish-done.ensures.failed (λ past. let bad : true ≡ false = sym is ∙ past in absurd (cc bad)) (λ failed. failed.closed is d now))
-    (λ is d now. by_result c.publish-done.result c.publish-done.ensures.opened c.publish-done.ensures.failed (λ opened. open_behind c.args.bytes.now d (opened d now)) (λ failed. failed.behind is d now))
+    (λ is d now. by_result c.publish-done.result c.publish-done.ensures.published c.publish-done.ensures.failed (λ published. let bad : true ≡ false = sym is ∙ published.past in absurd (cc bad)) (λ failed. failed.closed is d now))
+    (λ is d now. by_result c.publish-done.result c.publish-done.ensures.published c.publish-done.ensures.failed (λ published. open_behind c.args.bytes.now d (published.opened d now)) (λ failed. failed.behind is d now))
