@@ -1,5 +1,5 @@
 -- A seat that is given to a session that has no line yet.
-use Rattle.std.proofs.Common.{◌≡◌, ⊎_elim, ℕ, ◌+◌, ◌<◌, List, [], ◌∷◌, ◌++◌, length, refl, sym, subst, arith}
+use Rattle.std.proofs.Common.{◌≡◌, ⊎_elim, ℕ, ◌+◌, ◌<◌, List, [], ◌∷◌, ◌++◌, length, refl, sym, ap, ◌∙◌, subst, arith}
 use Rattle.atomic_table.specs.Seated.{TableId}
 use Rattle.db_store.specs.Sound.{IsSound}
 use Rattle.db_store.specs.Counted.{IsCounted}
@@ -8,7 +8,7 @@ use Rattle.db_store.specs.State.{State, dataset_of}
 use Rattle.history_note.specs.declared.view.NotedLine.{NotedLine}
 use Rattle.history_note.specs.Places.{IsNoted, IsIssued}
 use Rattle.history_note.specs.Places.{AllIssued}
-use Rattle.history_note.specs.Shown.{AtNote, AtPen, AtPass, noting, issued_pass}
+use Rattle.history_note.specs.Shown.{AtNote, AtPen, AtPass, new_pen, noting, issued_pass}
 use Rattle.history_note.proofs.Counting.{no_places, noted_more, noted_last}
 use Rattle.db_core.specs.Kept.{Kept, Stands, saids, new_kept}
 use Rattle.db_core.specs.Desk.{AtDesk, Agrees, AllOthers, new_desk}
@@ -23,6 +23,23 @@ use Rattle.db_hub.proofs.Standings.{agrees_at}
 all_issued : (noted : List (ℕ × ℕ)) (ls : List NotedLine) → AllNoted noted ls → AllIssued noted ls
 all_issued noted [] a = tt
 all_issued noted (l ∷ ls) a = ((session_of l, a.0), all_issued noted ls a.1)
+
+-- a room for a board on which nothing was run
+pub room_new : (named : TableId) (numbers : List (ℕ × ℕ)) (o : State) (since : ℕ → ℕ) (note : AtNote) (pen : AtPen) (b : Kept) → note ≡ record { note = named; opening = o } → pen ≡ new_pen note → b.opening ≡ o → b.steps ≡ [] → Stands b → RoomFits named numbers o since note pen b [] 0
+room_new named numbers o since note pen b n p opened none stands = subst (λ (x : AtNote × AtPen). RoomFits named numbers o since x.0 x.1 b [] 0) (λ i. (sym n i, sym (p ∙ ap new_pen n) i)) (record {
+  note_is = refl;
+  pen_is = refl;
+  pen_opening = refl;
+  opening_is = opened;
+  steps_are = none;
+  owes_nothing = refl;
+  stands = stands;
+  lines_noted = tt;
+  below = λ m s a. absurd a;
+  out_fits = record { single = λ s m k a c. absurd a; known = λ m s a. absurd a; own = λ m s a. absurd a };
+  all_named = λ m s a. absurd a;
+  all_out = λ m s a. absurd a;
+})
 
 -- the desk of a session that has no line
 pub new_agrees : (b : Kept) (o : State) (session : ℕ) → Stands b → b.opening ≡ o → AllOthers session (saids b.steps) → Agrees b (new_desk session (dataset_of o).schema)

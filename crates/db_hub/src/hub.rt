@@ -5,11 +5,12 @@ ghost use Rattle.db_core.specs.Sits.{heard};
 ghost use Rattle.db_core.specs.Kept.{Stands};
 ghost use Rattle.db_hub.specs.Entered.{steps_of};
 ghost use Rattle.db_hub.specs.Own.{AllNoted};
+ghost use Rattle.db_hub.specs.Rooms.{StoresSince};
 ghost use Rattle.db_hub.specs.Seats.{SeatVisited, SeatClosed, SeatFailed};
 
 use crate::room::{Room, Shut};
 use crate::seat::Seat;
-use crate::tag::Tag;
+use crate::tag::LogTag;
 use db_store::Store;
 use db_value::{LineText, Reply};
 use entry_codec::Log;
@@ -20,11 +21,11 @@ use stmt_text::Stmt;
 
 /// A hub is a room under a lock, which threads share.
 #[derive(Drop)]
-pub struct Hub<St: Store, J: Log<St>, T: Tag> {
+pub struct Hub<St: Store, J: Log<St>, T: LogTag<J>> {
     pub lock: Mutex<Room<St, J, T>>,
 }
 
-impl<St: Store, J: Log<St>, T: Tag> Hub<St, J, T> {
+impl<St: Store, J: Log<St>, T: LogTag<J>> Hub<St, J, T> {
     /// A hub of a room, on which the seats were made before.
     pub fn new(room: Room<St, J, T>) -> Hub<St, J, T> {
         Hub {
@@ -68,12 +69,15 @@ impl<St: Store, J: Log<St>, T: Tag> Hub<St, J, T> {
         }
     }
 
-    /// The board, the note and its pen, whose list is that of the board's steps.
+    /// The board, whose log did for its lines what a log does, the note and its pen, whose list is that
+    /// of the board's steps.
     pub fn into_board(self) -> Shut<St, J>
         ensures named { (result.note.note ≡ T.note) × (result.pen.note ≡ T.note) }
         ensures opened { (result.board.kept.opening ≡ T.opened)
             × (result.board.kept.first_count ≡ T.first) }
         ensures stands { Stands result.board.kept }
+        ensures stores { StoresSince J.faults J.Keeps J.generation J.moment J.opens_since J.Quiet
+            T.log result.board }
         ensures steps { result.board.kept.steps ≡ steps_of result.pen.lines }
         ensures noted { AllNoted T.numbers result.pen.lines }
         ensures owed { result.pen.owed ≡ [] }

@@ -11,7 +11,7 @@
 //! | `specs/Rooms.antt`, `src/writing.rt` | steps that are written to the note, and what lies under the lock |
 //! | `src/room.rt` | what lies under the lock |
 //! | `src/hub.rt` | the room under a lock, which threads share |
-//! | `src/tag.rt` | the name of a note, and of the numbers that its pen has noted |
+//! | `src/tag.rt` | the names of a note, of the numbers that its pen has noted, and of the first log |
 #![tactic(auto)]
 
 mod hub;
@@ -23,4 +23,4 @@ mod writing;
 pub use hub::Hub;
 pub use room::{Room, Shut};
 pub use seat::Seat;
-pub use tag::Tag;
+pub use tag::{LogTag, Tag};

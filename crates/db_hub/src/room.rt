@@ -1,5 +1,5 @@
 //! What lies under the lock: a board, and a note that says what stands in its list.
-ghost use Rattle.std.specs.Prelude.{◌≡◌, [], false, true, IfOk, OnOk, OnErr};
+ghost use Rattle.std.specs.Prelude.{◌≡◌, [], Some, false, true, IfOk, OnOk, OnErr};
 ghost use Rattle.history_note.specs.Shown.{new_pen};
 ghost use Rattle.db_core.specs.Order.{said_of};
 ghost use Rattle.db_core.specs.Kept.{Stands};
@@ -9,10 +9,10 @@ ghost use Rattle.db_core.specs.Desk.{entered};
 ghost use Rattle.db_hub.specs.Entered.{steps_of};
 ghost use Rattle.db_hub.specs.Own.{AllNoted};
 ghost use Rattle.db_hub.specs.Seats.{SeatVisited, SeatCaughtUp, SeatFailed};
-ghost use Rattle.db_hub.specs.Rooms.{new_room, MaySeat, giving, given_seat, RoomStays};
+ghost use Rattle.db_hub.specs.Rooms.{new_room, MaySeat, giving, given_seat, RoomStays, StoresSince};
 
 use crate::seat::Seat;
-use crate::tag::Tag;
+use crate::tag::LogTag;
 use crate::writing::write_and_give;
 use db_core::{Board, Desk};
 use db_store::Store;
@@ -26,7 +26,7 @@ use stmt_text::Stmt;
 /// A room is a board, a note with its pen, the seats that are out, each a number with its session,
 /// and how many numbers were issued. It lies under a lock, and threads share that.
 #[derive(Drop)]
-pub struct Room<St: Store, J: Log<St>, T: Tag> {
+pub struct Room<St: Store, J: Log<St>, T: LogTag<J>> {
     alloc: Global,
     pub board: Board<St, J>,
     pub note: Note<St>,
@@ -36,11 +36,11 @@ pub struct Room<St: Store, J: Log<St>, T: Tag> {
     of: PhantomData<T>,
 }
 
-impl<St: Store, J: Log<St>, T: Tag> Model for Room<St, J, T> {
+impl<St: Store, J: Log<St>, T: LogTag<J>> Model for Room<St, J, T> {
     ghost use Rattle.std.specs.Prelude.{◌≡◌};
     ghost use Rattle.std.specs.Coded.{codes};
     ghost use Rattle.db_store.specs.Table.{contents_code};
-    ghost use Rattle.db_hub.specs.Rooms.{AtRoom, RoomFits};
+    ghost use Rattle.db_hub.specs.Rooms.{AtRoom, RoomFits, StoresSince};
 
     ghost Value = { AtRoom J };
 
@@ -51,7 +51,8 @@ impl<St: Store, J: Log<St>, T: Tag> Model for Room<St, J, T> {
 
     ghost invariant = { λ r. RoomFits T.note T.numbers T.opened T.since
         r.note r.pen r.board.kept r.out.items r.issued
-        × (r.board.kept.first_count ≡ T.first) };
+        × (r.board.kept.first_count ≡ T.first)
+        × StoresSince J.faults J.Keeps J.generation J.moment J.opens_since J.Quiet T.log r.board };
 }
 
 /// What a room leaves.
@@ -62,13 +63,14 @@ pub struct Shut<St: Store, J: Log<St>> {
     pub pen: Pen<St>,
 }
 
-impl<St: Store, J: Log<St>, T: Tag> Room<St, J, T> {
+impl<St: Store, J: Log<St>, T: LogTag<J>> Room<St, J, T> {
     /// A room for a board on which nothing was run.
     pub fn new(alloc: Global, board: Board<St, J>, note: Note<St>, pen: Pen<St>) -> Room<St, J, T>
         requires board { Stands board.kept }
         requires fresh { board.kept.steps ≡ [] }
         requires opened { (board.kept.opening ≡ T.opened)
             × (board.kept.first_count ≡ T.first) }
+        requires log { T.log ≡ Some board.log }
         requires note { note ≡ record { note = T.note; opening = T.opened } }
         requires pen { pen ≡ new_pen note }
         ensures { result ≡ new_room board pen }
@@ -177,14 +179,16 @@ impl<St: Store, J: Log<St>, T: Tag> Room<St, J, T> {
         told
     }
 
-    /// The board, the note and its pen. The pen's list is the list of the board's steps, and the board
-    /// stands.
+    /// The board, the note and its pen. The pen's list is the list of the board's steps, the board
+    /// stands, and its log did for them what a log does.
     pub fn into_board(self) -> Shut<St, J>
         ensures parts { (result.board ≡ self.board) × (result.pen ≡ self.pen) }
         ensures named { (result.note.note ≡ T.note) × (self.pen.note ≡ T.note) }
         ensures opened { (self.board.kept.opening ≡ T.opened)
             × (self.board.kept.first_count ≡ T.first) }
         ensures stands { Stands self.board.kept }
+        ensures stores { StoresSince J.faults J.Keeps J.generation J.moment J.opens_since J.Quiet
+            T.log self.board }
         ensures steps { self.board.kept.steps ≡ steps_of self.pen.lines }
         ensures noted { AllNoted T.numbers self.pen.lines }
     {

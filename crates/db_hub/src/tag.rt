@@ -20,6 +20,13 @@ pub trait Tag {
     ghost since: { ℕ → ℕ };
 }
 
+/// Names besides the log that the board of a hub had when the hub was made, if it names one.
+pub trait LogTag<J>: Tag {
+    ghost use Rattle.std.specs.Prelude.{Option};
+
+    ghost log: { Option J };
+}
+
 impl Tag for Brand {
     ghost use Rattle.std.specs.Prelude.{[]};
     ghost use Rattle.history_note.specs.Shown.{nothing};
@@ -34,4 +41,10 @@ impl Tag for Brand {
     ghost numbers = { [] };
 
     ghost since = { λ n. 0 };
+}
+
+impl<J> LogTag<J> for Brand {
+    ghost use Rattle.std.specs.Prelude.{None};
+
+    ghost log = { None };
 }

@@ -11,4 +11,3 @@ pub mod Placing
 pub mod Tying
 pub mod Sessions
 pub mod Finishing
-pub mod Few

@@ -4,7 +4,7 @@ ghost use Rattle.stmt_text.specs.Sections.{AllOwn, Above};
 ghost use Rattle.session_run.specs.Runs.{JobAt, RanAt, AreReady, AreRun, numbers_of, IsUnused};
 
 use crate::section::run_section;
-use db_hub::{Hub, Room, Seat, Tag};
+use db_hub::{Hub, LogTag, Room, Seat, Tag};
 use db_store::Store;
 use entry_codec::Log;
 use history_note::Pass;
@@ -41,7 +41,7 @@ impl<St: Store, T: Tag> Model for Job<St, T> {
 }
 
 /// A seat for each section, on a room that has given none.
-pub fn seated<St: Store, J: Log<St>, T: Tag>(
+pub fn seated<St: Store, J: Log<St>, T: LogTag<J>>(
     alloc: Global,
     room: &mut Room<St, J, T>,
     sections: &[Section],
@@ -66,7 +66,7 @@ pub fn seated<St: Store, J: Log<St>, T: Tag>(
 }
 
 // Runs the section of a job.
-fn run_job<St: Store, J: Log<St>, T: Tag, R: Wait>(
+fn run_job<St: Store, J: Log<St>, T: LogTag<J>, R: Wait>(
     rt: &R,
     alloc: Global,
     hub: &Hub<St, J, T>,
@@ -99,7 +99,7 @@ fn run_job<St: Store, J: Log<St>, T: Tag, R: Wait>(
 pub fn run_jobs<
     St: Store + Send + Sync,
     J: Log<St> + Send + Sync,
-    T: Tag + Send + Sync,
+    T: LogTag<J> + Send + Sync,
     R: Threads + Wait + Sync,
 >(rt: &R, alloc: Global, hub: &Hub<St, J, T>, sections: &[Section], jobs: &mut [Job<St, T>])
 where

@@ -1,14 +1,15 @@
 //! Sections, each on a thread of its own, at one board.
-ghost use Rattle.std.specs.Prelude.{◌≡◌, ◌≤◌, ℕ, [], length, IfOk, IfErr};
+ghost use Rattle.std.specs.Prelude.{◌≡◌, ◌≤◌, ℕ, [], length, Some, IfOk, IfErr, MatchResult};
 ghost use Rattle.stmt_text.specs.Sections.{AllOwn, Above};
 ghost use Rattle.history_note.specs.Shown.{new_pen};
 ghost use Rattle.db_core.specs.Kept.{Stands};
+ghost use Rattle.db_core.specs.Runs.{StoresSteps};
 ghost use Rattle.session_run.specs.Runs.{HasRun, IsNew, IsInterleaving, IsBeginning, IsNamed};
 
 use crate::jobs::{run_jobs, seated};
 use crate::tie::tie_all;
 use db_core::Board;
-use db_hub::{Hub, Room, Tag};
+use db_hub::{Hub, LogTag, Room};
 use db_store::Store;
 use entry_codec::Log;
 use history_note::{Note, Pen};
@@ -30,7 +31,7 @@ pub enum Unfinished {
 fn run_named<
     St: Store + Send + Sync,
     J: Log<St> + Send + Sync,
-    T: Tag + Send + Sync,
+    T: LogTag<J> + Send + Sync,
     R: Threads + Wait + Sync,
 >(
     rt: &R,
@@ -48,11 +49,16 @@ where
     requires board { IsNew board.kept }
     requires note { (note.opening ≡ board.kept.opening) × (pen ≡ new_pen note) }
     requires named { IsNamed T.note T.opened T.first T.numbers T.since
-        note board.kept sections.now }
+        note board.kept sections.now × (T.log ≡ Some board.log) }
     ensures ok { IfOk result (λ b. HasRun board.kept b.kept
         × IsInterleaving board.kept.opening sections.now b.kept.steps) }
     ensures err { IfErr result (λ e. HasRun board.kept e.1.kept
         × IsBeginning e.0 board.kept.opening sections.now e.1.kept.steps) }
+    ensures stored { MatchResult result
+        (λ b. StoresSteps J.faults J.Keeps J.generation J.moment J.opens_since J.Quiet
+        board.log b)
+        (λ e. StoresSteps J.faults J.Keeps J.generation J.moment J.opens_since J.Quiet
+        board.log e.1) }
 {
     let mut room = Room::<St, J, T>::new(alloc, board, note, pen);
     match seated(alloc, &mut room, sections) {
@@ -83,6 +89,7 @@ where
 /// Runs each section on a thread of its own, on a board on which nothing was run. The board's list is then an interleaving of the
 /// sections, in which each line has the reply of its whole transaction. A section whose thread can't be started runs on the thread
 /// that would have started it. After want of memory the list, with its replies, has a beginning of each section, unless a pass was lost.
+/// In either case the log did for the lines of the list, as if they had been run one after another, what a log does.
 pub fn run_sessions<St: Store + Send + Sync, J: Log<St> + Send + Sync, R: Threads + Wait + Sync>(
     rt: &R,
     alloc: Global,
@@ -93,12 +100,16 @@ where
     St::View: Send + Sync,
     St::Prepared: Send + Sync,
     St::PreparedBranch: Send + Sync,
-    requires few { length sections.now ≤ 65 }
     requires board { IsNew board.kept }
     ensures ok { IfOk result (λ b. HasRun board.kept b.kept
         × IsInterleaving board.kept.opening sections.now b.kept.steps) }
     ensures err { IfErr result (λ e. HasRun board.kept e.1.kept
         × IsBeginning e.0 board.kept.opening sections.now e.1.kept.steps) }
+    ensures stored { MatchResult result
+        (λ b. StoresSteps J.faults J.Keeps J.generation J.moment J.opens_since J.Quiet
+        board.log b)
+        (λ e. StoresSteps J.faults J.Keeps J.generation J.moment J.opens_since J.Quiet
+        board.log e.1) }
 {
     match Note::new(alloc, board.store()) {
         Err(AllocError) => Err((Unfinished::Memory, board)),

@@ -6,7 +6,7 @@ ghost use Rattle.db_core.specs.Order.{said_of};
 ghost use Rattle.db_core.specs.Sits.{heard};
 ghost use Rattle.session_run.specs.Said.{said_at, texts_in, abort_text, IsTold, KeepsSaid, IsReady, HasSaidAll, HasSaidPart, IsEnded, HasLines, HasFront};
 
-use db_hub::{Hub, Seat, Tag};
+use db_hub::{Hub, LogTag, Seat};
 use db_store::Store;
 use db_value::LineText;
 use entry_codec::Log;
@@ -32,7 +32,7 @@ fn abort_line(alloc: Global, session: u32) -> Result<LineText, AllocError>
 }
 
 // The seat answers a line by itself, or the hub does.
-fn run_line<St: Store, J: Log<St>, T: Tag, R: Wait>(
+fn run_line<St: Store, J: Log<St>, T: LogTag<J>, R: Wait>(
     rt: &R,
     alloc: Global,
     hub: &Hub<St, J, T>,
@@ -61,7 +61,7 @@ fn run_line<St: Store, J: Log<St>, T: Tag, R: Wait>(
 }
 
 // The lines of a section, in order.
-fn run_lines<St: Store, J: Log<St>, T: Tag, R: Wait>(
+fn run_lines<St: Store, J: Log<St>, T: LogTag<J>, R: Wait>(
     rt: &R,
     alloc: Global,
     hub: &Hub<St, J, T>,
@@ -81,7 +81,7 @@ fn run_lines<St: Store, J: Log<St>, T: Tag, R: Wait>(
 }
 
 // The lines of a section, and an abort if they leave a transaction open.
-fn say_all<St: Store, J: Log<St>, T: Tag, R: Wait>(
+fn say_all<St: Store, J: Log<St>, T: LogTag<J>, R: Wait>(
     rt: &R,
     alloc: Global,
     hub: &Hub<St, J, T>,
@@ -101,7 +101,7 @@ fn say_all<St: Store, J: Log<St>, T: Tag, R: Wait>(
 }
 
 /// Runs a section on its seat, and gives the seat up. After want of memory the seat comes back.
-pub fn run_section<St: Store, J: Log<St>, T: Tag, R: Wait>(
+pub fn run_section<St: Store, J: Log<St>, T: LogTag<J>, R: Wait>(
     rt: &R,
     alloc: Global,
     hub: &Hub<St, J, T>,

@@ -8,6 +8,7 @@ use Rattle.db_core.specs.Desk.{AtDesk, entered}
 use Rattle.db_hub.specs.Seats.{AtSeat, seat_at, PassFits, PassFitsIf, SeatCaughtUp, SeatFailed}
 use Rattle.db_hub.specs.Rooms.{AtRoom, RoomStays, PenGrown, PassGrown}
 use Rattle.db_hub.proofs.Visits.{caught_by, same_caught, first_caught, on_ok, noted_now, grows_caught, caught_now, failed_caught, agree, issued_now, as_many, owes_still, carries_it, room_for, room_now, whole_now, pass_now}
+use Rattle.db_hub.proofs.Storing.{since_caught}
 use Rattle.db_hub.proofs.room.Room.catch_up.Goals as goal
 
 pub enter-told-requires : goal.enter-told-requires
@@ -100,8 +101,11 @@ invariant_of-self g c =
     let from : ℕ = length c.steps-from.result.now in
     let from_is : from ≡ length board.steps = ap (λ (ss : List Step). length ss) c.steps-from.ensures in
     let pen2 : AtPen = c.write_and_give.new.pen in
-    let grown : PenGrown pen1 pen2 n (drop from grown2.steps) = subst (λ (ss : List Step). PenGrown pen1 pen2 n (drop from ss)) c.steps.ensures c.write_and_give.ensures.pen in
-    (room_now named numbers o since note pen0 board out issued rf n k q pf pen1 taken fits grown2 more.0 more.1 now.stands pen2 from from_is grown, first_caught board grown2 k k1 c.enter-told.result caught ∙ c.self.invariant.1)
+    let grown : PenGrown pen1 pen2 n (drop from grown2.steps) = subst (λ (ss : List Step). PenGrown pen1 pen2 n (drop from ss)) c.steps.ensures c.write_and_give.ensures.pen in (
+      room_now named numbers o since note pen0 board out issued rf n k q pf pen1 taken fits grown2 more.0 more.1 now.stands pen2 from from_is grown,
+      first_caught board grown2 k k1 c.enter-told.result caught ∙ c.self.invariant.1,
+      since_caught g.J.Log.faults g.J.Log.Keeps g.J.Log.generation g.J.Log.moment g.J.Log.opens_since g.J.Log.Quiet g.T.LogTag.log c.self.inside.board c.enter-told.new.self k k1 (agree named numbers o since note pen0 board out issued rf n k q pf pen1 taken fits) c.self.invariant.2 c.enter-told.result c.enter-told.ensures.ok c.enter-told.ensures.err,
+    )
 
 pub invariant_of-self-2 : goal.invariant_of-self-2
 invariant_of-self-2 g c =
@@ -133,8 +137,11 @@ invariant_of-self-2 g c =
     let from : ℕ = length c.steps-from.result.now in
     let from_is : from ≡ length board.steps = ap (λ (ss : List Step). length ss) c.steps-from.ensures in
     let pen2 : AtPen = c.write_and_give.new.pen in
-    let grown : PenGrown pen1 pen2 n (drop from grown2.steps) = subst (λ (ss : List Step). PenGrown pen1 pen2 n (drop from ss)) c.steps.ensures c.write_and_give.ensures.pen in
-    (room_now named numbers o since note pen0 board out issued rf n k q pf pen1 taken fits grown2 more.0 more.1 now.stands pen2 from from_is grown, first_caught board grown2 k k1 c.enter-told.result caught ∙ c.self.invariant.1)
+    let grown : PenGrown pen1 pen2 n (drop from grown2.steps) = subst (λ (ss : List Step). PenGrown pen1 pen2 n (drop from ss)) c.steps.ensures c.write_and_give.ensures.pen in (
+      room_now named numbers o since note pen0 board out issued rf n k q pf pen1 taken fits grown2 more.0 more.1 now.stands pen2 from from_is grown,
+      first_caught board grown2 k k1 c.enter-told.result caught ∙ c.self.invariant.1,
+      since_caught g.J.Log.faults g.J.Log.Keeps g.J.Log.generation g.J.Log.moment g.J.Log.opens_since g.J.Log.Quiet g.T.LogTag.log c.self.inside.board c.enter-told.new.self k k1 (agree named numbers o since note pen0 board out issued rf n k q pf pen1 taken fits) c.self.invariant.2 c.enter-told.result c.enter-told.ensures.ok c.enter-told.ensures.err,
+    )
 
 pub returns-in_err-pass-clause-stays : goal.returns-in_err-pass-clause-stays
 returns-in_err-pass-clause-stays g c =

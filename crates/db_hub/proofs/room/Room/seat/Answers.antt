@@ -38,7 +38,7 @@ invariant_of-self-in_err-pass g c =
     let rf = c.self.invariant.0 in
     let session : ℕ = c.args.session in
     let view = c.self.view_is in
-    (room_same named numbers o since note pen0 board out issued rf session c.issue.new.pen c.reserve.new.self.items c.in_err-pass.ensures.failed c.reserve.ensures.items, c.self.invariant.1)
+    (room_same named numbers o since note pen0 board out issued rf session c.issue.new.pen c.reserve.new.self.items c.in_err-pass.ensures.failed c.reserve.ensures.items, c.self.invariant.1, c.self.invariant.2)
 
 pub invariant_of-result : goal.invariant_of-result
 invariant_of-result g c =
@@ -82,6 +82,7 @@ invariant_of-self-2 g c =
       room_given named numbers o since note pen0 board out issued rf session c.issue.new.pen c.push_reserved.new.self.items c.in_ok-pass.ensures.pen (c.push_reserved.ensures.items ∙ ap (λ (l : List (ℕ × ℕ)). l ++ (issued, session) ∷ []) c.reserve.ensures.items)
           (subst (λ (r : AtRoom _). (n : ℕ) → IsNoted r.out n session → ⊥) (sym view) c.requires.free) at (subst (λ (r : AtRoom _). IsNoted numbers r.issued session) (sym view) c.requires.named),
       c.self.invariant.1,
+      c.self.invariant.2,
     )
 
 pub returns-clause-seat : goal.returns-clause-seat

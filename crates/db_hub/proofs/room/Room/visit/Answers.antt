@@ -11,6 +11,7 @@ use Rattle.db_core.specs.Desk.{AtDesk, entered}
 use Rattle.db_hub.specs.Seats.{AtSeat, seat_at, PassFits, PassFitsIf, SeatVisited, SeatFailed}
 use Rattle.db_hub.specs.Rooms.{AtRoom, RoomStays, PenGrown, PassGrown}
 use Rattle.db_hub.proofs.Visits.{told_by, first_told, on_ok, noted_now, grows_told, visited_told, failed_told, agree, issued_now, as_many, owes_still, carries_it, room_for, room_now, whole_now, pass_now}
+use Rattle.db_hub.proofs.Storing.{since_told}
 use Rattle.db_hub.proofs.room.Room.visit.Goals as goal
 
 pub visit-told-requires-clause-agree : goal.visit-told-requires-clause-agree
@@ -130,8 +131,11 @@ invariant_of-self g c =
     let from : ℕ = length c.steps-from.result.now in
     let from_is : from ≡ length board.steps = ap (λ (ss : List Step). length ss) c.steps-from.ensures in
     let pen2 : AtPen = c.write_and_give.new.pen in
-    let grown : PenGrown pen1 pen2 n (drop from grown2.steps) = subst (λ (ss : List Step). PenGrown pen1 pen2 n (drop from ss)) c.steps.ensures c.write_and_give.ensures.pen in
-    (room_now named numbers o since note pen0 board out issued rf n k q pf pen1 taken fits grown2 more.0 more.1 now.stands pen2 from from_is grown, first_told board grown2 k k1 text c.visit-told.result told ∙ c.self.invariant.1)
+    let grown : PenGrown pen1 pen2 n (drop from grown2.steps) = subst (λ (ss : List Step). PenGrown pen1 pen2 n (drop from ss)) c.steps.ensures c.write_and_give.ensures.pen in (
+      room_now named numbers o since note pen0 board out issued rf n k q pf pen1 taken fits grown2 more.0 more.1 now.stands pen2 from from_is grown,
+      first_told board grown2 k k1 text c.visit-told.result told ∙ c.self.invariant.1,
+      since_told g.J.Log.faults g.J.Log.Keeps g.J.Log.generation g.J.Log.moment g.J.Log.opens_since g.J.Log.Quiet g.T.LogTag.log c.self.inside.board c.visit-told.new.self k k1 (agree named numbers o since note pen0 board out issued rf n k q pf pen1 taken fits) c.self.invariant.2 text c.visit-told.result c.visit-told.ensures.answered c.visit-told.ensures.err,
+    )
 
 pub invariant_of-self-2 : goal.invariant_of-self-2
 invariant_of-self-2 g c =
@@ -165,8 +169,11 @@ invariant_of-self-2 g c =
     let from : ℕ = length c.steps-from.result.now in
     let from_is : from ≡ length board.steps = ap (λ (ss : List Step). length ss) c.steps-from.ensures in
     let pen2 : AtPen = c.write_and_give.new.pen in
-    let grown : PenGrown pen1 pen2 n (drop from grown2.steps) = subst (λ (ss : List Step). PenGrown pen1 pen2 n (drop from ss)) c.steps.ensures c.write_and_give.ensures.pen in
-    (room_now named numbers o since note pen0 board out issued rf n k q pf pen1 taken fits grown2 more.0 more.1 now.stands pen2 from from_is grown, first_told board grown2 k k1 text c.visit-told.result told ∙ c.self.invariant.1)
+    let grown : PenGrown pen1 pen2 n (drop from grown2.steps) = subst (λ (ss : List Step). PenGrown pen1 pen2 n (drop from ss)) c.steps.ensures c.write_and_give.ensures.pen in (
+      room_now named numbers o since note pen0 board out issued rf n k q pf pen1 taken fits grown2 more.0 more.1 now.stands pen2 from from_is grown,
+      first_told board grown2 k k1 text c.visit-told.result told ∙ c.self.invariant.1,
+      since_told g.J.Log.faults g.J.Log.Keeps g.J.Log.generation g.J.Log.moment g.J.Log.opens_since g.J.Log.Quiet g.T.LogTag.log c.self.inside.board c.visit-told.new.self k k1 (agree named numbers o since note pen0 board out issued rf n k q pf pen1 taken fits) c.self.invariant.2 text c.visit-told.result c.visit-told.ensures.answered c.visit-told.ensures.err,
+    )
 
 pub returns-in_err-pass-clause-stays : goal.returns-in_err-pass-clause-stays
 returns-in_err-pass-clause-stays g c =
