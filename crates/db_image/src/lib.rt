@@ -13,7 +13,9 @@
 //! | `src/whole.rt` | the parts of a layout, from an image |
 //! | `specs/Stores.antt`, `src/decoding.rt` | the store of which bytes are an image |
 //! | `src/laws.rt` | these parts are sound, and can be made |
-//! | `specs/Images.antt`, `specs/Imaged.antt` | the image of a layout, and of which layouts it tells all |
+//! | `specs/Images.antt` | the image of a layout |
+//! | `specs/Rules.antt` | the rules of an image, part by part |
+//! | `specs/Imaged.antt` | the layouts of which an image tells all, and those of which it keeps the rules |
 //! | `src/image_versions.rt` | relations, branches and versions of an image, from those of a store |
 //! | `src/image_deltas.rt`, `src/image_segments.rt` | deltas, rows and segments, from those of a store |
 //! | `src/encoding.rt` | the bytes of the image of a store |
