@@ -5,7 +5,7 @@ use Rattle.db_value.specs.declared.entry.Entry.{Entry}
 use Rattle.db_value.specs.declared.reply.Reply.{Reply}
 use Rattle.db_store.specs.State.{State}
 use Rattle.entry_codec.specs.Logs.{Opening}
-use Rattle.db_core.specs.Kept.{Kept, Logged}
+use Rattle.db_core.specs.Kept.{Logged}
 use Rattle.db_core.specs.Answered.{Ran}
 use Rattle.db_core.specs.Desk.{AtDesk, Agrees, IsLeft, entered, cleared}
 use Rattle.db_core.specs.Runs.{StoresSteps}
