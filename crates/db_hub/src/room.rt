@@ -66,8 +66,7 @@ pub struct Shut<St: Store, J: Log<St>> {
 impl<St: Store, J: Log<St>, T: LogTag<J>> Room<St, J, T> {
     /// A room for a board on which nothing was run.
     pub fn new(alloc: Global, board: Board<St, J>, note: Note<St>, pen: Pen<St>) -> Room<St, J, T>
-        requires board { Stands board.kept }
-        requires fresh { board.kept.steps ≡ [] }
+        requires board { Stands board.kept × (board.kept.steps ≡ []) }
         requires opened { (board.kept.opening ≡ T.opened)
             × (board.kept.first_count ≡ T.first) }
         requires log { T.log ≡ Some board.log }
@@ -186,10 +185,10 @@ impl<St: Store, J: Log<St>, T: LogTag<J>> Room<St, J, T> {
         ensures named { (result.note.note ≡ T.note) × (self.pen.note ≡ T.note) }
         ensures opened { (self.board.kept.opening ≡ T.opened)
             × (self.board.kept.first_count ≡ T.first) }
-        ensures stands { Stands self.board.kept }
         ensures stores { StoresSince J.faults J.Keeps J.generation J.moment J.opens_since J.Quiet
             T.log self.board }
-        ensures steps { self.board.kept.steps ≡ steps_of self.pen.lines }
+        ensures stands { Stands self.board.kept
+            × (self.board.kept.steps ≡ steps_of self.pen.lines) }
         ensures noted { AllNoted T.numbers self.pen.lines }
     {
         let Room {

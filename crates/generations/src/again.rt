@@ -32,10 +32,9 @@ fn assembled<D: Disk>(
     requires shut { InAll (D.image (disk_of second disks)) (IsShut journal.at) }
     requires durable { AreAllOnDisk D.Disk disks }
     ensures disks { pair_in result ≡ disks }
-    ensures second { result.second ≡ second }
-    ensures journal { result.file.journal ≡ journal }
-    ensures gate { result.beside.gate ≡ Unread }
-    ensures numbers { (result.generation ≡ generation) × (result.entries_read ≡ entries_read) }
+    ensures told { (result.second ≡ second) × (result.generation ≡ generation)
+        × (result.entries_read ≡ entries_read) }
+    ensures gates { (result.file.journal ≡ journal) × (result.beside.gate ≡ Unread) }
 {
     let Pair {
         first,

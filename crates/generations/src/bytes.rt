@@ -22,8 +22,8 @@ fn with_image(
     image: &[u8],
 ) -> Result<Vec<u8>, AllocError>
     ensures bytes { IfOk result (λ v.
-        v.items ≡ ((((front.now ++ to_le_bytes w64 generation) ++ to_le_bytes w64 (length image.now))
-        ++ sha256 image.now) ++ image.now) ++ 0 ∷ []) }
+        v.items ≡ ((((front.now ++ to_le_bytes w64 generation)
+        ++ to_le_bytes w64 (length image.now)) ++ sha256 image.now) ++ image.now) ++ 0 ∷ []) }
     ensures long { IfOk result (λ v.
         length v.items ≡ length front.now + 49 + length image.now) }
 {

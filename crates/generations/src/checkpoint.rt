@@ -51,8 +51,8 @@ impl<D: Disk> Dataset<D> {
     // Writes the bytes of the next file, and has it count.
     fn write_next(&mut self, bytes: &[u8], journal: Journal) -> Result<(), Failed>
         requires clean { journal.clean ≡ true }
-        requires ends { (back : List ℕ) × (bytes.now ≡ back ++ 0 ∷ []) }
-        requires place { journal.at ≡ length bytes.now }
+        requires ends { (back : List ℕ) × (bytes.now ≡ back ++ 0 ∷ [])
+            × (journal.at ≡ length bytes.now) }
         requires more { self.old.generation < last_generation }
         ensures kept { (s : State) (es : List LoggedEntry) (f : Option (List ℕ)) →
             IsNextFile (generation_in self.old) s bytes.now →

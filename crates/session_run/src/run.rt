@@ -47,9 +47,9 @@ where
     St::PreparedBranch: Send + Sync,
     requires sections { (length sections.now ≤ 65) × AllOwn sections.now × Above 0 sections.now }
     requires board { IsNew board.kept }
-    requires note { (note.opening ≡ board.kept.opening) × (pen ≡ new_pen note) }
-    requires named { IsNamed T.note T.opened T.first T.numbers T.since
-        note board.kept sections.now × (T.log ≡ Some board.log) }
+    requires named { (note.opening ≡ board.kept.opening) × (pen ≡ new_pen note)
+        × IsNamed T.note T.opened T.first T.numbers T.since note board.kept sections.now
+        × (T.log ≡ Some board.log) }
     ensures ok { IfOk result (λ b. HasRun board.kept b.kept
         × IsInterleaving board.kept.opening sections.now b.kept.steps) }
     ensures err { IfErr result (λ e. HasRun board.kept e.1.kept

@@ -27,7 +27,7 @@ pub returns-in-Err-tie_all-clause-err : goal.returns-in-Err-tie_all-clause-err
 returns-in-Err-tie_all-clause-err g c =
     let ss = c.args.sections.now in
     let i = c.board.invariant.0 in
-    let n = c.requires.named.0 in
+    let n = c.requires.named.2 in
     let pen = c.board.inside.pen in
     let jobs : List AtJob = c.run_jobs.new.jobs in
     let long : c.in-Ok.jobs.len ≡ length jobs = c.in-Ok.jobs.ok.0 ∙ sym (as_many 0 ss c.in-Ok.jobs.items c.in-Ok.ensures.jobs) ∙ as_many_run g.T.Tag.note g.T.Tag.opened 0 ss jobs c.run_jobs.ensures in
@@ -43,7 +43,7 @@ pub returns-clause-ok : goal.returns-clause-ok
 returns-clause-ok g c =
     let ss = c.args.sections.now in
     let i = c.board.invariant.0 in
-    let n = c.requires.named.0 in
+    let n = c.requires.named.2 in
     let pen = c.board.inside.pen in
     let jobs : List AtJob = c.run_jobs.new.jobs in
     let long : c.in-Ok.jobs.len ≡ length jobs = c.in-Ok.jobs.ok.0 ∙ sym (as_many 0 ss c.in-Ok.jobs.items c.in-Ok.ensures.jobs) ∙ as_many_run g.T.Tag.note g.T.Tag.opened 0 ss jobs c.run_jobs.ensures in
@@ -56,10 +56,10 @@ returns-clause-ok g c =
     )
 
 pub returns-in-Err-clause-stored : goal.returns-in-Err-clause-stored
-returns-in-Err-clause-stored g c = c.room.invariant.2 c.args.board.log c.requires.named.1
+returns-in-Err-clause-stored g c = c.room.invariant.2 c.args.board.log c.requires.named.3
 
 pub returns-in-Err-tie_all-clause-stored : goal.returns-in-Err-tie_all-clause-stored
-returns-in-Err-tie_all-clause-stored g c = c.board.invariant.2 c.args.board.log c.requires.named.1
+returns-in-Err-tie_all-clause-stored g c = c.board.invariant.2 c.args.board.log c.requires.named.3
 
 pub returns-clause-stored : goal.returns-clause-stored
-returns-clause-stored g c = c.board.invariant.2 c.args.board.log c.requires.named.1
+returns-clause-stored g c = c.board.invariant.2 c.args.board.log c.requires.named.3

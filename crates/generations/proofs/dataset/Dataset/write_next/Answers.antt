@@ -26,7 +26,7 @@ returns-in_err-write_next-clause-kept g c s es f next either =
 
 pub turn-requires-clause-shut : goal.turn-requires-clause-shut
 turn-requires-clause-shut g c d now =
-    shut_behind 0 c.args.journal.at c.requires.ends.0 d (omega (arith, c.requires.place, ap length c.requires.ends.1))
+    shut_behind 0 c.args.journal.at c.requires.ends.0 d (omega (arith, c.requires.ends.2, ap length c.requires.ends.1))
     (subst (λ (l : List ℕ). IsOpen 0 l d) c.requires.ends.1 (c.in_ok-write_next.ensures.opened d now))
 
 pub returns-clause-kept : goal.returns-clause-kept
@@ -39,6 +39,6 @@ returns-clause-kept g c s es f next either =
       any_moment = turned_since _ _ _ c.turn.ensures (moment_in l) (λ o. MayGive l.generation s es f o ⊎ GivesImage l.generation s o)
           (while_aside g.D.Disk g.met.D.Disk.only_now l.second l.generation l.file.journal.at l.file.journal.clean l.file.disk l.beside.disk new.disk s es f file aside.any_moment);
       done = subst (λ (xs : List Entry). KeepsIn c.turn.new.self s xs None) (sym (none_after l.generation es c.requires.more))
-          (turned_in _ _ _ c.turn.ensures s es f c.args.bytes.now file next c.in_ok-write_next.ensures.opened c.requires.place c.requires.clean);
+          (turned_in _ _ _ c.turn.ensures s es f c.args.bytes.now file next c.in_ok-write_next.ensures.opened c.requires.ends.2 c.requires.clean);
       failed = tt;
     }
