@@ -45,11 +45,13 @@ STAGE_OF = {"scan_where": "questions", "scan_in": "questions", "scan_heads": "qu
 class Script:
     """A script in the making, which knows what its lines so far have made."""
 
-    def __init__(self, source):
+    def __init__(self, source, sessions=None):
         self.source, self.schema = source, source.choice(SCHEMAS)
         self.model = model.Model({name: list(columns) for name, *columns in self.schema}, model.STAGES)
         count = source.choice((1, 1, 2, 2, 2, 3, 3, 4, 5, 6, 7, 8))
         self.sessions = source.sample(range(1, 65), count) if source.random() < 0.3 else list(range(1, count + 1))
+        if sessions:
+            self.sessions = list(range(1, sessions + 1))
         self.session, self.most = 1, source.choice((2, 4, 20))
 
     def one_of(self, names, other=0.06):
@@ -157,12 +159,12 @@ class Script:
         return line
 
 
-def random_script(source, built=model.BUILT):
-    """An input: a schema of one to eight relations, and mostly 40 to 80 lines of 1 to 8 sessions on 1 to 20 branches. `source` is a random.Random."""
-    script = Script(source)
+def random_script(source, built=model.BUILT, sessions=None, lines=None):
+    """An input: a schema of one to eight relations, and mostly 40 to 80 lines of 1 to 8 sessions on 1 to 20 branches, or so many sessions and lines. `source` is a random.Random."""
+    script, count = Script(source, sessions), lines
     script.model.built = set(built)
     lines = [b" ".join((b"relation",) + relation) for relation in script.schema] + [b"end"]
-    for _ in range(source.randrange(40, 81) if source.random() < 0.9 else source.randrange(200, 401)):
+    for _ in range(count or (source.randrange(40, 81) if source.random() < 0.9 else source.randrange(200, 401))):
         line = source.choice((b"", b"# a comment", b"#")) if source.random() < 0.01 else script.line(built)
         if line and not line.startswith(b"#"):
             script.model.line(line)

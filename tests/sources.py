@@ -31,7 +31,7 @@ def read(path):
 @functools.cache
 def crates():
     """The crates of crates.txt, the lowest first."""
-    return re.findall(r"^(\w+):", read(os.path.join(TOP, "crates.txt")), re.M)
+    return re.findall(r"^(\w+)(?: [^:\n]*)?:", read(os.path.join(TOP, "crates.txt")), re.M)
 
 
 @functools.cache

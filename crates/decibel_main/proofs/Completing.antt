@@ -14,13 +14,15 @@ use Rattle.generations.specs.declared.pair.Pair.{Pair}
 use Rattle.generations.specs.Created.{AreEmpty, IsOneThere}
 use Rattle.generations.specs.Files.{counts, no_header, damaged, opened, reads}
 use Rattle.generations.specs.Pairs.{RoseInOne}
+use Rattle.stmt_text.specs.declared.sections.Section.{Section}
 use Rattle.decibel_main.specs.Ends.{Completes}
 use Rattle.decibel_main.specs.Exports.{export_text}
 use Rattle.decibel_main.specs.Imports.{Imports}
 use Rattle.decibel_main.specs.Scripts.{Scripts}
+use Rattle.decibel_main.specs.Sessions.{RunsSections}
 use Rattle.decibel_main.specs.Top.{Did, ReadsInput, TellsFaults, IsGoodFor, IsShortInput, NoFault, GiveState, HaveRows, TakeRows}
 use Rattle.decibel_main.specs.declared.command.Command.{Command}
-use Rattle.decibel_main.specs.declared.command.Command.TheVariants.{Try, Create, Script, Check, Load, Import, Export}
+use Rattle.decibel_main.specs.declared.command.Command.TheVariants.{Try, Create, Script, Sessions, Check, Load, Import, Export}
 use Rattle.decibel_main.specs.declared.status.Status.{Status}
 use Rattle.decibel_main.specs.declared.status.Status.TheVariants.{Done, Usage, NotDataset, Damaged, ReadFault, WriteFault, DiskFault, TooLong, Memory, AlreadyThere, BadLine}
 
@@ -74,6 +76,7 @@ module _ {D : Type 0} (g : Ghosts D) (left left' before after : Option (List ℕ
   not_usage Try d = neither d.1.ends
   not_usage Create d = neither d.1.ends
   not_usage Script d = neither d.1.ends
+  not_usage Sessions d = neither d.1.ends
   not_usage Check d = d.ends
   not_usage (Load lines) d = d.ends
   not_usage (Import relation) d = neither d.1.ends
@@ -130,6 +133,27 @@ module _ {D : Type 0} (g : Ghosts D) (left left' before after : Option (List ℕ
   scripts Usage d t good = neither d.1.ends
   scripts AlreadyThere d t good = neither d.1.ends
   scripts (BadLine m) d t good = neither d.1.ends
+
+  missing : {P : Type 0} (sections : List Section) (c e : List ℕ) → GiveState c e → RunsSections g disks disks' sections NotDataset before after c e → P
+  missing sections c e good (inl ran) = absurd ran.run.list
+  missing sections c e good (inr stop) = has_header c e good stop.why
+
+  broken : {P : Type 0} (sections : List Section) (file at : ℕ) (c e : List ℕ) → GiveState c e → RunsSections g disks disks' sections (Damaged file at) before after c e → P
+  broken sections file at c e good (inl ran) = absurd ran.run.list
+  broken sections file at c e good (inr stop) = is_whole c e good file stop.why.0 at stop.why.1 stop.why.2
+
+  sessions : (status : Status) → Did g (Some Sessions) left left' before after disks disks' status → TellsFaults g s s' k k' disks disks' status → IsGoodFor g Sessions left disks → Completes status
+  sessions Done d t good = tt
+  sessions Memory d t good = tt
+  sessions ReadFault d t good = no_rise s s' (t.read_fault refl) n.source_same n.source_counts
+  sessions WriteFault d t good = no_rise k k' (t.write_fault refl) n.sink_same n.sink_counts
+  sessions DiskFault d t good = no_fault (t.disk_fault refl)
+  sessions TooLong d t good = not_long left left' good.0 d.0
+  sessions NotDataset d t good = missing _ good.1.first good.1.second good.1.good (d.1.sections tt good.0.input good.0.told good.1.first good.1.second good.1.first_told good.1.second_told)
+  sessions (Damaged file at) d t good = broken _ file at good.1.first good.1.second good.1.good (d.1.sections tt good.0.input good.0.told good.1.first good.1.second good.1.first_told good.1.second_told)
+  sessions Usage d t good = neither d.1.ends
+  sessions AlreadyThere d t good = neither d.1.ends
+  sessions (BadLine m) d t good = neither d.1.ends
 
   checks : (status : Status) → Did g (Some Check) left left' before after disks disks' status → TellsFaults g s s' k k' disks disks' status → IsGoodFor g Check left disks → Completes status
   checks Done d t good = tt
@@ -207,6 +231,7 @@ module _ {D : Type 0} (g : Ghosts D) (left left' before after : Option (List ℕ
   completes Try status d t good = tries status d t good
   completes Create status d t good = creates status d t good
   completes Script status d t good = scripts status d t good
+  completes Sessions status d t good = sessions status d t good
   completes Check status d t good = checks status d t good
   completes (Load lines) status d t good = loads lines status d t
   completes (Import relation) status d t good = imports relation status d t good

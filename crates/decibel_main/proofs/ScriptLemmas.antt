@@ -42,7 +42,8 @@ none_failed : (n old new : ℕ) → (new < 2 ^ 64 - 1 → n + old ≤ new) → o
 none_failed n old new few later le below =
     omega (arith, few below, le, counted_below new below, counted_below old (omega (arith, later, below)))
 
-ok_of : {T E P : Type 0} (r : Result T E) (x : T) → r ≡ Ok x → OnOk r P → P
+-- what holds after Ok
+pub ok_of : {T E P : Type 0} (r : Result T E) (x : T) → r ≡ Ok x → OnOk r P → P
 ok_of (Ok y) x is p = p
 ok_of (Err e) x is p = absurd (cc is)
 

@@ -39,7 +39,7 @@ fn exports_a_version_by_its_name(rt: HostRuntime) -> Result<(), Fail> {
     disks = runs(&rt, alloc, "script", LINES, disks, Status::Done, REPLIES)?;
     for (relation, version, status, rows) in cases {
         let words = ["export", "base", relation, version];
-        let Ran { status: ended, output, disks: left } = run_words(alloc, &words, "not read", disks)?;
+        let Ran { status: ended, output, disks: left } = run_words(&rt, alloc, &words, "not read", disks)?;
         assert!(rt; ended == status, "{relation} {version}: {ended:?}");
         assert!(rt; output.as_slice() == rows.as_bytes(), "{relation} {version}: the rows");
         disks = left;

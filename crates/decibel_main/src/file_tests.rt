@@ -3,10 +3,13 @@ use crate::status::{Finish, Status};
 use crate::tests::{MORE_THAN_ANY, words_of};
 use crate::top::decibel;
 use db_memdev::{Fill, MemDisk, MemSink, MemSource};
+use db_outside::OpenGate;
 use generations::Pair;
 use std::alloc::Global;
 use std::process::Abort;
+use std::sync::Wait;
 use std::test::Fail;
+use std::thread::Threads;
 
 pub const SCHEMA: &str = "relation items a b\nend\n";
 
@@ -31,7 +34,8 @@ pub fn files_of(alloc: Global, first: &[u8], second: &[u8]) -> Result<Pair<MemDi
 }
 
 /// A call of the program with these words.
-pub fn run_words(
+pub fn run_words<R: Threads + Wait + Sync>(
+    rt: &R,
     alloc: Global,
     words: &[&str],
     input: &str,
@@ -40,7 +44,15 @@ pub fn run_words(
     let mut source = MemSource::of(alloc, input.as_bytes(), &[])?;
     let mut sink = MemSink::of(alloc, &[], MORE_THAN_ANY)?;
     let words = words_of(alloc, words)?;
-    let Finish { status, disks } = decibel(alloc, &words, &mut source, &mut sink, disks);
+    let Finish { status, disks } = decibel(
+        rt,
+        alloc,
+        &words,
+        &mut source,
+        &mut sink,
+        disks,
+        &OpenGate,
+    );
     let output = Vec::from_slice(alloc, sink.bytes())?;
     Ok(Ran {
         status,
@@ -49,12 +61,18 @@ pub fn run_words(
     })
 }
 
-fn run(alloc: Global, word: &str, input: &str, disks: Pair<MemDisk>) -> Result<Ran, Fail> {
-    run_words(alloc, &[word, "base"], input, disks)
+fn run<R: Threads + Wait + Sync>(
+    rt: &R,
+    alloc: Global,
+    word: &str,
+    input: &str,
+    disks: Pair<MemDisk>,
+) -> Result<Ran, Fail> {
+    run_words(rt, alloc, &[word, "base"], input, disks)
 }
 
-pub fn runs(
-    rt: &impl Abort,
+pub fn runs<R: Abort + Threads + Wait + Sync>(
+    rt: &R,
     alloc: Global,
     word: &str,
     input: &str,
@@ -62,7 +80,7 @@ pub fn runs(
     status: Status,
     output: &str,
 ) -> Result<Pair<MemDisk>, Fail> {
-    let ran = run(alloc, word, input, disks)?;
+    let ran = run(rt, alloc, word, input, disks)?;
     let ended = ran.status;
     assert!(rt; ended == status, "{word} {input}: {ended:?}");
     assert!(rt;
@@ -74,7 +92,10 @@ pub fn runs(
 
 const ONE_ROW: &str = "> 1 insert items 1 1 1\nok master@1\n";
 
-fn one_row(rt: &impl Abort, alloc: Global) -> Result<Pair<MemDisk>, Fail> {
+pub fn one_row<R: Abort + Threads + Wait + Sync>(
+    rt: &R,
+    alloc: Global,
+) -> Result<Pair<MemDisk>, Fail> {
     let empty = files_of(alloc, b"", b"")?;
     let made = runs(
         rt,
@@ -131,8 +152,8 @@ fn keeps_what_a_script_stored(rt: HostRuntime) -> Result<(), Fail> {
 }
 
 // What `check` tells of a file with these bytes beside an empty one.
-fn tells(
-    rt: &impl Abort,
+fn tells<R: Abort + Threads + Wait + Sync>(
+    rt: &R,
     alloc: Global,
     file: &[u8],
     status: Status,
@@ -144,7 +165,12 @@ fn tells(
 }
 
 // A script runs no line on such a file.
-fn stays_shut(rt: &impl Abort, alloc: Global, file: &[u8], status: Status) -> Result<(), Fail> {
+fn stays_shut<R: Abort + Threads + Wait + Sync>(
+    rt: &R,
+    alloc: Global,
+    file: &[u8],
+    status: Status,
+) -> Result<(), Fail> {
     let files = files_of(alloc, file, b"")?;
     let _ = runs(rt, alloc, "script", "1 begin\n", files, status, "")?;
     Ok(())
@@ -249,7 +275,8 @@ const SECOND_FAILED: &str =
     "> 1 insert items 1 1 1\nok master@1\n> 1 insert items 2 2 2\nrefused 19 fault disk\n";
 
 // What is written for a command after a crash now.
-fn after_crash(
+fn after_crash<R: Threads + Wait + Sync>(
+    rt: &R,
     alloc: Global,
     disk: &MemDisk,
     fill: Fill,
@@ -257,14 +284,26 @@ fn after_crash(
     input: &str,
 ) -> Result<Vec<u8>, Fail> {
     let stopped = disk.stop(MORE_THAN_ANY, fill)?;
-    let ran = run(alloc, word, input, files_of(alloc, stopped.bytes(), b"")?)?;
+    let ran = run(
+        rt,
+        alloc,
+        word,
+        input,
+        files_of(alloc, stopped.bytes(), b"")?,
+    )?;
     Ok(ran.output)
 }
 
 // One of two lines failed: after a crash that leaves the old bytes the row of the other one is there.
-fn keeps_the_other_row(rt: &impl Abort, alloc: Global, ran: &Ran, call: u64) -> Result<(), Fail> {
+fn keeps_the_other_row<R: Abort + Threads + Wait + Sync>(
+    rt: &R,
+    alloc: Global,
+    ran: &Ran,
+    call: u64,
+) -> Result<(), Fail> {
     let output = ran.output.as_slice();
     let told = after_crash(
+        rt,
         alloc,
         &ran.disks.first,
         Fill::Old,
@@ -290,13 +329,13 @@ fn keeps_what_was_acknowledged_if_a_call_fails(rt: HostRuntime) -> Result<(), Fa
             first: file_of(alloc, b"", &[call])?,
             second: file_of(alloc, b"", &[])?,
         };
-        let made = run(alloc, "create", SCHEMA, empty)?;
+        let made = run(&rt, alloc, "create", SCHEMA, empty)?;
         if call <= 6 {
             assert!(rt; made.status == Status::DiskFault, "create with {call}");
             continue;
         }
         assert!(rt; made.status == Status::Done, "create with {call}");
-        let ran = run(alloc, "script", TWO_ROWS, made.disks)?;
+        let ran = run(&rt, alloc, "script", TWO_ROWS, made.disks)?;
         let stored = acknowledged(&ran.output);
         let failed = ran.status == Status::DiskFault;
         assert!(rt; failed == (stored < 2), "script with {call}");
@@ -304,7 +343,7 @@ fn keeps_what_was_acknowledged_if_a_call_fails(rt: HostRuntime) -> Result<(), Fa
             keeps_the_other_row(&rt, alloc, &ran, call)?;
         }
         for fill in [Fill::Old, Fill::New] {
-            let told = after_crash(alloc, &ran.disks.first, fill, "check", "")?;
+            let told = after_crash(&rt, alloc, &ran.disks.first, fill, "check", "")?;
             let least = format!(in alloc;
                 "ok generation 1 branches 1 versions {} entries {stored}\n",
                 stored.saturating_add(1)

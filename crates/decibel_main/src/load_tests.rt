@@ -3,6 +3,7 @@ use crate::status::Status;
 use crate::tests::{MORE_THAN_ANY, no_disks, words_of};
 use crate::top::decibel;
 use db_memdev::{MemSink, MemSource};
+use db_outside::OpenGate;
 use std::test::Fail;
 
 #[test]
@@ -25,7 +26,7 @@ fn writes_the_summary_of_a_load(rt: HostRuntime) -> Result<(), Fail> {
         let words = words_of(alloc, &["load", lines])?;
         let mut source = MemSource::of(alloc, b"not read", &[1])?;
         let mut sink = MemSink::of(alloc, failing, MORE_THAN_ANY)?;
-        let ended = decibel(alloc, &words, &mut source, &mut sink, no_disks(alloc)?).status;
+        let ended = decibel(&rt, alloc, &words, &mut source, &mut sink, no_disks(alloc)?, &OpenGate).status;
         assert!(rt; ended == status, "load {lines}: {ended:?}");
         assert!(rt; sink.bytes() == summary.as_bytes(), "load {lines}: the summary");
     }

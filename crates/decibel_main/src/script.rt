@@ -29,8 +29,8 @@ pub fn status_of(stop: OpenStop) -> Status
     }
 }
 
-// How a run ends, by the counts of faults before and after it.
-fn ended(ran: Result<(), RunStop>, before: u64, after: u64) -> Status
+/// How a run ends, by the counts of faults before and after it.
+pub fn ended(ran: Result<(), RunStop>, before: u64, after: u64) -> Status
     ensures { IsEndOf result ran before after }
 {
     match ran {

@@ -10,6 +10,7 @@ use crate::jobs::{run_jobs, seated};
 use crate::tie::tie_all;
 use db_core::Board;
 use db_hub::{Hub, LogTag, Room};
+use db_outside::Gate;
 use db_store::Store;
 use entry_codec::Log;
 use history_note::{Note, Pen};
@@ -30,9 +31,10 @@ pub enum Unfinished {
 
 fn run_named<
     St: Store + Send + Sync,
-    J: Log<St> + Send + Sync,
+    J: Log<St> + Send,
     T: LogTag<J> + Send + Sync,
     R: Threads + Wait + Sync,
+    G: Gate + Sync,
 >(
     rt: &R,
     alloc: Global,
@@ -40,6 +42,7 @@ fn run_named<
     board: Board<St, J>,
     note: Note<St>,
     pen: Pen<St>,
+    gate: &G,
 ) -> Result<Board<St, J>, (Unfinished, Board<St, J>)>
 where
     St::View: Send + Sync,
@@ -70,7 +73,7 @@ where
             let hub = Hub {
                 lock: Mutex::new(room),
             };
-            run_jobs(rt, alloc, &hub, sections, &mut jobs);
+            run_jobs(rt, alloc, &hub, sections, &mut jobs, gate);
             let Hub { lock } = hub;
             let Room {
                 board,
@@ -88,13 +91,20 @@ where
 
 /// Runs each section on a thread of its own, on a board on which nothing was run. The board's list is then an interleaving of the
 /// sections, in which each line has the reply of its whole transaction. A section whose thread can't be started runs on the thread
-/// that would have started it. After want of memory the list, with its replies, has a beginning of each section, unless a pass was lost.
-/// In either case the log did for the lines of the list, as if they had been run one after another, what a log does.
-pub fn run_sessions<St: Store + Send + Sync, J: Log<St> + Send + Sync, R: Threads + Wait + Sync>(
+/// that would have started it. The gate is called before each line of a section. After want of memory the list, with its replies, has a
+/// beginning of each section, unless a pass was lost. In either case the log did for the lines of the list, as if they had been run
+/// one after another, what a log does.
+pub fn run_sessions<
+    St: Store + Send + Sync,
+    J: Log<St> + Send,
+    R: Threads + Wait + Sync,
+    G: Gate + Sync,
+>(
     rt: &R,
     alloc: Global,
     sections: &Sections,
     board: Board<St, J>,
+    gate: &G,
 ) -> Result<Board<St, J>, (Unfinished, Board<St, J>)>
 where
     St::View: Send + Sync,
@@ -114,7 +124,7 @@ where
     match Note::new(alloc, board.store()) {
         Err(AllocError) => Err((Unfinished::Memory, board)),
         Ok((note, pen)) => {
-            run_named::<St, J, Brand, R>(rt, alloc, sections.as_slice(), board, note, pen)
+            run_named::<St, J, Brand, R, G>(rt, alloc, sections.as_slice(), board, note, pen, gate)
         }
     }
 }

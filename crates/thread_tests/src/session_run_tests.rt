@@ -3,6 +3,7 @@ ghost use Rattle.std.specs.Prelude.{◌≡◌, IfOk};
 ghost use Rattle.session_run.specs.Runs.{IsNew};
 
 use db_core::Board;
+use db_outside::OpenGate;
 use db_store::Store;
 use db_value::{Reply, Schema, Step};
 use entry_codec::NoLog;
@@ -38,7 +39,7 @@ where
 {
     let sections = sections_of(alloc, input.as_bytes())?;
     let board = new_board(alloc, store)?;
-    match run_sessions(rt, alloc, &sections, board) {
+    match run_sessions(rt, alloc, &sections, board, &OpenGate) {
         Err(_) => Err("sections were not run to their ends".into()),
         Ok(board) => Ok(board),
     }

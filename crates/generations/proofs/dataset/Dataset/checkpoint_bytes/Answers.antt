@@ -1,4 +1,4 @@
-use Rattle.std.proofs.Common.{◌+◌, ◌<◌, ◌^◌, ◌∙◌, arith}
+use Rattle.std.proofs.Common.{◌+◌, ◌<◌, ◌^◌, ◌∙◌, length, sym, ap, arith}
 use Rattle.generations.specs.Asides.{IsNextFile}
 use Rattle.generations.specs.Datasets.{KeepsIn, OwesIn, generation_in, moment_in, OpensSinceIn}
 use Rattle.generations.specs.Written.{behind_gate}
@@ -18,7 +18,8 @@ pub returns-in-Err-next_bytes-clause-kept : goal.returns-in-Err-next_bytes-claus
 returns-in-Err-next_bytes-clause-kept g c s es f image either = nothing_done g.D.Disk g.met.D.Disk.only_now c.args.self.now s es f _ either
 
 pub write_next-requires-clause-ends : goal.write_next-requires-clause-ends
-write_next-requires-clause-ends g c = (behind_gate (c.args.self.now.generation + 1) c.args.image.now, c.deref.ensures.value ∙ c.in-Ok-next_bytes.ensures.bytes)
+write_next-requires-clause-ends g c =
+    (behind_gate (c.args.self.now.generation + 1) c.args.image.now, c.deref.ensures.value ∙ c.in-Ok-next_bytes.ensures.bytes, sym c.in-Ok-next_bytes.ensures.long ∙ sym (ap length c.deref.ensures.value))
 
 pub returns-in-Ok-write_next-clause-kept : goal.returns-in-Ok-write_next-clause-kept
 returns-in-Ok-write_next-clause-kept g c s es f image either =

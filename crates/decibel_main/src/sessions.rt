@@ -1,0 +1,191 @@
+//! The command `sessions`: the sections of an input, each on a thread of its own, on a dataset in two
+//! files.
+ghost use Rattle.std.specs.Prelude.{◌≡◌, ◌<◌, [], IfOk, OnOk, IsErrOf};
+ghost use Rattle.db_outside.specs.Count.{counted};
+ghost use Rattle.db_outside.specs.Device.{Faulted};
+ghost use Rattle.generations.specs.Pairs.{IfTold, RoseInOne, BothOnlyRead};
+ghost use Rattle.reply_text.specs.Reply.{NamesItsRows};
+ghost use Rattle.script_run.specs.Device.{Appends, AppendsFront, AppendsShort, CountsIf};
+ghost use Rattle.session_run.specs.Runs.{IsNew};
+ghost use Rattle.stmt_text.specs.Sections.{sections_in};
+ghost use Rattle.decibel_main.specs.Sessions.{step_text, steps_text, AllNameRows, CutsSteps, RanSections, RunsSections};
+ghost use Rattle.decibel_main.specs.Ends.{IsOpenStatus, IsRanStatus, IsUntouched};
+
+use crate::script::{ended, status_of};
+use crate::status::{Finish, Status};
+use db_core::Board;
+use db_outside::{Disk, Gate, Sink};
+use db_store::Store;
+use db_value::{Schema, Step};
+use entry_codec::Log;
+use generations::{Pair, reopen};
+use reply_text::write_reply;
+use script_run::{RunStop, put_all};
+use session_run::run_sessions;
+use std::alloc::Global;
+use std::sync::Wait;
+use std::thread::Threads;
+use stmt_text::{Sections, sections_of};
+
+// Writes the echo of a step's line, and its reply.
+fn put_step<K: Sink>(
+    alloc: Global,
+    schema: &Schema,
+    step: &Step,
+    sink: &mut K,
+) -> Result<(), RunStop>
+    requires { NamesItsRows step.now.reply }
+    ensures all { OnOk result
+        (Appends (K.written sink.old) (K.written sink.new) (step_text step.now)) }
+    ensures cut { IsErrOf result RunStop.Fault →
+        AppendsShort (K.written sink.old) (K.written sink.new) [] (step_text step.now) }
+    ensures memory { IsErrOf result RunStop.Memory → sink.new ≡ sink.old }
+    ensures faults { CountsIf (IsErrOf result RunStop.Fault) K.faults sink.old sink.new }
+{
+    let bytes = write_reply(alloc, schema, &step.line, &step.reply)?;
+    match put_all(sink, bytes.as_slice()) {
+        Ok(()) => Ok(()),
+        Err(_) => Err(RunStop::Fault),
+    }
+}
+
+// Writes the steps, in order. A fault breaks off in the answer to a line, and want of memory comes
+// between the answers to two.
+fn put_steps<K: Sink>(
+    alloc: Global,
+    schema: &Schema,
+    steps: &[Step],
+    sink: &mut K,
+) -> Result<(), RunStop>
+    requires { AllNameRows steps.now }
+    ensures all { OnOk result
+        (Appends (K.written sink.old) (K.written sink.new) (steps_text steps.now)) }
+    ensures cut { IsErrOf result RunStop.Fault →
+        CutsSteps steps.now (K.written sink.old) (K.written sink.new) }
+    ensures front { AppendsFront (K.written sink.old) (K.written sink.new) (steps_text steps.now) }
+    ensures faults { CountsIf (IsErrOf result RunStop.Fault) K.faults sink.old sink.new }
+{
+    for step in steps {
+        match put_step(alloc, schema, step, sink) {
+            Ok(()) => {}
+            Err(stop) => return Err(stop),
+        }
+    }
+    Ok(())
+}
+
+// Runs sections on a board on which nothing was run, and then writes the list that they leave. After
+// want of memory what was run is written, as far as it can be.
+fn run_on_board<
+    St: Store + Send + Sync,
+    J: Log<St> + Send,
+    K: Sink,
+    R: Threads + Wait + Sync,
+    G: Gate + Sync,
+>(
+    rt: &R,
+    alloc: Global,
+    sections: &Sections,
+    sink: &mut K,
+    board: Board<St, J>,
+    before: u64,
+    gate: &G,
+) -> (Status, J)
+where
+    St::View: Send + Sync,
+    St::Prepared: Send + Sync,
+    St::PreparedBranch: Send + Sync,
+    requires { IsNew board.kept }
+    ensures runs { RanSections board.kept.opening sections.now result.0
+        (K.written sink.old) (K.written sink.new) }
+    ensures ends { IsRanStatus result.0 }
+    ensures disk { result.0 ≡ Status.DiskFault → before < counted (J.faults result.1) }
+    ensures write { result.0 ≡ Status.WriteFault → Faulted K.faults sink.old sink.new }
+{
+    match run_sessions(rt, alloc, sections, board, gate) {
+        Ok(board) => {
+            let put = put_steps(alloc, board.schema(), board.steps(), sink);
+            let (_, log) = board.into_parts();
+            let status = ended(put, before, log.fault_count());
+            (status, log)
+        }
+        Err((_, board)) => {
+            let _ = put_steps(alloc, board.schema(), board.steps(), sink);
+            let (_, log) = board.into_parts();
+            (Status::Memory, log)
+        }
+    }
+}
+
+// A board on which nothing was run. Want of memory gives the log back.
+fn new_board<St: Store, J: Log<St>>(alloc: Global, store: St, log: J) -> Result<Board<St, J>, J>
+    ensures opening { IfOk result (λ b. b.kept.opening ≡ St.state store) }
+    ensures fresh { IfOk result (λ b. IsNew b.kept) }
+{
+    match Board::new(alloc, store, log) {
+        Ok(board) => Ok(board),
+        Err((_, _, log)) => Err(log),
+    }
+}
+
+// Runs the sections of an input on a store with its log, and gives the log back.
+fn run_on<
+    St: Store + Send + Sync,
+    J: Log<St> + Send,
+    K: Sink,
+    R: Threads + Wait + Sync,
+    G: Gate + Sync,
+>(rt: &R, alloc: Global, input: &[u8], sink: &mut K, store: St, log: J, gate: &G) -> (Status, J)
+where
+    St::View: Send + Sync,
+    St::Prepared: Send + Sync,
+    St::PreparedBranch: Send + Sync,
+    ensures runs { RanSections (St.state store) (sections_in input.now) result.0
+        (K.written sink.old) (K.written sink.new) }
+    ensures ends { IsRanStatus result.0 }
+    ensures disk { result.0 ≡ Status.DiskFault → J.faults log < J.faults result.1 }
+    ensures write { result.0 ≡ Status.WriteFault → Faulted K.faults sink.old sink.new }
+{
+    let sections = match sections_of(alloc, input) {
+        Ok(sections) => sections,
+        Err(_) => return (Status::Memory, log),
+    };
+    let before = log.fault_count();
+    match new_board(alloc, store, log) {
+        Err(log) => (Status::Memory, log),
+        Ok(board) => run_on_board(rt, alloc, &sections, sink, board, before, gate),
+    }
+}
+
+/// Runs each session's lines on a thread of its own, on a dataset in two files. When the threads have
+/// returned, it writes each line with its reply, in the order of the list that they left.
+pub fn sessions_files<K: Sink, D: Disk + Send + Drop, R: Threads + Wait + Sync, G: Gate + Sync>(
+    rt: &R,
+    alloc: Global,
+    input: &[u8],
+    sink: &mut K,
+    disks: Pair<D>,
+    gate: &G,
+) -> Finish<D>
+    ensures ends { IsOpenStatus result.status }
+    ensures runs { IfTold D.Disk disks (RunsSections D.Disk disks result.disks
+        (sections_in input.now) result.status (K.written sink.old) (K.written sink.new)) }
+    ensures untouched { IsUntouched result.status → (sink.new ≡ sink.old)
+        × BothOnlyRead D.Disk disks result.disks }
+    ensures causes { (result.status ≡ Status.DiskFault → RoseInOne D.Disk disks result.disks)
+        × (result.status ≡ Status.WriteFault → Faulted K.faults sink.old sink.new) }
+{
+    match reopen(alloc, disks) {
+        Err((stop, disks)) => Finish {
+            status: status_of(stop),
+            disks,
+        },
+        Ok((dataset, store)) => {
+            let (status, dataset) = run_on(rt, alloc, input, sink, store, dataset, gate);
+            Finish {
+                status,
+                disks: dataset.into_disks(),
+            }
+        }
+    }
+}

@@ -1,0 +1,191 @@
+"""`sessions` on real files: each session's lines on a thread of its own, and the program killed while threads run.
+
+Which interleaving comes is not known, so it is read off the echo. What is written for it is compared with what `script` and the model give for the echoed
+lines, and the files with those that `script` leaves.
+"""
+import os, random, re, subprocess, tempfile, time
+
+import model, on_files, random_scripts, worked
+
+SCHEMA = worked.USUAL
+SCRIPTS, KILLED, SESSIONS, COMMITS = 50, 50, 8, 100
+
+
+def session_of(line):
+    return model.read(line)[0]
+
+
+def sections_of(lines):
+    """The lines of each session, in order."""
+    sections = {}
+    for line in lines:
+        sections.setdefault(session_of(line), []).append(line)
+    return sections
+
+
+def lines_run(given):
+    return [line for line in given.split(b"\n") if line and not line.startswith(b"#")]
+
+
+def echoed(written):
+    """The lines that an output echoes: no line of a reply begins so."""
+    return [line[2:] for line in written.split(b"\n") if line.startswith(b"> ")]
+
+
+def as_input(lines):
+    return b"".join(line + b"\n" for line in lines)
+
+
+def unlike(given, echo):
+    """The sessions whose echoed lines aren't their section, or their section and an abort."""
+    wanted, found = sections_of(lines_run(given)), sections_of(echo)
+    return [session for session in sorted(set(wanted) | set(found))
+            if found.get(session, []) not in (wanted.get(session, []), wanted.get(session, []) + [b"%d abort" % session])]
+
+
+def by_model(schema, lines):
+    """What the model writes for lines, and the sessions whose transactions they leave open."""
+    said = model.Model(schema)
+    for line in lines:
+        said.line(line)
+    left = [session for session in sorted(said.desks) if said.desks[session].lines]
+    return said.output(), left
+
+
+def aborted_for_nothing(given, written):
+    """The sessions whose added abort isn't answered `ok`."""
+    sections, found = sections_of(lines_run(given)), []
+    for session, lines in sections_of(echoed(written)).items():
+        if len(lines) > len(sections.get(session, [])):
+            last = b"\n> %d abort\n" % session
+            if not (b"\n" + written).rpartition(last)[2].startswith(b"ok\n"):
+                found.append(session)
+    return found
+
+
+def alone(base):
+    """The whole input of one session that leaves its transaction open, and files that are none."""
+    yield "sessions on no files", base.run("sessions", b"1 begin\n"), (3, b"", b"decibel: not a dataset\n")
+    base.made()
+    yield "sessions of no line", base.run("sessions", b"# none\n\n"), (0, b"", b"")
+    yield "an open transaction is aborted at its end", base.run("sessions", b"1 begin\n1 get items 1\n"), (0, on_files.answered(
+        (b"1 begin", b"ok"), (b"1 get items 1", b"none"), (b"1 abort", b"ok")), b"")
+    yield "sessions of a bad line", base.run("sessions", b"hello\n"), (0, b"> hello\nrefused 1 bad line\n", b"")
+    yield "none of them stored anything", base.run("check"), (0, b"ok generation 1 branches 1 versions 1 entries 0\n", b"")
+
+
+def one_script(base, other, given):
+    """What is wrong with a script whose sessions run on threads, in words, and how many lines changed their places."""
+    schema, end, script = given.partition(b"\nend\n")
+    for at in base, other:
+        for file in (0, 1):
+            if os.path.exists(at.path(file)):
+                os.unlink(at.path(file))
+        at.run("create", schema + end)
+    status, written, said = base.run("sessions", script)
+    if (status, said) != (0, b""):
+        return ["status %d, %s" % (status, said.decode())], 0
+    echo, wrong = echoed(written), []
+    if unlike(script, echo):
+        wrong.append("the lines of sessions %s" % unlike(script, echo))
+    if aborted_for_nothing(script, written):
+        wrong.append("aborts of sessions %s" % aborted_for_nothing(script, written))
+    output, left = by_model(model.lines_of(given)[0], echo)
+    if output != written:
+        wrong.append("the replies, by the model")
+    if left:
+        wrong.append("sessions %s are left open" % left)
+    if other.run("script", as_input(echo)) != (0, written, b""):
+        wrong.append("the replies, by `script`")
+    if (base.read(0), base.read(1)) != (other.read(0), other.read(1)):
+        wrong.append("the files")
+    if base.run("check") != base.told() or base.run("check") != other.run("check"):
+        wrong.append("what `check` tells")
+    lines = lines_run(script)
+    return wrong, sum(one != two for one, two in zip(lines, echo))
+
+
+def at_random(base):
+    """Random scripts of eight and of 64 sessions."""
+    place = os.path.join(base.folder, "other")
+    os.mkdir(place)
+    other = on_files.Base(base.program, place)
+    source, moved = random.Random(14), 0
+    for sessions, lines in ((8, None), (64, 320)):
+        for script in range(SCRIPTS):
+            given = random_scripts.random_script(source, model.BUILT, sessions, lines)
+            wrong, places = one_script(base, other, given)
+            moved += places
+            yield "random script %d of %d sessions on threads" % (script, sessions), wrong, []
+    print("tests/run: in %d random scripts on threads %d lines stood at another place than in the input" % (2 * SCRIPTS, moved), flush=True)
+
+
+def branch_of(session):
+    return b"of%d" % session
+
+
+def pairs_of(session):
+    """A session's lines: transactions of two keys each, on a branch of its own."""
+    lines = [b"on " + branch_of(session)]
+    for n in range(COMMITS):
+        lines += [b"begin", b"insert items %d %d 0" % (2 * n, session), b"insert items %d %d 1" % (2 * n + 1, session), b"commit"]
+    return [b"%d " % session + line for line in lines]
+
+
+def pairs_there(base):
+    """How many transactions of each session are there, and what isn't as a beginning of its lines leaves it."""
+    there, wrong = 0, []
+    for session in range(1, SESSIONS + 1):
+        question = b"1 scan items in " + branch_of(session)
+        status, written, _ = base.run("script", question + b"\n")
+        count = max(written.count(b"\nrow ") // 2, 0)
+        rows = b"".join(b"row %d %d %d in %s\n" % (key, session, key % 2, branch_of(session)) for key in range(2 * count))
+        if (status, written) != (0, b"> " + question + b"\n" + rows + b"rows %d\n" % (2 * count)):
+            wrong.append((session, written[-200:]))
+        there += count
+    return there, wrong
+
+
+def killed(base):
+    """The program killed at a random moment under eight sessions: the files open to whole transactions, of each session the first ones, and to no other."""
+    source, wrong, cut = random.Random(15), [], 0
+    given = as_input(line for lines in zip(*(pairs_of(session) for session in range(1, SESSIONS + 1))) for line in lines)
+    begun = as_input(b"1 branch %s of master@0" % branch_of(session) for session in range(1, SESSIONS + 1))
+    base.made(begun)
+    started = time.monotonic()
+    status, written, _ = base.run("sessions", given)
+    whole = time.monotonic() - started
+    yield "eight sessions on branches of their own", (status, len(re.findall(rb"^ok of\d@\d+$", written, re.MULTILINE))), (0, SESSIONS * COMMITS)
+    yield "all that they stored", pairs_there(base), (SESSIONS * COMMITS, [])
+    for turn in range(KILLED):
+        for file in (0, 1):
+            os.unlink(base.path(file))
+        base.made(begun)
+        program = subprocess.Popen([base.program, "sessions", base.name], stdin=subprocess.PIPE, stdout=subprocess.PIPE, stderr=subprocess.DEVNULL)
+        program.stdin.write(given)
+        program.stdin.close()
+        time.sleep(source.random() * whole)
+        program.kill()
+        program.stdout.read()
+        program.wait()
+        status, line, _ = base.run("check")
+        found = re.fullmatch(rb"ok generation 1 branches %d versions \d+ entries (\d+)\n" % (SESSIONS + 1), line)
+        stored = int(found.group(1)) - SESSIONS if found else -1
+        there, unlike_any = pairs_there(base)
+        cut += 0 < stored < SESSIONS * COMMITS
+        if status or stored != there or unlike_any:
+            wrong.append((turn, status, line, there, unlike_any))
+    print("tests/run: killed %d times under %d sessions of %d commits each, %d times among their commits" % (KILLED, SESSIONS, COMMITS, cut), flush=True)
+    yield "killed at a random moment under eight sessions", wrong, []
+    yield "killed among the commits of eight sessions", cut > 0, True
+
+
+def checks(program):
+    """Names with what was found and what should be; none if the program has no `sessions`."""
+    with tempfile.TemporaryDirectory() as folder:
+        if on_files.Base(program, folder).run("sessions")[0] == 2:
+            print("tests/run: the program has no `sessions` yet, so nobody ran sessions on threads")
+            return
+    for part in (alone, at_random, killed):
+        with tempfile.TemporaryDirectory() as folder:
+            yield from part(on_files.Base(program, folder))
