@@ -1,5 +1,5 @@
 //! A queue of entries, in batches.
-ghost use Rattle.std.specs.Prelude.{◌≡◌, ◌↔◌, ◌+◌, ◌<◌, [], ◌∷◌, ◌++◌, length, Bool, None, Some, is_ok, IfOk, IfSome, OnOk, OnErr, IsErrOf};
+ghost use Rattle.std.specs.Prelude.{◌≡◌, ◌↔◌, ◌+◌, ◌<◌, [], ◌∷◌, ◌++◌, length, Bool, ℕ, None, Some, is_ok, IfOk, IfSome, OnOk, OnErr, IsErrOf};
 ghost use Rattle.flush_queue.specs.Queue.{no_batch, next_ticket, IsGiven, outcome, settled, settled_by};
 ghost use Rattle.flush_queue.specs.Appends.{Appends};
 
@@ -85,6 +85,7 @@ impl FlushQueue {
             (self.new ≡ record self.old { waiting = self.old.waiting ++ entry.now }) }
         ensures full { IsErrOf result BatchStop.Full
             ↔ (16777216 < length self.old.waiting + length entry.now) }
+        ensures given { (t : ℕ) → IsGiven self.old t → IsGiven self.new t }
         ensures stays { OnErr result (self.new ≡ self.old) }
     {
         if entry.len() > MOST_RECORD - self.batch.bytes().len() {
@@ -121,6 +122,7 @@ impl FlushQueue {
             ≡ settled_by (outcome self.old ticket) self.old (is_ok result) }
         ensures spared { (w : Bool) → outcome self.old ticket ≡ Some w → log.new ≡ log.old }
         ensures answer { (w : Bool) → outcome self.old ticket ≡ Some w → is_ok result ≡ w }
+        ensures given { (t : ℕ) → IsGiven self.old t → IsGiven self.new t }
     {
         match self.outcome(ticket) {
             Some(true) => Ok(()),
