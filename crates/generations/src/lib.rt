@@ -3,7 +3,8 @@
 //! The layer above relies on one statement: every pair of files that a crash may leave opens to the
 //! state of the acknowledged entries, or to that state with the entries of one batch more. `Keeps` in
 //! `specs/Fronts.antt` says what a dataset keeps for it, and `reads` in `specs/Files.antt` what two
-//! files stand for.
+//! files stand for. An image may be written into the file that doesn't count, which counts then:
+//! a crash at any moment of that opens to the same state (`checkpoint_bytes`).
 //!
 //! | file | has |
 //! |---|---|
@@ -12,7 +13,10 @@
 //! | `specs/Fronts.antt`, `specs/Ends.antt` | what a dataset keeps, by entries and byte by byte |
 //! | `specs/Datasets.antt`, `specs/Reopens.antt` | what a dataset says of itself, and what opening gives |
 //! | `src/dataset.rt` | a dataset, as a log |
+//! | `specs/Asides.antt`, `specs/BesideKeeps.antt` | how the file stands that doesn't count, by its gate |
 //! | `src/file.rt`, `src/file_append.rt` | the file that counts, and how it takes a record |
+//! | `src/other_gate.rt`, `src/beside.rt`, `src/beside_publish.rt` | the file that doesn't count, and how it takes an image |
+//! | `src/checkpoint.rt`, `src/bytes.rt` | how the two files change places, and the bytes of one |
 //! | `src/new.rt`, `src/again.rt` | a new dataset, and one opened again |
 //! | `src/look.rt`, `src/pick.rt`, `src/open.rt`, `src/header.rt` | two files looked at, and one opened |
 //! | `src/replay.rt` | entries taken into a store |

@@ -98,7 +98,7 @@ fn tells_the_damage_by_the_table(rt: HostRuntime) -> Result<(), Fail> {
         ("generation 0",                           0,                         image,        one,   two,   damaged(9, Cause::Grammar)),
         ("one past the last generation",           9_223_372_036_854_775_809, image,        one,   two,   damaged(9, Cause::Grammar)),
         ("no image",                               1,                         &image[..0],  one,   two,   damaged(57, Cause::Grammar)),
-        ("an image without its last byte",         1,                         &image[..66], one,   two,   damaged(57, Cause::Grammar)),
+        ("an image without its last byte",         1,                         &image[..66], one,   two,   damaged(123, Cause::Grammar)),
         ("half an entry in the first body",        1,                         image,        half,  two,   damaged(124, Cause::Grammar)),
         ("half an entry in the second body",       1,                         image,        one,   half,  damaged(197, Cause::Grammar)),
         ("an empty body",                          1,                         image,        one,   &one[..0], damaged(197, Cause::Length)),

@@ -75,20 +75,51 @@ pub fn appends<L: Log<DatasetStore>>(log: &mut L, batch: &Batch) -> bool
     log.append(batch).is_ok()
 }
 
-/// The new dataset with the relation `items a b`, on disks of which the first one fails at these
-/// calls.
-pub fn created(alloc: Global, failing: &[u64]) -> Option<Dataset<MemDisk>> {
+/// The new dataset with the relation `items a b`, on disks that fail at these calls.
+pub fn created_on(alloc: Global, first: &[u64], second: &[u64]) -> Option<Dataset<MemDisk>> {
     let Ok((schema, _)) = Schema::read(alloc, b"relation items a b\nend\n") else {
         return None;
     };
     let disks = Pair {
-        first: MemDisk::of(alloc, b"", failing, 1000, 100_000).ok()?,
-        second: MemDisk::of(alloc, b"", &[], 1000, 100_000).ok()?,
+        first: MemDisk::of(alloc, b"", first, 1000, 100_000).ok()?,
+        second: MemDisk::of(alloc, b"", second, 1000, 100_000).ok()?,
     };
     match create(alloc, disks, &schema) {
         Ok(dataset) => Some(dataset),
         Err(_) => None,
     }
+}
+
+/// The same, on disks of which the first one fails at these calls.
+pub fn created(alloc: Global, failing: &[u64]) -> Option<Dataset<MemDisk>> {
+    created_on(alloc, failing, &[])
+}
+
+/// The image of that dataset after the entry `ONE`: one version more, and in the head of master one
+/// record on a page of 4,096 bytes, which the second delta of master's row sets.
+pub fn image_after_one(alloc: Global) -> Option<Vec<u8>> {
+    let mut bytes: Vec<u8> = Vec::new(alloc);
+    bytes.extend_from_slice(&IMAGE[..31]).ok()?;
+    bytes.extend_from_slice(&[1, 0, 0, 0, 0, 0, 0, 0, 0]).ok()?;
+    bytes
+        .extend_from_slice(&[1, 0, 0, 0, 1, 0, 0, 0, 1, 0, 0, 0])
+        .ok()?;
+    bytes
+        .extend_from_slice(&[1, 0, 2, 0, 0, 0, 0, 0, 0, 0, 0, 0, 0, 0, 0, 0])
+        .ok()?;
+    for _i in 0..3 {
+        bytes.extend_from_slice(&1u64.to_le_bytes()).ok()?;
+    }
+    for _i in 0..4056 {
+        bytes.push(0).ok()?;
+    }
+    bytes
+        .extend_from_slice(&[1, 0, 0, 0, 0, 0, 0, 0, 0, 0, 0, 0])
+        .ok()?;
+    bytes.extend_from_slice(&[0, 0, 0, 0, 0, 0, 0, 0]).ok()?;
+    bytes.extend_from_slice(&[0, 0, 0, 0, 1, 0, 0, 0]).ok()?;
+    bytes.extend_from_slice(&1u64.to_le_bytes()).ok()?;
+    Some(bytes)
 }
 
 /// Why no dataset is made on disks with these bytes, and the disks. `None` is a dataset, or want of
