@@ -38,7 +38,7 @@ counted_below n below = by (nat_lt n (2 ^ 64 - 1)) (search (arith, below))
     by false is = absurd (cc is)
 
 -- no count rose, so nothing failed
-none_failed : (n old new : ℕ) → (new < 2 ^ 64 - 1 → n + old ≤ new) → old ≤ new → counted new ≤ counted old → new < 2 ^ 64 - 1 → n ≡ 0
+pub none_failed : (n old new : ℕ) → (new < 2 ^ 64 - 1 → n + old ≤ new) → old ≤ new → counted new ≤ counted old → new < 2 ^ 64 - 1 → n ≡ 0
 none_failed n old new few later le below =
     omega (arith, few below, le, counted_below new below, counted_below old (omega (arith, later, below)))
 

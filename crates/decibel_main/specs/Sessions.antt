@@ -1,20 +1,24 @@
 -- What `sessions` does.
-use Rattle.std.specs.Prelude.{◌≡◌, ◌⊎◌, ℕ, List, [], ◌∷◌, ◌++◌, map, Option}
+use Rattle.std.specs.Prelude.{◌≡◌, ◌⊎◌, ◌<◌, ◌-◌, ◌^◌, ℕ, List, [], ◌∷◌, ◌++◌, Option}
 use Rattle.db_value.specs.declared.entry.Entry.{Entry}
 use Rattle.db_value.specs.declared.step.Step.{Step}
 use Rattle.db_store.specs.State.{State}
 use Rattle.db_outside.specs.declared.disk.Disk.{Ghosts}
 use Rattle.stmt_text.specs.declared.sections.Section.{Section}
 use Rattle.reply_text.specs.Reply.{NamesItsRows, echo_text, reply_text}
+use Rattle.entry_codec.specs.Logs.{Opening}
 use Rattle.db_core.specs.Order.{World, opening}
+use Rattle.db_core.specs.Heard.{Marked, marked_steps, failures}
+use Rattle.db_core.specs.Acknowledged.{StoresAll}
 use Rattle.generations.specs.declared.pair.Pair.{Pair}
 use Rattle.generations.specs.Files.{opened, counts, reads}
 use Rattle.script_run.specs.Device.{Appends, AppendsFront, AppendsShort}
-use Rattle.script_run.specs.Output.{Marked, marked_as, out}
+use Rattle.script_run.specs.Output.{out}
 use Rattle.session_run.specs.declared.run.Unfinished.{Unfinished}
 use Rattle.session_run.specs.Runs.{IsInterleaving, IsBeginning}
 use Rattle.decibel_main.specs.Output.{IsCut}
-use Rattle.decibel_main.specs.Scripts.{Stops}
+use Rattle.decibel_main.specs.Images.{faults_in}
+use Rattle.decibel_main.specs.Scripts.{RunsOn, Stops}
 use Rattle.decibel_main.specs.declared.status.Status.{Status}
 use Rattle.decibel_main.specs.declared.status.Status.TheVariants.{Done, WriteFault, DiskFault, Memory}
 
@@ -44,14 +48,6 @@ pub record CutsSteps (steps : List Step) (before written : Option (List ℕ)) : 
 
 -- ---- a run
 
--- the line of a step with its mark
-abbrev pub marked_step : Step → Marked
-marked_step s = marked_as s.line s.failed
-
--- the lines of a list of steps, with their marks
-abbrev pub marked_steps : List Step → List Marked
-marked_steps steps = map marked_step steps
-
 -- The list of lines that the sections leave is an interleaving of them. After want of memory it has a beginning of each, unless a pass was lost.
 abbrev pub Leaves : Status → State → List Section → List Step → Type 0
 Leaves Done o sections steps = IsInterleaving o sections steps
@@ -68,22 +64,30 @@ Tells WriteFault w all before written = IsCut w all before written
 Tells Memory w all before written = AppendsFront before written (out w all)
 Tells _ w all before written = ⊥
 
--- sections were run on a state, each line with the reply of its whole transaction
-pub record RanSections (o : State) (sections : List Section) (status : Status) (before written : Option (List ℕ)) : Type 0 where
+-- Sections were run on a state, each line with the reply of its whole transaction, and a log did for the lines of the list, one after another, what a log does.
+pub record RanSections
+    {L : Type 0} (faults : L → ℕ) (Keeps : L → State → List Entry → Option (List ℕ) → Type 0) (generation : L → ℕ) (moment : L → ℕ × ℕ) (opens_since : L → ℕ × ℕ → Opening → Type 0) (Quiet : L → ℕ × ℕ → Type 0)
+    (o : State) (old new : L) (sections : List Section) (status : Status) (before written : Option (List ℕ)) : Type 0 where
   pub steps : List Step
   pub list : Leaves status o sections steps
   pub answers : Tells status (opening o) (marked_steps steps) before written
+  pub stores : StoresAll faults Keeps generation moment opens_since Quiet (opening o) (marked_steps steps) old new
+  pub unfailed : status ≡ Done → faults new < 2 ^ 64 - 1 → failures (marked_steps steps) ≡ 0
 
--- two files were opened, and the sections were run on their state
-pub record RanOnFiles (sections : List Section) (status : Status) (before written : Option (List ℕ)) (c d : List ℕ) : Type 0 where
+-- Two files were opened, and the sections were run on their state. A crash then leaves what it leaves of these lines on one thread.
+pub record RanOnFiles {D : Type 0} (g : Ghosts D) (old new : Pair D) (sections : List Section) (status : Status) (before written : Option (List ℕ)) (c d : List ℕ) : Type 0 where
   pub file : ℕ
   pub generation : ℕ
   pub state : State
   pub entries : List Entry
   pub at : ℕ
   pub opens : reads c d ≡ counts file generation (opened state entries at)
-  pub run : RanSections state sections status before written
+  pub steps : List Step
+  pub list : Leaves status state sections steps
+  pub answers : Tells status (opening state) (marked_steps steps) before written
+  pub runs : RunsOn g old new generation state entries (marked_steps steps)
+  pub unfailed : status ≡ Done → faults_in g new < 2 ^ 64 - 1 → failures (marked_steps steps) ≡ 0
 
--- Two files were opened and sections were run on their state, or they weren't opened. What a crash leaves of them after a run isn't said here.
+-- Two files were opened and sections were run on their state, or they weren't opened.
 abbrev pub RunsSections : {D : Type 0} → Ghosts D → Pair D → Pair D → List Section → Status → Option (List ℕ) → Option (List ℕ) → List ℕ → List ℕ → Type 0
-RunsSections g old new sections status before written c d = RanOnFiles sections status before written c d ⊎ Stops g old new status before written c d
+RunsSections g old new sections status before written c d = RanOnFiles g old new sections status before written c d ⊎ Stops g old new status before written c d

@@ -1,6 +1,6 @@
 //! The command `sessions`: the sections of an input, each on a thread of its own, on a dataset in two
 //! files.
-ghost use Rattle.std.specs.Prelude.{◌≡◌, ◌<◌, [], IfOk, OnOk, IsErrOf};
+ghost use Rattle.std.specs.Prelude.{◌≡◌, ◌<◌, [], IfOk, IfErr, OnOk, IsErrOf};
 ghost use Rattle.db_outside.specs.Count.{counted};
 ghost use Rattle.db_outside.specs.Device.{Faulted};
 ghost use Rattle.generations.specs.Pairs.{IfTold, RoseInOne, BothOnlyRead};
@@ -95,8 +95,10 @@ where
     St::View: Send + Sync,
     St::Prepared: Send + Sync,
     St::PreparedBranch: Send + Sync,
-    requires { IsNew board.kept }
-    ensures runs { RanSections board.kept.opening sections.now result.0
+    requires fresh { IsNew board.kept }
+    requires count { before ≡ counted (J.faults board.log) }
+    ensures runs { RanSections J.faults J.Keeps J.generation J.moment J.opens_since J.Quiet
+        board.kept.opening board.log result.1 sections.now result.0
         (K.written sink.old) (K.written sink.new) }
     ensures ends { IsRanStatus result.0 }
     ensures disk { result.0 ≡ Status.DiskFault → before < counted (J.faults result.1) }
@@ -121,6 +123,8 @@ where
 fn new_board<St: Store, J: Log<St>>(alloc: Global, store: St, log: J) -> Result<Board<St, J>, J>
     ensures opening { IfOk result (λ b. b.kept.opening ≡ St.state store) }
     ensures fresh { IfOk result (λ b. IsNew b.kept) }
+    ensures log { IfOk result (λ b. b.log ≡ log) }
+    ensures given_back { IfErr result (λ l. l ≡ log) }
 {
     match Board::new(alloc, store, log) {
         Ok(board) => Ok(board),
@@ -140,7 +144,8 @@ where
     St::View: Send + Sync,
     St::Prepared: Send + Sync,
     St::PreparedBranch: Send + Sync,
-    ensures runs { RanSections (St.state store) (sections_in input.now) result.0
+    ensures runs { RanSections J.faults J.Keeps J.generation J.moment J.opens_since J.Quiet
+        (St.state store) log result.1 (sections_in input.now) result.0
         (K.written sink.old) (K.written sink.new) }
     ensures ends { IsRanStatus result.0 }
     ensures disk { result.0 ≡ Status.DiskFault → J.faults log < J.faults result.1 }

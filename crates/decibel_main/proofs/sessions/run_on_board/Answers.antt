@@ -19,7 +19,8 @@ returns-in-Ok-clause-runs g c =
     let before = g.K.Sink.written c.args.sink.now in
     let after = g.K.Sink.written c.put_steps-put.new.sink in
     let ran = c.in-Ok.ensures.ok in
-    all_ran c.args.board.kept.opening c.args.sections.now c.in-Ok.board.kept before after c.put_steps-put.result c.ended-status.result _ _ ran.0.opening ran.0.stands ran.1
+    all_ran g.J.Log.faults g.J.Log.Keeps g.J.Log.generation g.J.Log.moment g.J.Log.opens_since g.J.Log.Quiet c.args.board.kept.opening c.args.sections.now c.in-Ok.board c.args.board.log _ before after
+    c.put_steps-put.result c.ended-status.result _ _ ran.0.opening ran.0.stands c.into_parts-log.ensures.log c.in-Ok.ensures.stored c.requires.count c.fault_count.ensures ran.1
     (subst (λ (ss : List Step). OnOk c.put_steps-put.result (Appends before after (steps_text ss))) c.steps.ensures c.put_steps-put.ensures.all)
     (subst (λ (ss : List Step). IsErrOf c.put_steps-put.result Fault → CutsSteps ss before after) c.steps.ensures c.put_steps-put.ensures.cut)
     (subst (λ (ss : List Step). AppendsFront before after (steps_text ss)) c.steps.ensures c.put_steps-put.ensures.front)
@@ -30,5 +31,6 @@ returns-in-Err-clause-runs g c =
     let before = g.K.Sink.written c.args.sink.now in
     let after = g.K.Sink.written c.put_steps.new.sink in
     let ran = c.in-Err.ensures.err in
-    part_ran c.args.board.kept.opening c.args.sections.now c.in-Err.board.kept before after c.in-Err.field-0-0 ran.0.opening ran.0.stands ran.1
+    part_ran g.J.Log.faults g.J.Log.Keeps g.J.Log.generation g.J.Log.moment g.J.Log.opens_since g.J.Log.Quiet c.args.board.kept.opening c.args.sections.now c.in-Err.board c.args.board.log _ before after
+    c.in-Err.field-0-0 ran.0.opening ran.0.stands c.into_parts-in-Err-log.ensures.log c.in-Err.ensures.stored ran.1
     (subst (λ (ss : List Step). AppendsFront before after (steps_text ss)) c.steps-in-Err.ensures c.put_steps.ensures.front)
