@@ -1,5 +1,6 @@
-use Rattle.std.proofs.Common.{sym, subst}
+use Rattle.std.proofs.Common.{List, sym, subst}
 use Rattle.db_store.specs.State.{State}
+use Rattle.stmt_text.specs.declared.sections.Section.{Section}
 use Rattle.stmt_text.specs.Sections.{sections_in}
 use Rattle.decibel_main.specs.Sessions.{RanSections}
 use Rattle.decibel_main.specs.declared.status.Status.TheVariants.{Memory}
@@ -20,5 +21,5 @@ returns-in-Err-new_board-clause-runs g c =
 pub returns-clause-runs : goal.returns-clause-runs
 returns-clause-runs g c =
     let new : g.row.J.Denot = c.run_on_board.result.1 in
-    subst (λ (p : State × g.row.J.Denot). RanSections g.J.Log.faults g.J.Log.Keeps g.J.Log.generation g.J.Log.moment g.J.Log.opens_since g.J.Log.Quiet p.0 p.1 new (sections_in c.args.input.now) c.run_on_board.result.0 (g.K.Sink.written c.args.sink.now) (g.K.Sink.written c.run_on_board.new.sink))
-    (λ i. (c.in-Ok-new_board.ensures.opening i, c.in-Ok-new_board.ensures.log i)) c.run_on_board.ensures.runs
+    subst (λ (p : State × g.row.J.Denot × List Section). RanSections g.J.Log.faults g.J.Log.Keeps g.J.Log.generation g.J.Log.moment g.J.Log.opens_since g.J.Log.Quiet p.0 p.1 new p.2 c.run_on_board.result.0 (g.K.Sink.written c.args.sink.now) (g.K.Sink.written c.run_on_board.new.sink))
+    (λ i. (c.in-Ok-new_board.ensures.opening i, c.in-Ok-new_board.ensures.log i, c.in-Ok.ensures i)) c.run_on_board.ensures.runs

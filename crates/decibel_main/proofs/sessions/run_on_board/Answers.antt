@@ -32,5 +32,5 @@ returns-in-Err-clause-runs g c =
     let after = g.K.Sink.written c.put_steps.new.sink in
     let ran = c.in-Err.ensures.err in
     part_ran g.J.Log.faults g.J.Log.Keeps g.J.Log.generation g.J.Log.moment g.J.Log.opens_since g.J.Log.Quiet c.args.board.kept.opening c.args.sections.now c.in-Err.board c.args.board.log _ before after
-    c.in-Err.field-0-0 ran.0.opening ran.0.stands c.into_parts-in-Err-log.ensures.log c.in-Err.ensures.stored ran.1
+    c.in-Err.field-0-0 ran.0.opening ran.0.stands c.into_parts-log-in-Err.ensures.log c.in-Err.ensures.stored ran.1
     (subst (λ (ss : List Step). AppendsFront before after (steps_text ss)) c.steps-in-Err.ensures c.put_steps.ensures.front)
