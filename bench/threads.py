@@ -2,8 +2,9 @@
 """What sessions on threads gain in the built program: bench/threads.py [PROGRAM].
 
 Each session works on a branch of its own, in transactions of 50 gets and 5 updates, so that all but each transaction's first line of a kind are
-answered outside the lock. The files are in memory, so that no sync is measured but one on a real file where it says so. Of each figure the least
-of some runs counts; the time of the same script without the sessions' lines is taken off.
+answered outside the lock, and then in transactions of 1,000 gets and 5 updates, so that nearly all lines are. The files are in memory, so that no
+sync is measured but one on a real file where it says so. Of each figure the least of some runs counts; the time of the same script without the
+sessions' lines is taken off.
 """
 import os, shutil, subprocess, sys, tempfile, time
 
@@ -38,12 +39,12 @@ def fresh(base, sessions):
     timed(base, "script", "1 begin\n" + rows + "1 commit\n" + "".join("1 branch b%d of master\n" % s for s in range(1, sessions + 1)))
 
 
-def lines_of(session, turns):
-    """Transactions of 50 gets and 5 updates on the session's branch."""
+def lines_of(session, turns, gets=50):
+    """Transactions of so many gets and 5 updates on the session's branch."""
     text = ["%d on b%d\n" % (session, session)]
     for turn in range(turns):
         text.append("%d begin\n" % session)
-        text += ["%d get items %d\n" % (session, (turn * 50 + k) * 7 % KEYS) for k in range(50)]
+        text += ["%d get items %d\n" % (session, (turn * 50 + k) * 7 % KEYS) for k in range(gets)]
         text += ["%d update items %d b=%d\n" % (session, (turn * 5 + k) * 11 % KEYS, turn) for k in range(5)]
         text.append("%d commit\n" % session)
     return text
@@ -54,11 +55,12 @@ def woven(sections):
     return "".join("".join(line) for line in zip(*sections))
 
 
-def throughput(folder):
+def throughput(folder, turns, gets):
+    print("transactions of %d gets and 5 updates" % gets, flush=True)
     base = os.path.join(folder, "data")
     first = None
     for sessions in (1, 2, 4, 8):
-        sections = [lines_of(s, TURNS) for s in range(1, sessions + 1)]
+        sections = [lines_of(s, turns, gets) for s in range(1, sessions + 1)]
         count, text = sum(map(len, sections)), woven(sections)
         found = {}
         for command in ("script", "sessions"):
@@ -85,7 +87,8 @@ def main():
     here, there = tempfile.mkdtemp(dir="."), tempfile.mkdtemp(dir="/dev/shm")
     try:
         print("%d processors" % os.cpu_count())
-        throughput(there)
+        throughput(there, TURNS, 50)
+        throughput(there, TURNS // 18, 1000)
         many(here)
     finally:
         shutil.rmtree(here)

@@ -1,6 +1,8 @@
 """Reads the two files of a dataset by docs/FORMATS.md alone, and writes those of a new one: what tests/run compares the program's files with."""
 import hashlib, struct
 
+import images
+
 MARK = b"\x01DECIBEL1"
 MOST_KEYS, MOST_VERSIONS, MOST_BRANCHES = 262_144, 65_536, 1_024
 
@@ -63,19 +65,6 @@ class Reader:
         return self.take(self.byte())
 
 
-def schema_in(image):
-    """The schema of a new dataset's image; such an image has one spelling."""
-    r = Reader(image)
-    try:
-        schema = []
-        for _ in range(r.byte()):
-            name = r.name()
-            schema.append((name, [r.name() for _ in range(r.byte())]))
-    except ValueError:
-        return None
-    return schema if image_of(schema) == image else None
-
-
 def entries_in(body):
     """The entries of a body, or none if it isn't one or more of them."""
     r, entries = Reader(body), []
@@ -106,10 +95,10 @@ def entries_in(body):
 
 
 class Dataset:
-    """Of each branch the tables of its positions; a table has fields by relation and key."""
+    """Of each branch the tables of its positions, which an image has at first; a table has fields by relation and key."""
 
-    def __init__(self, schema):
-        self.schema, self.names, self.tables = schema, [b"master"], [[{}]]
+    def __init__(self, image):
+        self.schema, self.names, self.tables = image.relations, [name for name, _ in image.branches], image.tables()
 
     def is_made(self, branch, position):
         return branch < len(self.names) and position < len(self.tables[branch])
@@ -168,10 +157,10 @@ def opened(c):
     image = c[57:57 + size]
     if hashlib.sha256(image).digest() != c[25:57]:
         raise Damage(25, "digest")
-    schema = schema_in(image)
-    if schema is None:
-        raise Damage(57, "grammar")
-    dataset, count = Dataset(schema), 0
+    try:
+        dataset, count = Dataset(images.read(image)), 0
+    except images.Fault as fault:
+        raise Damage(57 + fault.args[0], "grammar") from fault
     for at, body in records_from(c, 57 + size):
         entries = entries_in(body)
         if entries is None:
@@ -180,6 +169,11 @@ def opened(c):
             raise Damage(at, "entry")
         count += len(entries)
     return generation, dataset, count
+
+
+def image_in(c):
+    """The image of a file with a header. What an older file left stands behind the last gate."""
+    return c[57:57 + int.from_bytes(c[17:25], "little")]
 
 
 def has_header(c):

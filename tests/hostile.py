@@ -2,7 +2,7 @@
 
 What spoilt files stand for is what tests/files.py reads by docs/FORMATS.md alone. Each run has two seconds and two GB.
 """
-import os, random, resource, subprocess, tempfile, time
+import hashlib, os, random, resource, subprocess, tempfile, time
 
 import files, on_files, worked
 
@@ -94,18 +94,33 @@ def each_byte(base):
                 wrong.append((at, value, found))
     print("tests/run: %d files of one insert, each cut or with a byte changed" % tried, flush=True)
     yield "each byte of the file of one insert", wrong, []
+    for name, at, value, place, cause in (
+        ("the head of a branch that isn't there", 96, 2, 96, b"grammar"), ("a branch without a head", 96, 0, 124, b"grammar"), ("a column twice", 68, ord("a"), 67, b"grammar"),
+        ("a commit on a branch that isn't there", 162, 1, 124, b"entry"), ("a body that begins with 9", 161, 9, 124, b"grammar"),
+    ):
+        data = whole[:at] + bytes([value]) + whole[at + 1:]
+        body = data[161:197]
+        base.write(0, mended(data[:129] + hashlib.sha256(body).digest() + data[161:]))
+        yield name, (base.run("check"), base.told()), ((4, b"damaged file 0 at %d %s\n" % (place, cause), b"decibel: damaged file 0 at %d\n" % place),) * 2
 
 
 # ---- files spoilt at random
 
 def some_datasets(base):
-    """The bytes of some datasets: a new one, one with a commit, and one with branches, merges and deletions."""
-    for script in (b"", b"1 insert items 1 1 1\n",
-                   b"".join(b"1 insert items %d %d 0\n" % (n, n * n) for n in range(20)) + b"1 branch dev of master@3\n1 branch old of dev@0\n1 on dev\n1 delete items 2\n"
-                   b"1 update items 1 a=7\n1 merge master prefer dev\n1 begin\n1 insert items 100 1 1\n1 insert items 101 1 1\n1 delete items 3\n1 commit\n1 on master\n1 merge dev\n"):
+    """The bytes of the files of some datasets: a new one, one with a commit, one with branches, merges and deletions, and that one with checkpoints."""
+    most = (b"".join(b"1 insert items %d %d 0\n" % (n, n * n) for n in range(20)) + b"1 branch dev of master@3\n1 branch old of dev@0\n1 on dev\n1 delete items 2\n"
+            b"1 update items 1 a=7\n1 merge master left\n1 begin\n1 insert items 100 1 1\n1 insert items 101 1 1\n1 delete items 3\n1 commit\n1 on master\n1 merge dev\n")
+    more = b"1 insert items 200 1 1\n1 branch last of dev\n"
+    for script in (b"", b"1 insert items 1 1 1\n", most, most + b"1 checkpoint\n" + more, most + b"1 checkpoint\n" + more + b"1 checkpoint\n" + more.replace(b"last", b"then")):
         base.removed()
         base.made(script)
-        yield base.read(0)
+        yield base.read(0), base.read(1)
+
+
+def mended(data):
+    """With the digest of the image made right."""
+    size = int.from_bytes(data[17:25], "little")
+    return data[:25] + hashlib.sha256(data[57:57 + size]).digest() + data[57:] if 57 + size <= len(data) else data
 
 
 def spoilt(source, data):
@@ -148,7 +163,10 @@ def at_random(base):
     whole = list(some_datasets(base))
     base.removed()
     for turn in range(SPOILT):
-        pair = [spoilt(source, source.choice(whole)), source.choice((b"", b"", spoilt(source, source.choice(whole))))]
+        pair = [*source.choice(whole)]
+        spoil = source.choice((0, 0, 1, 1, 2))  # one of the two, or both
+        for file in (0, 1) if spoil == 2 else (spoil,):
+            pair[file] = source.choice((lambda data: data, mended))(spoilt(source, pair[file]))
         source.shuffle(pair)
         for file in (0, 1):
             base.write(file, pair[file])

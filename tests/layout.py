@@ -1,4 +1,4 @@
-"""The segments of a dataset, by their definition in docs/FORMATS.md: what tests/model.py answers to `segments`."""
+"""The segments of a dataset, by their definition in docs/FORMATS.md: what tests/model.py answers to `segments`, and what an image has."""
 
 
 class Row:
@@ -10,9 +10,13 @@ class Row:
     def at(self, position):
         return self.slots[position - self.first] if position >= self.first else frozenset()
 
+    def deltas(self):
+        """Which slots change at each of them."""
+        return [old ^ new for old, new in zip([frozenset(), *self.slots], self.slots)]
+
 
 class Segments:
-    """Of one relation: records, each a key, and for each branch its rows by the number of their segment."""
+    """Of one relation: records, each a key with fields, and for each branch its rows by the number of their segment."""
 
     def __init__(self):
         self.heads, self.records, self.rows = [], [], {}
@@ -24,14 +28,14 @@ class Segments:
         self.records.append([])
 
     def commit(self, branch, changes):
-        """`changes` has a key with whether there is a record of it now, by key."""
+        """`changes` has a key with its fields now, or None, by key."""
         rows, head = self.rows[branch], self.heads.index(branch)
         bits = {number: row.slots[-1] for number, row in rows.items()}
-        for key, is_put in changes:
-            bits = {number: frozenset(slot for slot in slots if self.records[number][slot] != key) for number, slots in bits.items()}
-            if is_put:
+        for key, fields in changes:
+            bits = {number: frozenset(slot for slot in slots if self.records[number][slot][0] != key) for number, slots in bits.items()}
+            if fields is not None:
                 bits[head] |= {len(self.records[head])}
-                self.records[head].append(key)
+                self.records[head].append((key, fields))
         for number, row in rows.items():
             row.slots.append(bits[number])
 
@@ -53,19 +57,20 @@ class Segments:
 class Layout:
     def __init__(self, schema):
         self.segments, self.last = {relation: Segments() for relation in schema}, {b"master": 0}
+        self.origins = {b"master": (b"master", 0)}
         for of in self.segments.values():
             of.add(b"master")
 
     def commit(self, branch, changes):
-        """`changes` has a relation, a key and whether there is a record of it now."""
+        """`changes` has a relation, a key and its fields now, or None."""
         for relation, of in self.segments.items():
-            of.commit(branch, sorted((key, is_put) for where, key, is_put in changes if where == relation))
+            of.commit(branch, sorted(((key, fields) for where, key, fields in changes if where == relation), key=lambda change: change[0]))
         self.last[branch] += 1
 
     def branch(self, branch, origin, position):
         for of in self.segments.values():
             of.branch(branch, origin, position, self.last[origin])
-        self.last[branch] = 0
+        self.last[branch], self.origins[branch] = 0, (origin, position)
 
     def lines(self):
         """Branches stand in the order made."""

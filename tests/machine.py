@@ -28,6 +28,7 @@ FORMS = [(kind, re.compile(form), stage) for kind, form, stage in (
     ("minus", r"minus (%s) (%s) (%s)" % (NAMED, OF, OF), "questions"),
     ("graph", r"graph", "merges"),
     ("segments", r"segments", "segments"),
+    ("checkpoint", r"checkpoint", 0),
     ("merge", r"merge (%s)(?: (left|right))?" % NAMED, "merges"),
 )]
 HOLDS = {"=": (0,), "!=": (-1, 1), "<": (-1,), "<=": (-1, 0), ">": (1,), ">=": (0, 1)}
@@ -323,6 +324,11 @@ class Machine:
                 live = ["%s=%d" % (name, list(self.homes[branch][r][-1].values()).count(number)) for branch, name in enumerate(self.names) if number in self.seen[branch][r]]
                 lines.append("segment %s %d %s records %d live %s\n" % (self.relations[r], number, "internal" if head is None else "head " + self.names[head], count, ",".join(live)))
         return "%ssegments %d\n" % ("".join(lines), len(lines))
+
+    def do_checkpoint(self):
+        if self.now.begun:
+            raise No("10 in transaction")
+        return "ok\n"
 
     def changed(self):
         return "ok\n" if self.now.begun else self.store()

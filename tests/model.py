@@ -12,8 +12,7 @@ from dataclasses import dataclass
 
 import layout
 
-# What of the language is built stage by stage. A line that needs a stage that isn't built is a bad line, and so is `checkpoint`: the model
-# has no files.
+# What of the language is built stage by stage. A line that needs a stage that isn't built is a bad line.
 STAGES = {
     "sessions": "sessions 2 to 64",
     "questions": "scan with in or where, join, minus",
@@ -121,7 +120,7 @@ class Statement:
 
 def statement(words):
     match words:
-        case [b"begin"] | [b"commit"] | [b"abort"] | [b"graph"] | [b"segments"]:
+        case [b"begin"] | [b"commit"] | [b"abort"] | [b"graph"] | [b"segments"] | [b"checkpoint"]:
             return Statement(words[0].decode())
         case [b"begin", room]:
             return Statement("begin", room=number(room, TOUCHED, 1))
@@ -205,10 +204,10 @@ def with_key(tables, relation, key, values):
 # Versions.
 
 class Version:
-    """A version by its proper name, with its parents and a whole table for each relation."""
+    """A version by its proper name, with its parents, a whole table for each relation, and the place as which its second parent was named, if it has one."""
 
-    def __init__(self, name, parents, tables):
-        self.name, self.parents, self.tables = name, parents, tables
+    def __init__(self, name, parents, tables, second=None):
+        self.name, self.parents, self.tables, self.second = name, parents, tables, second
 
 
 class State:
@@ -243,9 +242,9 @@ class State:
         self.branches[new] = [origin]
 
     def commit(self, branch, second, tables, touched):
-        self.layout.commit(branch, [(relation, key, key in tables[relation]) for relation, key in touched])
+        self.layout.commit(branch, [(relation, key, tables[relation].get(key)) for relation, key in touched])
         versions = self.branches[branch]
-        made = Version(b"%s@%d" % (branch, len(versions)), [versions[-1]] + ([second] if second else []), tables)
+        made = Version(b"%s@%d" % (branch, len(versions)), [versions[-1]] + ([self.found(second)] if second else []), tables, second)
         versions.append(made)
         self.made.append(made)
 
@@ -342,7 +341,7 @@ class Run:
 
     def refuse_early(self, said):
         """The refusals that the session, the schema and the line alone tell."""
-        if said.kind in ("begin", "on", "branch") and self.is_begun:
+        if said.kind in ("begin", "on", "branch", "checkpoint") and self.is_begun:
             raise Refused(b"10 in transaction")
         if said.kind in ("commit", "abort") and not self.is_begun:
             raise Refused(b"11 no transaction")
@@ -428,6 +427,10 @@ class Run:
     def segments(self, said):
         return self.state.layout.lines()
 
+    def checkpoint(self, said):
+        """It changes no version: what it does to files the model doesn't know."""
+        return b"ok\n"
+
     def get(self, said):
         return self.get_of(said, self.tables)
 
@@ -500,7 +503,7 @@ class Run:
         changed = {(relation, key) for relation, table in result.items() for key in table.keys() | self.tables[relation].keys()
                    if table.get(key) != self.tables[relation].get(key)}
         self.refuse_room(changed)
-        self.tables, self.touched, self.second = result, changed, other
+        self.tables, self.touched, self.second = result, changed, self.state.place((said.branch, None))
         return self.done()
 
     def refuse_full(self):

@@ -4,11 +4,11 @@ What the files have is compared with what tests/files.py reads and writes by doc
 """
 import os, random, re, subprocess, tempfile, time
 
-import files, worked
+import files, images, model, random_scripts, worked
 
 SCHEMA = worked.USUAL
 RELATIONS = [(b"items", [b"a", b"b"])]
-KILLED, COMMITS = 100, 2000
+KILLED, COMMITS, LAYOUTS = 100, 2000, 300
 
 
 class Base:
@@ -156,6 +156,105 @@ def again(base):
     yield "the other file stays", (base.read(0), base.run("check")), (b"", (0, b"ok generation 1 branches 2 versions 4 entries 4\n", b""))
 
 
+def checkpoints(base):
+    """An image in the other file, with the next generation; the entries behind it are read from there."""
+    base.made(b"1 insert items 1 1 1\n")
+    first, small = base.read(0), model.Model(dict(RELATIONS))
+    small.line(b"1 insert items 1 1 1")
+    image = images.spelled(images.of_model(small.state))
+    yield "a checkpoint", base.run("script", b"1 checkpoint\n1 insert items 2 2 2\n"), (0, answered((b"1 checkpoint", b"ok"), (b"1 insert items 2 2 2", b"ok master@2")), b"")
+    record = files.record(files.commit(0, [(0, 2, (2, 2))]))
+    yield "its files", (base.read(0), base.read(1)), (first, files.header(2, image) + record + b"\0")
+    yield "check of a checkpoint", base.run("check"), (0, b"ok generation 2 branches 1 versions 3 entries 1\n", b"")
+    yield "export of a checkpoint", base.run("export", b"", ("items", "master")), (0, b"1,1,1\n2,2,2\n", b"")
+    small.line(b"1 insert items 2 2 2")
+    image_of_two = images.spelled(images.of_model(small.state))
+    script = b"2 begin\n2 insert items 9 9 9\n2 checkpoint\n1 checkpoint\n1 checkpoint\n2 commit\n2 scan items\n"
+    yield "checkpoints beside an open transaction", base.run("script", script), (0, answered(
+        (b"2 begin", b"ok"), (b"2 insert items 9 9 9", b"ok"), (b"2 checkpoint", b"refused 10 in transaction"), (b"1 checkpoint", b"ok"), (b"1 checkpoint", b"ok"),
+        (b"2 commit", b"ok master@3"), (b"2 scan items", b"row 1 1 1\nrow 2 2 2\nrow 9 9 9\nrows 3")), b"")
+    yield "the images beside it are the same", (files.image_in(base.read(1)), base.read(0)), (image_of_two, files.header(3, image_of_two) + b"\0")
+    yield "check of three checkpoints", (base.run("check"), base.told()), ((0, b"ok generation 4 branches 1 versions 4 entries 1\n", b""),) * 2
+    yield "import behind checkpoints", base.run("import", b"3,3,3\n", ("items",)), (0, b"imported 1 master@4\n", b"")
+    os.unlink(base.path(0))
+    yield "the older file missing", (base.run("check"), base.told()), ((0, b"ok generation 4 branches 1 versions 5 entries 2\n", b""),) * 2
+    yield "a checkpoint where it was", base.run("script", b"1 checkpoint\n"), (0, answered((b"1 checkpoint", b"ok")), b"")
+    yield "check of that", (base.run("check"), base.told()), ((0, b"ok generation 5 branches 1 versions 5 entries 0\n", b""),) * 2
+
+
+def last_generation(base):
+    """The generation 2^63 is the last one: a checkpoint answers, and writes nothing."""
+    base.made(b"1 insert items 1 1 1\n")
+    base.write(0, base.read(0)[:9] + (1 << 63).to_bytes(8, "little") + base.read(0)[17:])
+    before = base.read(0), base.read(1)
+    yield "a checkpoint of the last generation", base.run("script", b"1 checkpoint\n"), (0, answered((b"1 checkpoint", b"ok")), b"")
+    yield "the files of the last generation", (base.read(0), base.read(1)), before
+    base.write(0, before[0][:9] + ((1 << 63) - 1).to_bytes(8, "little") + before[0][17:])
+    yield "two checkpoints to the last generation", base.run("script", b"1 checkpoint\n1 checkpoint\n1 insert items 2 2 2\n")[0], 0
+    yield "check of the last generation", (base.run("check"), base.told()), ((0, b"ok generation 9223372036854775808 branches 1 versions 3 entries 1\n", b""),) * 2
+
+
+def layouts(base):
+    """Random scripts with a checkpoint at their ends: the image is that of the model's segments, and that of what it is read as."""
+    source, wrong, size = random.Random(12), [], 0
+    for turn in range(LAYOUTS):
+        given = random_scripts.random_script(source)
+        schema, lines = model.lines_of(given)
+        said = model.Model(schema)
+        for line in lines:
+            said.line(line)
+        said.output()
+        image = images.spelled(images.of_model(said.state))
+        size += len(image)
+        for file in (0, 1):
+            os.path.exists(base.path(file)) and os.unlink(base.path(file))
+        base.run("create", given[:given.index(b"\nend\n") + 5])
+        base.run("script", b"".join(line + b"\n" for line in lines))
+        base.run("script", b"1 checkpoint\n")
+        entries, found = base.told()[1], [base.read(0), base.read(1)]
+        base.run("script", b"1 checkpoint\n")
+        again = [base.read(0), base.read(1)]
+        counted = files.counted(*found)
+        if files.image_in(found[counted]) != image or files.image_in(again[1 - counted]) != image or again[counted] != found[counted] or not entries.endswith(b" entries 0\n"):
+            wrong.append((turn, given))
+    print("tests/run: %d random layouts, images of %d bytes in all" % (LAYOUTS, size), flush=True)
+    yield "the images of random layouts", [turn for turn, _ in wrong], []
+
+
+def killed_at_checkpoints(base):
+    """The program killed at a random moment of a script with many checkpoints: each line whose `ok` was read is there, and at most one commit more."""
+    source, wrong, cut, generations = random.Random(13), [], 0, set()
+    given = b"".join(b"1 insert items %d %d 0\n" % (n, n) + b"1 checkpoint\n" * (n % 3 == 2) for n in range(600))
+    started = time.monotonic()
+    base.made()
+    base.run("script", given)
+    whole = time.monotonic() - started
+    for turn in range(KILLED):
+        for file in (0, 1):
+            os.unlink(base.path(file))
+        base.made()
+        program = subprocess.Popen([base.program, "script", base.name], stdin=subprocess.PIPE, stdout=subprocess.PIPE, stderr=subprocess.DEVNULL)
+        program.stdin.write(given)
+        program.stdin.close()
+        time.sleep(source.random() * min(whole, 1.0))
+        program.kill()
+        written = program.stdout.read()
+        program.wait()
+        read, images_read = len(re.findall(rb"^ok master@\d+\n", written, re.MULTILINE)), len(re.findall(rb"^ok\n", written, re.MULTILINE))
+        cut += read < 600
+        told = base.run("check")
+        found = re.fullmatch(rb"ok generation (\d+) branches 1 versions (\d+) entries (\d+)\n", told[1])
+        generation, there = (int(found.group(1)) - 1, int(found.group(2)) - 1) if found else (-1, -1)
+        generations.add(generation)
+        rows = base.run("script", b"1 scan items\n")[1]
+        expected = b"> 1 scan items\n" + b"".join(b"row %d %d 0\n" % (n, n) for n in range(there)) + b"rows %d\n" % there
+        if told != base.told() or not read <= there <= read + 1 or not images_read <= generation <= images_read + 1 or rows != expected:
+            wrong.append((turn, told, read, there))
+    print("tests/run: killed %d times in a script of 600 commits and 200 checkpoints, %d times before its end: %.1f seconds" % (KILLED, cut, time.monotonic() - started), flush=True)
+    yield "killed beside checkpoints", wrong, []
+    yield "killed at many generations", len(generations) > KILLED // 4, True
+
+
 def not_there(base):
     """Files that are missing, and a folder in the place of one."""
     for verb in ("check", "script"):
@@ -285,7 +384,7 @@ def examples(base, folder):
 
 def checks(program, top):
     """Names with what was found and what should be."""
-    for part in (new_ones, bad_schemas, last_comments, stored, exported, empty_ones, one_insert, again, not_there, closed_streams, full_disk, no_permission, killed, examples):
+    for part in (new_ones, bad_schemas, last_comments, stored, exported, empty_ones, one_insert, again, checkpoints, last_generation, layouts, not_there, closed_streams, full_disk, no_permission, killed, killed_at_checkpoints, examples):
         with tempfile.TemporaryDirectory() as folder:
             base = Base(program, folder)
             yield from part(base, os.path.join(top, "examples")) if part is examples else part(base)

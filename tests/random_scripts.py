@@ -37,7 +37,7 @@ OTHER_LINES = (b"hello", b"1", b"1 ", b" 1 commit", b"1 commit ", b"1  commit", 
 # How often each statement comes outside and inside of a transaction; one that isn't built comes seldom.
 KINDS = {"insert": (18, 26), "update": (18, 20), "delete": (6, 8), "get": (4, 5), "get_in": (6, 8), "scan": (3, 4), "begin": (11, 1), "commit": (1, 12),
          "abort": (1, 3), "on": (12, 1), "log": (3, 3), "branch": (9, 1), "scan_where": (3, 4), "scan_in": (4, 5), "scan_heads": (3, 2),
-         "join": (4, 4), "minus": (4, 4), "merge": (10, 5), "merge_side": (5, 3), "graph": (2, 2), "segments": (2, 2), "checkpoint": (0.1, 0.1)}
+         "join": (4, 4), "minus": (4, 4), "merge": (10, 5), "merge_side": (5, 3), "graph": (2, 2), "segments": (2, 2), "checkpoint": (1, 0.3)}
 STAGE_OF = {"scan_where": "questions", "scan_in": "questions", "scan_heads": "questions", "join": "questions", "minus": "questions",
             "merge": "merges", "merge_side": "merges", "graph": "merges", "segments": "segments"}
 

@@ -15,7 +15,7 @@ use Rattle.db_value.specs.declared.reply.Refusal.{Refusal}
 use Rattle.db_value.specs.declared.reply.Refusal.TheVariants.{Line, InTransaction, NoTransaction, NotFirst}
 use Rattle.db_store.specs.Dataset.{Dataset}
 use Rattle.stmt_text.specs.declared.stmt.Stmt.{Stmt}
-use Rattle.stmt_text.specs.declared.stmt.Stmt.TheVariants.{Begin, Commit, Abort, On, LogOf, Graph, Segments, Branch, Merge, Insert, Update, Delete, Get, Scan, Join, Minus}
+use Rattle.stmt_text.specs.declared.stmt.Stmt.TheVariants.{Begin, Commit, Abort, On, LogOf, Graph, Segments, Checkpoint, Branch, Merge, Insert, Update, Delete, Get, Scan, Join, Minus}
 use Rattle.stmt_text.specs.declared.stmt.NamedSet.{NamedSet}
 use Rattle.stmt_text.specs.declared.stmt.ScanOver.{ScanOver}
 use Rattle.stmt_text.specs.declared.stmt.ScanOver.TheVariants.{Current, Named, Heads}
@@ -157,6 +157,7 @@ module _ {W : Type 0} (k : Keeping W) where
   early_refused d b tx (LogOf name) e = absurd cc
   early_refused d b tx Graph e = absurd cc
   early_refused d b tx Segments e = absurd cc
+  early_refused d b tx Checkpoint e = outside_early tx tx.begun _ e
   early_refused d b tx (Branch name origin) e = outside_early tx tx.begun _ e
   early_refused d b tx (Merge name prefer) e = told_early d b tx _ _ (first_early tx (has_changed k tx) _ e)
   early_refused d b tx (Insert name key fields) e = told_early d b tx _ _ (insert_early (ground_of d b) tx name key fields (relation_named d.schema name) e)
@@ -166,7 +167,6 @@ module _ {W : Type 0} (k : Keeping W) where
   early_refused d b tx (Scan name over terms) e = told_early d b tx _ _ (scan_early d.schema _ _ tx name over terms (relation_named d.schema name) e)
   early_refused d b tx (Join left right v w terms) e = told_early d b tx _ _ (join_early d.schema tx left right _ _ terms (relation_named d.schema left) (relation_named d.schema right) e)
   early_refused d b tx (Minus name v w) e = told_early d b tx _ _ (minus_early tx name _ _ (relation_named d.schema name) e)
-  early_refused d b tx _ e = told_refusal d b tx.begun tx Line
 
   -- the same of a statement in an open transaction, by what it knows
   pub act_early : (g : Ground) (sources : VersionName → Source) (heads : List (List ℕ)) (tx : Tx W) (changed : Bool) (x : Stmt) → is_early g.schema true changed x ≡ true → act k g sources heads tx x ≡ refused tx (early_why g.schema true changed x)
@@ -177,6 +177,7 @@ module _ {W : Type 0} (k : Keeping W) where
   act_early g sources heads tx changed (LogOf name) e = absurd cc
   act_early g sources heads tx changed Graph e = absurd cc
   act_early g sources heads tx changed Segments e = absurd cc
+  act_early g sources heads tx changed Checkpoint e = refl
   act_early g sources heads tx changed (Branch name origin) e = refl
   act_early g sources heads tx changed (Merge name prefer) e = first_refused tx changed e
   act_early g sources heads tx changed (Insert name key fields) e = insert_early g tx name key fields (relation_named g.schema name) e
@@ -186,4 +187,3 @@ module _ {W : Type 0} (k : Keeping W) where
   act_early g sources heads tx changed (Scan name over terms) e = scan_early g.schema sources heads tx name over terms (relation_named g.schema name) e
   act_early g sources heads tx changed (Join left right v w terms) e = join_early g.schema tx left right (sources v) (sources w) terms (relation_named g.schema left) (relation_named g.schema right) e
   act_early g sources heads tx changed (Minus name v w) e = minus_early tx name (sources v) (sources w) (relation_named g.schema name) e
-  act_early g sources heads tx changed _ e = refl

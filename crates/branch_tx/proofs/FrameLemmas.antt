@@ -8,7 +8,7 @@ use Rattle.db_value.specs.declared.entry.Entry.{Entry}
 use Rattle.db_value.specs.declared.reply.Reply.{Reply}
 use Rattle.db_value.specs.declared.reply.Reply.TheVariants.{Done}
 use Rattle.db_value.specs.declared.reply.Refusal.{Refusal}
-use Rattle.db_value.specs.declared.reply.Refusal.TheVariants.{Line, NoBranch, InTransaction, NoTransaction, NotFirst}
+use Rattle.db_value.specs.declared.reply.Refusal.TheVariants.{NoBranch, InTransaction, NoTransaction, NotFirst}
 use Rattle.db_store.specs.Overlay.{Overlay}
 use Rattle.db_store.specs.Dataset.{Branch as BranchOf, Dataset, Version, branch_named, head_of, head_place, table_at, apply, IsMade}
 use Rattle.db_store.specs.Order.{IsOrdered, common}
@@ -16,7 +16,7 @@ use Rattle.db_store.specs.Sound.{IsSound}
 use Rattle.db_store.proofs.SoundLemmas.{sound_stays}
 use Rattle.db_store.proofs.OrderMade.{common_made, ordered_stays}
 use Rattle.stmt_text.specs.declared.stmt.Stmt.{Stmt}
-use Rattle.stmt_text.specs.declared.stmt.Stmt.TheVariants.{Begin, Commit, Abort, On, LogOf, Graph, Segments, Branch, Merge, Insert, Update, Delete, Get, Scan, Join, Minus}
+use Rattle.stmt_text.specs.declared.stmt.Stmt.TheVariants.{Begin, Commit, Abort, On, LogOf, Graph, Segments, Checkpoint, Branch, Merge, Insert, Update, Delete, Get, Scan, Join, Minus}
 use Rattle.stmt_text.specs.declared.stmt.ScanOver.{ScanOver}
 use Rattle.branch_tx.specs.Keeping.{Keeping, over_table}
 use Rattle.db_store.specs.Found.{Found, found, lack, branch_names}
@@ -162,6 +162,7 @@ module _ (N : ℕ → Type 0) (s t : Dataset) (f : Frame N s t) (sound : IsSound
   late_stays tx (LogOf name) h w = ap (answered tx) (log_same name (branch_named s name) refl w)
   late_stays tx Graph h w = ap (answered tx) (graph_stays N s t f sound w.0 (λ c l. branch_within N (length s.branches) c w.1 l))
   late_stays tx Segments h w = refl
+  late_stays tx Checkpoint h w = refl
   late_stays tx (Merge name prefer) h w = merge_stays tx name prefer (branch_named s name) refl w
   late_stays tx (Branch name origin) h w = ap (λ (o : Outcome (List Overlay)). cond tx.begun (refused tx InTransaction) o) (branch_stays tx name origin w.0 w.1)
   late_stays tx (Insert name key fields) h w = act_stays tx (Insert name key fields) (λ u. source_of b (found s u)) (branch_names s) w.0
@@ -171,7 +172,6 @@ module _ (N : ℕ → Type 0) (s t : Dataset) (f : Frame N s t) (sound : IsSound
   late_stays tx (Scan name over terms) h w = scan_line tx name over terms w
   late_stays tx (Join left right v u terms) h w = join_line tx left right v u terms w
   late_stays tx (Minus name v u) h w = minus_line tx name v u w
-  late_stays tx _ h w = told_refusal (over_table (head_of t b)) t b tx.begun tx Line ∙ sym (told_refusal (over_table (head_of s b)) s b tx.begun tx Line)
 
   early_stays : (tx : Tx (List Overlay)) (x : Stmt) → is_early s.schema tx.begun (is_changed tx) x ≡ true → step_over t b tx x ≡ step_over s b tx x
   early_stays tx x e =

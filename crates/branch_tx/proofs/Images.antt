@@ -28,7 +28,7 @@ use Rattle.db_store.specs.Fits.{most_branches}
 use Rattle.field_merge.specs.Merge.{table_changes}
 use Rattle.field_merge.proofs.OrderLemmas.{merged_within}
 use Rattle.stmt_text.specs.declared.stmt.Stmt.{Stmt}
-use Rattle.stmt_text.specs.declared.stmt.Stmt.TheVariants.{Begin, Commit, Abort, On, LogOf, Graph, Segments, Branch, Merge, Insert, Update, Delete, Get, Scan, Join, Minus}
+use Rattle.stmt_text.specs.declared.stmt.Stmt.TheVariants.{Begin, Commit, Abort, On, LogOf, Graph, Segments, Checkpoint, Branch, Merge, Insert, Update, Delete, Get, Scan, Join, Minus}
 use Rattle.stmt_text.specs.declared.stmt.NamedSet.{NamedSet}
 use Rattle.stmt_text.specs.declared.stmt.ScanOver.{ScanOver}
 use Rattle.stmt_text.specs.declared.stmt.ScanOver.TheVariants.{Current, Named, Heads}
@@ -228,6 +228,7 @@ step_same t d b tx (On name) w e n = cond_same t tx.begun _ _ _ _ refl (on_same 
 step_same t d b tx (LogOf name) w e n = refl
 step_same t d b tx Graph w e n = refl
 step_same t d b tx Segments w e n = refl
+step_same t d b tx Checkpoint w e n = cond_same t tx.begun _ _ _ _ refl refl
 step_same t d b tx (Branch name origin) w e n = cond_same t tx.begun _ _ _ _ refl (branch_as_same t tx name (place_in (found d origin)) (lack (found d origin)) (branch_named d name) (length d.branches))
 step_same t d b tx (Merge name prefer) w e n =
     ap (told_of d b tx.begun)

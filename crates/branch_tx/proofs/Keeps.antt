@@ -18,7 +18,7 @@ use Rattle.db_store.specs.Dataset.{Dataset, branch_named, head_of, head_place}
 use Rattle.db_store.specs.Fits.{most_branches}
 use Rattle.field_merge.specs.Merge.{table_changes}
 use Rattle.stmt_text.specs.declared.stmt.Stmt.{Stmt}
-use Rattle.stmt_text.specs.declared.stmt.Stmt.TheVariants.{Begin, Commit, Abort, On, LogOf, Graph, Segments, Branch, Merge, Insert, Update, Delete, Get, Scan, Join, Minus}
+use Rattle.stmt_text.specs.declared.stmt.Stmt.TheVariants.{Begin, Commit, Abort, On, LogOf, Graph, Segments, Checkpoint, Branch, Merge, Insert, Update, Delete, Get, Scan, Join, Minus}
 use Rattle.stmt_text.specs.declared.stmt.NamedSet.{NamedSet}
 use Rattle.stmt_text.specs.declared.stmt.ScanOver.{ScanOver}
 use Rattle.stmt_text.specs.declared.stmt.ScanOver.TheVariants.{Current, Named, Heads}
@@ -214,6 +214,7 @@ module _ {W : Type 0} (k : Keeping W) (P : Tx W → Type 0) where
   step_keeps d b tx (LogOf name) h begin change new move merge = h
   step_keeps d b tx Graph h begin change new move merge = h
   step_keeps d b tx Segments h begin change new move merge = h
+  step_keeps d b tx Checkpoint h begin change new move merge = cond_keeps tx.begun _ _ h h
   step_keeps d b tx (Merge name prefer) h begin change new move merge = cond_by (has_changed k tx) _ _ (λ q. h)
       (λ q. merge_keeps d b tx name prefer (branch_named d name) h (λ c e l a. merge name prefer c e (record { first = q; open_branch = l; accepted = a })))
   step_keeps d b tx (Branch name origin) h begin change new move merge = cond_keeps tx.begun _ _ h

@@ -9,7 +9,7 @@ use Rattle.db_store.proofs.OverlayLemmas.{count_untouched}
 use Rattle.lock_table.specs.declared.need.Need.{Need}
 use Rattle.lock_table.specs.Grants.{Has}
 use Rattle.stmt_text.specs.declared.stmt.Stmt.{Stmt}
-use Rattle.stmt_text.specs.declared.stmt.Stmt.TheVariants.{Begin, Commit, Abort, On, LogOf, Graph, Segments, Branch, Merge, Insert, Update, Delete, Get, Scan, Join, Minus}
+use Rattle.stmt_text.specs.declared.stmt.Stmt.TheVariants.{Begin, Commit, Abort, On, LogOf, Graph, Segments, Checkpoint, Branch, Merge, Insert, Update, Delete, Get, Scan, Join, Minus}
 use Rattle.branch_tx.specs.Keeping.{Keeping, over_table}
 use Rattle.db_store.specs.Found.{branch_names, found, lack}
 use Rattle.branch_tx.specs.Found.{Source, source_of}
@@ -46,6 +46,7 @@ module _ (P : Tx (List Overlay) → Type 0) (d : Dataset) (b : ℕ) (tx : Tx (Li
   late_keeps (LogOf name) change make = h
   late_keeps Graph change make = h
   late_keeps Segments change make = h
+  late_keeps Checkpoint change make = cond_keeps k P tx.begun _ _ h h
   late_keeps (Branch name origin) change make = cond_keeps k P tx.begun _ _ h
       (branch_keeps k P tx name (place_in (found d origin)) (lack (found d origin)) (branch_named d name) (length d.branches) h
       (λ a c l. make (inl refl) name origin (record { origin = a; new = c; room = l })))
@@ -58,7 +59,6 @@ module _ (P : Tx (List Overlay) → Type 0) (d : Dataset) (b : ℕ) (tx : Tx (Li
   late_keeps (Scan name over terms) change make = scan_keeps k P d.schema sources (branch_names d) tx name over terms (relation_named d.schema name) h
   late_keeps (Join left right v w terms) change make = join_keeps k P d.schema tx left right (sources v) (sources w) terms (relation_named d.schema left) (relation_named d.schema right) h
   late_keeps (Minus name v w) change make = minus_keeps k P tx name (sources v) (sources w) (relation_named d.schema name) h
-  late_keeps _ change make = h
 
   line_at : (x : Stmt) (q : Bool) → is_early d.schema tx.begun (is_changed tx) x ≡ q → Changes (cond q [] (stmt_needs d b x)) → Makes (cond q [] (stmt_needs d b x)) → P (step_over d b tx x).tx
   line_at x true e change make = subst (λ (o : Outcome (List Overlay)). P o.tx) (sym (early_refused k d b tx x e)) h

@@ -23,7 +23,7 @@ pub use Rattle.db_store.specs.Rows.{marked}
 pub use Rattle.multi_scan.specs.Multi.{union_marked}
 pub use Rattle.version_join.specs.Join.{pairs_of, unlike}
 use Rattle.stmt_text.specs.declared.stmt.Stmt.{Stmt}
-use Rattle.stmt_text.specs.declared.stmt.Stmt.TheVariants.{Begin, On, Branch, Merge, Insert, Update, Delete, Get, Scan, Join, Minus}
+use Rattle.stmt_text.specs.declared.stmt.Stmt.TheVariants.{Begin, On, Checkpoint, Branch, Merge, Insert, Update, Delete, Get, Scan, Join, Minus}
 use Rattle.stmt_text.specs.declared.stmt.NamedSet.{NamedSet}
 use Rattle.stmt_text.specs.declared.stmt.ScanOver.{ScanOver}
 use Rattle.stmt_text.specs.declared.stmt.ScanOver.TheVariants.{Current, Named, Heads}
@@ -201,10 +201,11 @@ module _ {W : Type 0} (k : Keeping W) where
   minus_of tx name left right None = refused tx (NoRelation name)
   minus_of tx name left right (Some r) = minus_in tx r left right
 
-  -- A statement in an open transaction, which isn't an end of it, with the names of all branches. A merge stands here only where it isn't the first to change something. A form that isn't built yet is a bad line.
+  -- A statement in an open transaction, which isn't an end of it, with the names of all branches. A merge stands here only where it isn't the first to change something. What asks for a log, or for a report, is told elsewhere, and is a bad line here.
   abbrev pub act : Ground → (VersionName → Source) → List (List ℕ) → Tx W → Stmt → Outcome W
   act g sources heads tx (Begin room) = refused tx InTransaction
   act g sources heads tx (On name) = refused tx InTransaction
+  act g sources heads tx Checkpoint = refused tx InTransaction
   act g sources heads tx (Branch name origin) = refused tx InTransaction
   act g sources heads tx (Merge name prefer) = refused tx NotFirst
   act g sources heads tx (Insert name key fields) = insert_of g tx name key fields (relation_named g.schema name)

@@ -14,7 +14,7 @@ use Rattle.db_store.specs.Dataset.{Dataset, branch_at, branch_named, head_of, he
 use Rattle.db_store.specs.Order.{common}
 use Rattle.db_store.specs.Fits.{most_branches, most_versions}
 use Rattle.stmt_text.specs.declared.stmt.Stmt.{Stmt}
-use Rattle.stmt_text.specs.declared.stmt.Stmt.TheVariants.{Begin, Commit, Abort, On, LogOf, Graph, Segments, Branch, Merge}
+use Rattle.stmt_text.specs.declared.stmt.Stmt.TheVariants.{Begin, Commit, Abort, On, LogOf, Graph, Segments, Checkpoint, Branch, Merge}
 use Rattle.branch_tx.specs.Keeping.{Keeping, Private, private_copy, privately, over_table}
 use Rattle.db_store.specs.Found.{Found, Fixed, Head, NoBranch, NoPosition, branch_names, found, lack}
 use Rattle.version_log.specs.Log.{log_of}
@@ -97,7 +97,7 @@ module _ {W : Type 0} (k : Keeping W) where
   abbrev pub merge_of : Dataset → ℕ → Tx W → List ℕ → Prefer → Outcome W
   merge_of d b tx name prefer = cond (has_changed tx) (refused tx NotFirst) (merge_named d b tx name prefer (branch_named d name))
 
-  -- one line, after lines that left tx; what `segments` is told of the layout isn't said here, since a dataset has none
+  -- one line, after lines that left tx; what `segments` is told of the layout, and what `checkpoint` asks of a log, isn't said here, since a dataset has none
   abbrev pub step : Dataset → ℕ → Tx W → Stmt → Outcome W
   step d b tx (Begin room) = cond tx.begun (refused tx InTransaction) (answered (record tx { begun = true; room = room_of room }) Done)
   step d b tx Commit = cond tx.begun (answered tx (commit_reply d b tx)) (refused tx NoTransaction)
@@ -106,6 +106,7 @@ module _ {W : Type 0} (k : Keeping W) where
   step d b tx (LogOf name) = answered tx (log_of d name (branch_named d name))
   step d b tx Graph = answered tx (graph_of d)
   step d b tx Segments = answered tx Done
+  step d b tx Checkpoint = cond tx.begun (refused tx InTransaction) (answered tx Done)
   step d b tx (Branch name origin) = cond tx.begun (refused tx InTransaction) (branch_of d tx name (found d origin))
   step d b tx (Merge name prefer) = told_of d b tx.begun (merge_of d b tx name prefer)
   step d b tx x = told_of d b tx.begun (act k (ground_of d b) (λ v. source_of b (found d v)) (branch_names d) tx x)

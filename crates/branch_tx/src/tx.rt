@@ -483,6 +483,7 @@ impl<St: Store> Tx<St> {
             } => self.minus(relation, first, second),
             Stmt::Begin { .. } => Ok(refused(Refusal::InTransaction)),
             Stmt::On { .. } => Ok(refused(Refusal::InTransaction)),
+            Stmt::Checkpoint => Ok(refused(Refusal::InTransaction)),
             Stmt::Branch { .. } => Ok(refused(Refusal::InTransaction)),
             Stmt::Merge { .. } => Ok(refused(Refusal::NotFirst)),
             _ => Ok(refused(Refusal::Line)),

@@ -184,6 +184,16 @@ fn branches<St: Store>(rt: &impl Abort, alloc: Global, store: St) -> Result<(), 
     is_branched(rt, &mut board, &mut first)
 }
 
+// An image leaves the state, and an open transaction.
+fn saves<St: Store>(rt: &impl Abort, alloc: Global, store: St) -> Result<(), Fail> {
+    let (mut board, _first, second) = with_open(alloc, store, CHANGE, CHANGED)?;
+    let reply = board.checkpoint()?;
+    assert!(rt; matches!(reply, Reply::Done));
+    assert!(rt; second.is_open());
+    gives_back(rt, board, 0);
+    Ok(())
+}
+
 #[test]
 fn the_parts_of_a_visit_answer(rt: HostRuntime) -> Result<(), Fail> {
     let alloc = rt.alloc();
@@ -191,5 +201,6 @@ fn the_parts_of_a_visit_answer(rt: HostRuntime) -> Result<(), Fail> {
     holds(&rt, alloc, new_store(alloc)?)?;
     commits(&rt, alloc, new_store(alloc)?)?;
     ends(&rt, alloc, new_store(alloc)?)?;
+    saves(&rt, alloc, new_store(alloc)?)?;
     branches(&rt, alloc, new_store(alloc)?)
 }

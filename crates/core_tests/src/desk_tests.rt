@@ -26,6 +26,7 @@ desk|1 get things 1|refused 2 no relation things;\
 desk|1 update items 1 c=1|refused 3 no column c;\
 desk|1 insert items 1 1|refused 21 value count items 2;\
 board|1 get items 1|none;\
+board|1 checkpoint|ok;\
 board|1 branch dev of master|ok dev@0;\
 board|1 on dev|ok";
 
@@ -33,6 +34,7 @@ const CHANGES: &str = "\
 board|1 begin|ok;\
 desk|1 begin|refused 10 in transaction;\
 desk|1 on master|refused 10 in transaction;\
+desk|1 checkpoint|refused 10 in transaction;\
 board|1 get items 7|none;\
 desk|1 get items 8|none;\
 board|1 get items 7 in master|none;\

@@ -1,4 +1,4 @@
-//! A core whose log fails at some appends. The replies are written by hand.
+//! A core whose log fails at some appends and at each checkpoint. The replies are written by hand.
 ghost use Rattle.std.specs.Prelude.{◌≡◌};
 ghost use Rattle.db_outside.specs.Count.{counted};
 
@@ -7,12 +7,13 @@ use db_core::Core;
 use db_outside::{Batch, Failed};
 use db_store::Store;
 use db_value::Step;
-use entry_codec::Log;
+use entry_codec::{CheckpointStop, Log};
 use std::alloc::Global;
 use std::process::Abort;
 use std::test::Fail;
 
-/// A log that takes batches and drops them, and fails at its first call and at every second one after it.
+/// A log that takes batches and drops them, and fails at its first batch and at every second one after
+/// it, and at each checkpoint.
 #[derive(Drop)]
 struct Faulty {
     fails: bool,
@@ -50,6 +51,11 @@ impl<St: Store> Log<St> for Faulty {
         Err(Failed)
     }
 
+    fn checkpoint(&mut self, _store: &St) -> Result<(), CheckpointStop> {
+        self.count = self.count.saturating_add(1);
+        Err(CheckpointStop::DiskFault)
+    }
+
     fn fault_count(&self) -> u64
         ensures { result ≡ counted self.now.count }
     {
@@ -84,11 +90,14 @@ marked|1 merge dev|refused 19 fault disk;\
 |1 merge dev|ok master@3;\
 |1 insert items 1 5 5|refused 6 key there items 1;\
 |1 abort|refused 11 no transaction;\
+marked|1 checkpoint|refused 19 fault disk;\
 |1 begin|ok;\
+|1 checkpoint|refused 10 in transaction;\
+|1 get items 1|row 1 1 1;\
 |1 commit|ok";
 
 // How often the log fails in these rows.
-const FAULTS: u64 = 4;
+const FAULTS: u64 = 5;
 
 fn tell_row<St: Store>(
     rt: &impl Abort,

@@ -14,8 +14,9 @@ use Rattle.branch_tx.specs.Alone.{has_changed, made_next}
 use Rattle.branch_tx.specs.Frame.{step_over, whole}
 use Rattle.store_tx.specs.Ends.{is_end, is_open, ends}
 use Rattle.store_tx.specs.Keeps.{tagged}
+use Rattle.store_tx.specs.declared.stored.LogCall.TheVariants.{Nothing}
 use Rattle.db_core.specs.Order.{World, Fate, Stays, fate, fate_of, needs_of, next_by, opening, replied, told_on}
-use Rattle.db_core.specs.Marks.{entry_by, entry_with}
+use Rattle.db_core.specs.Marks.{call_by, call_with}
 use Rattle.db_core.specs.Kept.{Kept, Stands, world_of}
 use Rattle.db_core.specs.Sits.{heard}
 use Rattle.db_core.proofs.Standing.{said_in}
@@ -55,15 +56,15 @@ module _ (w : World) (x : Stmt) (own : AllOwn w.rows) (stays : fate w (heard imp
   pub stays_state : (world_with w x).state ≡ w.state
   stays_state = ap (λ (v : World). v.state) stays_world
 
-  pub stays_entry : entry_with w importer (Some x) ≡ None
-  stays_entry = ap (entry_by w (w.desks importer) x) stays
+  pub stays_call : call_with w importer (Some x) ≡ Nothing
+  stays_call = ap (call_by w (w.desks importer) x) stays
 
 -- the begin of a transaction
 pub begun_alone : (s : State) → IsAlone (world_with (opening s) begin_all)
 begun_alone s = stays_alone (opening s) begin_all tt refl
 
-pub begun_entry : (s : State) → entry_with (opening s) importer (Some begin_all) ≡ None
-begun_entry s = stays_entry (opening s) begin_all tt refl
+pub begun_call : (s : State) → call_with (opening s) importer (Some begin_all) ≡ Nothing
+begun_call s = stays_call (opening s) begin_all tt refl
 
 pub begun_state : (s : State) → (world_with (opening s) begin_all).state ≡ s
 begun_state s = stays_state (opening s) begin_all tt refl
@@ -79,8 +80,8 @@ module _ (w : World) (x : Stmt) (alone : IsAlone w) where
   pub same_state : is_end x ≡ false → (world_with w x).state ≡ w.state
   same_state e = stays_state w x alone.own (free_fate ∙ ap (λ (q : Bool). fate_of false None false q) e)
 
-  pub no_entry : is_end x ≡ false → entry_with w importer (Some x) ≡ None
-  no_entry e = stays_entry w x alone.own (free_fate ∙ ap (λ (q : Bool). fate_of false None false q) e)
+  pub no_call : is_end x ≡ false → call_with w importer (Some x) ≡ Nothing
+  no_call e = stays_call w x alone.own (free_fate ∙ ap (λ (q : Bool). fate_of false None false q) e)
 
 -- ---- the commit
 

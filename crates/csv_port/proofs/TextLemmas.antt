@@ -1,14 +1,13 @@
 -- An import of a text, by its relation and its rows.
-use Rattle.std.proofs.Common.{◌≡◌, ◌∙◌, ◌<◌, ◌≤◌, ◌&&◌, ◌∷◌, [], List, ℕ, zero, suc, true, Option, Some, None, length, get_or, refl, sym, ap, subst, arith, nat_lt}
+use Rattle.std.proofs.Common.{◌≡◌, ◌∙◌, ◌<◌, ◌≤◌, ◌&&◌, ◌∷◌, [], List, ℕ, zero, suc, true, Some, None, length, get_or, refl, sym, ap, subst, arith, nat_lt}
 use Rattle.std.specs.Prelude.{Ok, Err, nat_le}
 use Rattle.std.specs.List.{list_all}
 use Rattle.std.proofs.lemmas.Bool.{and_parts, leb-true, ltb-true}
 use Rattle.db_value.specs.Relations.{columns_at, has_columns, is_counted, no_relation}
 use Rattle.db_value.specs.declared.schema.Relation.{Relation}
-use Rattle.db_value.specs.declared.entry.Entry.{Entry}
 use Rattle.db_value.specs.declared.record.Record.{Record}
 use Rattle.db_store.specs.State.{State, dataset_of}
-use Rattle.entry_codec.specs.Logs.{Opening}
+use Rattle.entry_codec.specs.declared.log.Log.{Ghosts}
 use Rattle.db_core.specs.Kept.{Logged, Stands, world_of}
 use Rattle.db_core.proofs.Hearing.{hears_none, runs_to}
 use Rattle.db_core.proofs.Storing.{stores_none}
@@ -75,10 +74,10 @@ are_rows columns text rows some few e = let r = rows_read columns text rows e in
 
 -- ---- nothing was run
 
-module _ {L : Type 0} (faults : L → ℕ) (Keeps : L → State → List Entry → Option (List ℕ) → Type 0) (generation : L → ℕ) (moment : L → ℕ × ℕ) (opens_since : L → ℕ × ℕ → Opening → Type 0) (Quiet : L → ℕ × ℕ → Type 0) where
-  pub none_ran : (old : Logged L) (all : List (List ℕ)) → Stands old.kept → RunsFirst faults Keeps generation moment opens_since Quiet old old all
-  none_ran old all stands = ([], all, runs_to faults Keeps generation moment opens_since Quiet old old all [] all refl stands (hears_none old.kept) (stores_none faults Keeps generation moment opens_since Quiet (world_of old.kept) old.log))
+module _ {L S V P Q : Type 0} (g : Ghosts L S V P Q) where
+  pub none_ran : (old : Logged L) (all : List (List ℕ)) → Stands old.kept → RunsFirst g old old all
+  none_ran old all stands = ([], all, runs_to g old old all [] all refl stands (hears_none old.kept) (stores_none g (world_of old.kept) old.log), tt)
 
-  pub none_to_run : (old : Logged L) (all : List (List ℕ)) → all ≡ [] → Stands old.kept → RunsToEnd faults Keeps generation moment opens_since Quiet old old all
-  none_to_run old all none stands = subst (λ (ls : List (List ℕ)). RunsToEnd faults Keeps generation moment opens_since Quiet old old ls) (sym none)
-      (runs_to faults Keeps generation moment opens_since Quiet old old [] [] [] refl stands (hears_none old.kept) (stores_none faults Keeps generation moment opens_since Quiet (world_of old.kept) old.log))
+  pub none_to_run : (old : Logged L) (all : List (List ℕ)) → all ≡ [] → Stands old.kept → RunsToEnd g old old all
+  none_to_run old all none stands = subst (λ (ls : List (List ℕ)). RunsToEnd g old old ls) (sym none)
+      (runs_to g old old [] [] [] refl stands (hears_none old.kept) (stores_none g (world_of old.kept) old.log), tt)

@@ -34,8 +34,7 @@ fn run_stmt<St: Store, J: Log<St>>(
     stmt: Stmt,
 ) -> Result<Reply, AllocError>
     requires { ReadsAs stmt }
-    ensures ran { IfOk result (λ r. RanStmt J.faults J.Keeps J.generation J.moment J.opens_since
-        J.Quiet core.old core.new stmt r) }
+    ensures ran { IfOk result (λ r. RanStmt J.Log core.old core.new stmt r) }
     ensures err { OnErr result (core.new ≡ core.old) }
     ensures stands { Stands core.new.kept }
 {
@@ -94,10 +93,9 @@ fn import_rows<St: Store, J: Log<St>>(
     requires can { CanImport core.old.kept.steps relation.now rows.now }
     requires some { 0 < length rows.now }
     ensures told { Tells (told_of core.old.kept.now relation.now rows.now) result }
-    ensures first { RunsFirst J.faults J.Keeps J.generation J.moment J.opens_since J.Quiet
-        core.old core.new (import_lines relation.now rows.now) }
-    ensures all { OnOk result (RunsToEnd J.faults J.Keeps J.generation J.moment J.opens_since
-        J.Quiet core.old core.new (import_lines relation.now rows.now)) }
+    ensures first { RunsFirst J.Log core.old core.new (import_lines relation.now rows.now) }
+    ensures all { OnOk result
+        (RunsToEnd J.Log core.old core.new (import_lines relation.now rows.now)) }
     ensures stops { IfErr result (StopsAs J.faults core.old core.new) }
 {
     core.stands();
@@ -144,10 +142,10 @@ pub fn import<St: Store, J: Log<St>>(
     requires fresh { core.old.kept.steps ≡ [] }
     requires named { is_name relation.now ≡ true }
     ensures told { Tells (import_told core.old.kept.now relation.now text.now) result }
-    ensures first { RunsFirst J.faults J.Keeps J.generation J.moment J.opens_since J.Quiet
-        core.old core.new (lines_told core.old.kept.now relation.now text.now) }
-    ensures all { OnOk result (RunsToEnd J.faults J.Keeps J.generation J.moment J.opens_since
-        J.Quiet core.old core.new (lines_told core.old.kept.now relation.now text.now)) }
+    ensures first { RunsFirst J.Log core.old core.new
+        (lines_told core.old.kept.now relation.now text.now) }
+    ensures all { OnOk result (RunsToEnd J.Log core.old core.new
+        (lines_told core.old.kept.now relation.now text.now)) }
     ensures stops { IfErr result (StopsAs J.faults core.old core.new) }
 {
     core.stands();

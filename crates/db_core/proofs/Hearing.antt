@@ -1,19 +1,18 @@
 -- A board that has heard lines.
-use Rattle.std.proofs.Common.{◌≡◌, ◌∙◌, ◌++◌, ◌∷◌, [], List, ℕ, Bool, map, refl, sym, ap, subst, append_assoc, append-nil, Option}
+use Rattle.std.proofs.Common.{◌≡◌, ◌∙◌, ◌++◌, ◌∷◌, [], List, ℕ, Bool, map, refl, sym, ap, subst, append_assoc, append-nil}
 use Rattle.std.proofs.lemmas.List.{map-append}
-use Rattle.db_value.specs.declared.entry.Entry.{Entry}
 use Rattle.db_value.specs.declared.reply.Reply.{Reply}
 use Rattle.db_value.specs.declared.step.Step.{Step}
 use Rattle.db_store.specs.State.{State}
-use Rattle.entry_codec.specs.Logs.{Opening}
+use Rattle.entry_codec.specs.declared.log.Log.{Ghosts}
 use Rattle.store_tx.specs.Stored.{Stores}
 use Rattle.db_core.specs.Order.{World, opening, after}
 use Rattle.db_core.specs.Laws.{AllHaveRoom}
 use Rattle.db_core.specs.Kept.{Kept, Logged, Stands, said_step, step_of, saids, world_of}
 use Rattle.db_core.specs.Answered.{IsAnswered, Ran}
 use Rattle.db_core.specs.Heard.{Marked, marked_as, lines_of, said, world_after, marked_step, marked_steps, Hears}
-use Rattle.db_core.specs.Acknowledged.{entry_in, StoresAll}
-use Rattle.db_core.specs.Marks.{NoneStores}
+use Rattle.db_core.specs.Accounts.{call_in, StoresAll}
+use Rattle.db_core.specs.Marks.{NoneCalls}
 use Rattle.db_core.specs.Desk.{AtDesk, Agrees, entered}
 use Rattle.db_core.specs.Runs.{RanLine, Runs, StoresSteps}
 use Rattle.db_core.proofs.Rooms.{room_law}
@@ -65,21 +64,21 @@ hears_line old new text failed r a = record {
 pub heard_state : (old new : Kept) (ran : List Marked) → Stands new → Hears old new ran → new.now ≡ (world_after (world_of old) ran).state
 heard_state old new ran stands h = sym stands.state ∙ ap (λ (w : World). w.state) (heard_world old new ran h)
 
-module _ {L : Type 0} (faults : L → ℕ) (Keeps : L → State → List Entry → Option (List ℕ) → Type 0) (generation : L → ℕ) (moment : L → ℕ × ℕ) (opens_since : L → ℕ × ℕ → Opening → Type 0) (Quiet : L → ℕ × ℕ → Type 0) where
+module _ {L S V P Q : Type 0} (g : Ghosts L S V P Q) where
   abbrev All : Logged L → List Marked → Logged L → Type 0
-  All old ran new = StoresAll faults Keeps generation moment opens_since Quiet (world_of old.kept) ran old.log new.log
+  All old ran new = StoresAll g (world_of old.kept) ran old.log new.log
 
   abbrev Line : Logged L → Logged L → Marked → Type 0
-  Line old new m = RanLine faults Keeps generation moment opens_since Quiet old new m
+  Line old new m = RanLine g old new m
 
   abbrev RunsTo : Logged L → Logged L → List (List ℕ) → List Marked → List (List ℕ) → Type 0
-  RunsTo old new all ran rest = Runs faults Keeps generation moment opens_since Quiet old new all ran rest
+  RunsTo old new all ran rest = Runs g old new all ran rest
 
   -- one line more
   pub ran_more : (old mid new : Logged L) (ran : List Marked) (m : Marked) → Stands mid.kept → Hears old.kept mid.kept ran → All old ran mid → Line mid new m → All old (ran ++ m ∷ []) new
   ran_more old mid new ran m stands h all line =
-      stores_more faults Keeps generation moment opens_since Quiet (world_of old.kept) ran m old.log mid.log new.log all
-      (subst (λ (p : State × World). Stores faults Keeps generation moment opens_since Quiet p.0 m.failed (entry_in p.1 m) mid.log new.log)
+      stores_more g (world_of old.kept) ran m old.log mid.log new.log all
+      (subst (λ (p : State × World). Stores g p.0 m.failed (call_in p.1 m) mid.log new.log)
       (λ i. (heard_state old.kept mid.kept ran stands h i, heard_world old.kept mid.kept ran h i)) line.stores)
 
   -- these lines were run, and the others were not
@@ -95,31 +94,31 @@ module _ {L : Type 0} (faults : L → ℕ) (Keeps : L → State → List Entry �
   -- ---- what the log of a board did for the board's lines
 
   abbrev Steps : L → Logged L → Type 0
-  Steps first b = StoresSteps faults Keeps generation moment opens_since Quiet first b
+  Steps first b = StoresSteps g first b
 
   -- nothing was run
   pub steps_none : (b : Logged L) → b.kept.steps ≡ [] → Steps b.log b
-  steps_none b none = subst (λ (ss : List Step). StoresAll faults Keeps generation moment opens_since Quiet (opening b.kept.opening) (marked_steps ss) b.log b.log) (sym none)
-      (stores_none faults Keeps generation moment opens_since Quiet (opening b.kept.opening) b.log)
+  steps_none b none = subst (λ (ss : List Step). StoresAll g (opening b.kept.opening) (marked_steps ss) b.log b.log) (sym none)
+      (stores_none g (opening b.kept.opening) b.log)
 
   -- the lines that wait were entered
   pub steps_entered : (first : L) (b : Logged L) (k : AtDesk) → Agrees b.kept k → Steps first b → Steps first (record b { kept = entered b.kept k })
   steps_entered first b k a all =
       let w : World = opening b.kept.opening in
-      subst (λ (ran : List Marked). StoresAll faults Keeps generation moment opens_since Quiet w ran first b.log) (sym (map-append marked_step b.kept.steps k.waiting))
-      (stores_waiting faults Keeps generation moment opens_since Quiet k.session k.waiting w (marked_steps b.kept.steps) first b.log all a.waiting.own
-      (subst (λ (v : World). NoneStores v (saids k.waiting)) (sym (steps_world b.kept)) (waiting_stores b.kept k a)))
+      subst (λ (ran : List Marked). StoresAll g w ran first b.log) (sym (map-append marked_step b.kept.steps k.waiting))
+      (stores_waiting g k.session k.waiting w (marked_steps b.kept.steps) first b.log all a.waiting.own
+      (subst (λ (v : World). NoneCalls v (saids k.waiting)) (sym (steps_world b.kept)) (waiting_stores b.kept k a)))
 
   -- a line was run
-  pub steps_ran : (first : L) (old new : Logged L) (text : List ℕ) (r : Reply) → Stands old.kept → Ran faults Keeps generation moment opens_since Quiet old new text r → Steps first old → Steps first new
+  pub steps_ran : (first : L) (old new : Logged L) (text : List ℕ) (r : Reply) → Stands old.kept → Ran g old new text r → Steps first old → Steps first new
   steps_ran first old new text r stands ran all =
       let w : World = opening old.kept.opening in
       let m : Marked = marked_as text ran.0 in
       let before : List Marked = marked_steps old.kept.steps in
       let world : world_of old.kept ≡ world_after w before = sym (steps_world old.kept) in
       let state : old.kept.now ≡ (world_after w before).state = sym stands.state ∙ ap (λ (v : World). v.state) world in
-      let line : Stores faults Keeps generation moment opens_since Quiet (world_after w before).state m.failed (entry_in (world_after w before) m) old.log new.log =
-      subst (λ (p : State × World). Stores faults Keeps generation moment opens_since Quiet p.0 m.failed (entry_in p.1 m) old.log new.log) (λ i. (state i, world i)) ran.2 in
-      subst (λ (p : State × List Marked). StoresAll faults Keeps generation moment opens_since Quiet (opening p.0) p.1 first new.log)
+      let line : Stores g (world_after w before).state m.failed (call_in (world_after w before) m) old.log new.log =
+      subst (λ (p : State × World). Stores g p.0 m.failed (call_in p.1 m) old.log new.log) (λ i. (state i, world i)) ran.2 in
+      subst (λ (p : State × List Marked). StoresAll g (opening p.0) p.1 first new.log)
       (λ i. (sym (ap (λ (k : Kept). k.opening) ran.1.kept) i, sym (ap (λ (k : Kept). marked_steps k.steps) ran.1.kept ∙ map-append marked_step old.kept.steps (step_of text ran.0 r ∷ [])) i))
-      (stores_more faults Keeps generation moment opens_since Quiet w before m first old.log new.log all line)
+      (stores_more g w before m first old.log new.log all line)

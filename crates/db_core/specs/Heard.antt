@@ -4,7 +4,7 @@ use Rattle.db_value.specs.declared.step.Step.{Step}
 use Rattle.db_core.specs.Order.{Said, said_of, World, after}
 use Rattle.db_core.specs.Kept.{Kept, saids}
 
--- a line that was run, and whether the log failed to store its entry
+-- a line that was run, and whether the log failed to do what it asked for
 pub record Marked : Type 0 where
   pub line : List ℕ
   pub failed : Bool

@@ -5,7 +5,9 @@ ghost use Rattle.stmt_text.specs.declared.stmt.Stmt.{Stmt};
 ghost use Rattle.db_outside.specs.Count.{counted};
 ghost use Rattle.db_core.specs.Order.{said_of};
 ghost use Rattle.db_core.specs.Kept.{Stands, new_kept};
-ghost use Rattle.db_core.specs.Answered.{Ran, IsRefused, Ended};
+ghost use Rattle.db_core.specs.Answered.{Ran, IsRefused, Ended, Saved};
+ghost use Rattle.db_value.specs.declared.reply.Reply.TheVariants.{Done};
+ghost use Rattle.store_tx.specs.Stored.{told_if};
 ghost use Rattle.db_core.specs.Sits.{heard, unheard};
 ghost use Rattle.db_core.specs.Sessions.{SitsOn};
 
@@ -19,7 +21,7 @@ use lock_table::Locks;
 use std::alloc::{AllocError, Global};
 use std::marker::Model;
 use stmt_text::Stmt;
-use store_tx::{Answer, branch_of, carry_out, refusal};
+use store_tx::{Answer, branch_of, carry_out, refusal, save};
 
 /// A board is a store of a dataset and its log, the state on which it began, the lines since then
 /// with their replies, the needs that are granted, and how often the log had failed at the beginning.
@@ -63,6 +65,16 @@ fn parts_of<St: Store>(alloc: Global, store: &St) -> Result<(St, Locks), AllocEr
     let opening = store.duplicate()?;
     let locks = Locks::new(alloc)?;
     Ok((opening, locks))
+}
+
+// What is told of an image, which the log may have failed to write.
+fn told_of(failed: bool) -> Reply
+    ensures { result ≡ told_if failed Done }
+{
+    if failed {
+        return refusal(&Refusal::FaultDisk);
+    }
+    Reply::Done
 }
 
 impl<St: Store, J: Log<St>> Board<St, J> {
@@ -130,8 +142,7 @@ impl<St: Store, J: Log<St>> Board<St, J> {
     ) -> Result<Reply, AllocError>
         requires sits { SitsOn self.old.kept session.old }
         requires line { said_of text.now false ≡ heard session.old.number stmt.now }
-        ensures answered { IfOk result (Ran J.faults J.Keeps J.generation J.moment J.opens_since
-            J.Quiet self.old self.new text.now) }
+        ensures answered { IfOk result (Ran J.Log self.old self.new text.now) }
         ensures sits { SitsOn self.new.kept session.new }
         ensures number { session.new.number ≡ session.old.number }
         ensures err { OnErr result (self.new ≡ self.old) }
@@ -213,8 +224,8 @@ impl<St: Store, J: Log<St>> Board<St, J> {
     ) -> Result<Reply, AllocError>
         requires agree { Agrees self.old.kept desk.old }
         requires line { said_of text.now false ≡ heard desk.old.session stmt.now }
-        ensures answered { IfOk result (Ran J.faults J.Keeps J.generation J.moment J.opens_since
-            J.Quiet (record self.old { kept = entered self.old.kept desk.old }) self.new text.now) }
+        ensures answered { IfOk result (Ran J.Log
+            (record self.old { kept = entered self.old.kept desk.old }) self.new text.now) }
         ensures desk { IsDeskOf desk.old.session self.new.kept desk.new }
         ensures waiting { OnOk result (desk.new.waiting ≡ []) }
         ensures err { OnErr result (IsLeft self.old.kept desk.old self.new.kept desk.new
@@ -246,8 +257,7 @@ impl<St: Store, J: Log<St>> Board<St, J> {
         of: &VersionName,
     ) -> Result<Reply, AllocError>
         requires { HasName (Stmt.Branch name.now of.now) }
-        ensures answered { IfOk result (Ended J.faults J.Keeps J.generation J.moment J.opens_since
-            J.Quiet self.old self.new desk.old.session
+        ensures answered { IfOk result (Ended J.Log self.old self.new desk.old.session
             (branch_entry (branch_out (dataset_of self.old.kept.now) name.now of.now).tx.made)
             (branch_out (dataset_of self.old.kept.now) name.now of.now).reply) }
         ensures desk { desk.new ≡ desk.old }
@@ -266,9 +276,9 @@ impl<St: Store, J: Log<St>> Board<St, J> {
     pub fn commit(&mut self, desk: &mut Desk<St>) -> Result<Reply, AllocError>
         requires agree { Agrees self.old.kept desk.old }
         requires open { is_some desk.old.open_tx ≡ true }
-        ensures answered { IfOk result (Ended J.faults J.Keeps J.generation J.moment J.opens_since
-            J.Quiet self.old self.new desk.old.session (entry_over (dataset_of self.old.kept.now)
-            desk.old.current Stmt.Commit (tx_of desk.old.open_tx))
+        ensures answered { IfOk result (Ended J.Log self.old self.new desk.old.session
+            (entry_over (dataset_of self.old.kept.now) desk.old.current Stmt.Commit
+            (tx_of desk.old.open_tx))
             (step_over (dataset_of self.old.kept.now) desk.old.current (tx_of desk.old.open_tx)
             Stmt.Commit).reply) }
         ensures desk { OnOk result (desk.new
@@ -295,6 +305,16 @@ impl<St: Store, J: Log<St>> Board<St, J> {
                 Ok(reply)
             }
         }
+    }
+
+    /// Writes the state as an image. If the log fails, that is told. Want of memory leaves all as before,
+    /// and the log isn't called.
+    pub fn checkpoint(&mut self) -> Result<Reply, AllocError>
+        ensures answered { IfOk result (Saved J.Log self.old self.new) }
+        ensures err { OnErr result (self.new ≡ self.old) }
+    {
+        let failed = save(&self.store, &mut self.log)?;
+        Ok(told_of(failed))
     }
 
     /// Asks for the needs of a statement, which the desk's session gets all or none of. Where they are

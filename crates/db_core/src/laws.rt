@@ -3,6 +3,7 @@ ghost use Rattle.db_core.specs.Laws.{RoomLaw, MachineLaw, StateLaw, GrowthLaw, R
 ghost use Rattle.db_core.specs.Desk.{NewDeskLaw, OtherLinesLaw};
 ghost use Rattle.db_core.specs.Local.{LocalLaw};
 ghost use Rattle.db_core.specs.Marks.{FailedLaw, RefusedLaw};
+ghost use Rattle.db_core.specs.Accounts.{UnfailedLaw, OneOpeningLaw, NoImageLaw};
 
 /// A line that is read has a room that can be.
 pub fn room_law()
@@ -52,4 +53,19 @@ pub fn failed_law()
 /// A line that may have the mark and has it is refused for the disk.
 pub fn refused_law()
     ensures { RefusedLaw }
+{}
+
+/// A log none of whose lines failed has no batch that failed, and owes no image.
+pub fn unfailed_law()
+    ensures { UnfailedLaw }
+{}
+
+/// Then opening gives one thing.
+pub fn one_opening_law()
+    ensures { OneOpeningLaw }
+{}
+
+/// Lines of which none is a checkpoint ask for no image.
+pub fn no_image_law()
+    ensures { NoImageLaw }
 {}

@@ -1,10 +1,8 @@
 -- What the log of a board did for its lines, after a visit.
 use Rattle.std.proofs.Common.{◌≡◌, ◌∙◌, ⊎_elim, ℕ, List, [], Option, Some, sym, ap, subst}
 use Rattle.std.specs.Prelude.{Result, Ok, Err, IfOk, OnOk, OnErr}
-use Rattle.db_value.specs.declared.entry.Entry.{Entry}
 use Rattle.db_value.specs.declared.reply.Reply.{Reply}
-use Rattle.db_store.specs.State.{State}
-use Rattle.entry_codec.specs.Logs.{Opening}
+use Rattle.entry_codec.specs.declared.log.Log.{Ghosts}
 use Rattle.db_core.specs.Kept.{Logged}
 use Rattle.db_core.specs.Answered.{Ran}
 use Rattle.db_core.specs.Desk.{AtDesk, Agrees, IsLeft, entered, cleared}
@@ -16,26 +14,26 @@ abbrev some_or : {X : Type 0} → X → Option X → X
 some_or d (Some x) = x
 some_or d _ = d
 
-module _ {L : Type 0} (faults : L → ℕ) (Keeps : L → State → List Entry → Option (List ℕ) → Type 0) (generation : L → ℕ) (moment : L → ℕ × ℕ) (opens_since : L → ℕ × ℕ → Opening → Type 0) (Quiet : L → ℕ × ℕ → Type 0) where
+module _ {L S V P Q : Type 0} (g : Ghosts L S V P Q) where
   abbrev Since : Option L → Logged L → Type 0
-  Since named b = StoresSince faults Keeps generation moment opens_since Quiet named b
+  Since named b = StoresSince g named b
 
   abbrev Steps : L → Logged L → Type 0
-  Steps first b = StoresSteps faults Keeps generation moment opens_since Quiet first b
+  Steps first b = StoresSteps g first b
 
   -- nothing was run on a board whose log is named
   pub since_none : (named : Option L) (b : Logged L) → b.kept.steps ≡ [] → named ≡ Some b.log → Since named b
   since_none named b none is = λ first e.
-      subst (λ (l : L). Steps l b) (ap (some_or b.log) (sym is ∙ e)) (steps_none faults Keeps generation moment opens_since Quiet b none)
+      subst (λ (l : L). Steps l b) (ap (some_or b.log) (sym is ∙ e)) (steps_none g b none)
 
   module _ (named : Option L) (b c : Logged L) (k m : AtDesk) (agree : Agrees b.kept k) (since : Since named b) where
     since_entered : Since named (record b { kept = entered b.kept k })
-    since_entered = λ first e. steps_entered faults Keeps generation moment opens_since Quiet first b k agree (since first e)
+    since_entered = λ first e. steps_entered g first b k agree (since first e)
 
     -- by what a visit of the board told
-    pub since_told : {E : Type 0} (text : List ℕ) (r : Result Reply E) → IfOk r (Ran faults Keeps generation moment opens_since Quiet (record b { kept = entered b.kept k }) c text) → OnErr r (IsLeft b.kept k c.kept m × (c.log ≡ b.log)) → Since named c
+    pub since_told : {E : Type 0} (text : List ℕ) (r : Result Reply E) → IfOk r (Ran g (record b { kept = entered b.kept k }) c text) → OnErr r (IsLeft b.kept k c.kept m × (c.log ≡ b.log)) → Since named c
     since_told text (Ok y) ran left = λ first e.
-        steps_ran faults Keeps generation moment opens_since Quiet first (record b { kept = entered b.kept k }) c text y agree.entered_stands ran (since_entered first e)
+        steps_ran g first (record b { kept = entered b.kept k }) c text y agree.entered_stands ran (since_entered first e)
     since_told text (Err x) ran left = ⊎_elim
         (λ (a : (c.kept ≡ b.kept) × (m ≡ k)). subst (Since named) (λ i. record { kept = sym a.0 i; log = sym left.1 i }) since)
         (λ (a : (c.kept ≡ entered b.kept k) × (m ≡ record (cleared k) { open_tx = m.open_tx })). subst (Since named) (λ i. record { kept = sym a.0 i; log = sym left.1 i }) since_entered)

@@ -2,12 +2,11 @@
 use Rattle.std.specs.Prelude.{◌≡◌, ◌<◌, ◌≤◌, ◌+◌, ◌^◌, ◌-◌, ℕ, true, List, [], ◌∷◌, ◌++◌, length, Option, Some}
 use Rattle.atomic_table.specs.Seated.{TableId}
 use Rattle.db_value.specs.declared.step.Step.{Step}
-use Rattle.db_value.specs.declared.entry.Entry.{Entry}
 use Rattle.db_store.specs.State.{State, dataset_of}
 use Rattle.history_note.specs.declared.view.PassView.{PassView}
 use Rattle.history_note.specs.Shown.{AtNote, AtPen, AtPass, writing, noting}
 use Rattle.history_note.specs.Places.{places, places_from, IsNoted, IsIssued}
-use Rattle.entry_codec.specs.Logs.{Opening}
+use Rattle.entry_codec.specs.declared.log.Log.{Ghosts}
 use Rattle.db_core.specs.Kept.{Kept, Logged, Stands, saids}
 use Rattle.db_core.specs.Runs.{StoresSteps}
 use Rattle.db_hub.specs.Entered.{steps_of, lines_of}
@@ -39,10 +38,8 @@ pub record RoomFits (named : TableId) (numbers : List (ℕ × ℕ)) (opened : St
   pub all_out : (n s : ℕ) → IsNoted pen.noted n s → IsNoted out n s
 
 -- since the first log that is named, if one is, the log of a board did for the board's lines what a log does
-abbrev pub StoresSince :
-    {L : Type 0} (faults : L → ℕ) (Keeps : L → State → List Entry → Option (List ℕ) → Type 0) (generation : L → ℕ) (moment : L → ℕ × ℕ) (opens_since : L → ℕ × ℕ → Opening → Type 0) (Quiet : L → ℕ × ℕ → Type 0)
-    (named : Option L) (b : Logged L) → Type 0
-StoresSince {L = L} faults Keeps generation moment opens_since Quiet named b = (first : L) → named ≡ Some first → StoresSteps faults Keeps generation moment opens_since Quiet first b
+abbrev pub StoresSince : {L S V P Q : Type 0} (g : Ghosts L S V P Q) (named : Option L) (b : Logged L) → Type 0
+StoresSince {L = L} g named b = (first : L) → named ≡ Some first → StoresSteps g first b
 
 -- the pen after it wrote steps with a number
 abbrev pub written_all : ℕ → List Step → AtPen → AtPen

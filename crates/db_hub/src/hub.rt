@@ -75,8 +75,7 @@ impl<St: Store, J: Log<St>, T: LogTag<J>> Hub<St, J, T> {
         ensures named { (result.note.note ≡ T.note) × (result.pen.note ≡ T.note) }
         ensures opened { (result.board.kept.opening ≡ T.opened)
             × (result.board.kept.first_count ≡ T.first) }
-        ensures stores { StoresSince J.faults J.Keeps J.generation J.moment J.opens_since J.Quiet
-            T.log result.board }
+        ensures stores { StoresSince J.Log T.log result.board }
         ensures stands { Stands result.board.kept
             × (result.board.kept.steps ≡ steps_of result.pen.lines) }
         ensures noted { AllNoted T.numbers result.pen.lines }

@@ -52,7 +52,7 @@ impl<St: Store, J: Log<St>, T: LogTag<J>> Model for Room<St, J, T> {
     ghost invariant = { λ r. RoomFits T.note T.numbers T.opened T.since
         r.note r.pen r.board.kept r.out.items r.issued
         × (r.board.kept.first_count ≡ T.first)
-        × StoresSince J.faults J.Keeps J.generation J.moment J.opens_since J.Quiet T.log r.board };
+        × StoresSince J.Log T.log r.board };
 }
 
 /// What a room leaves.
@@ -118,8 +118,8 @@ impl<St: Store, J: Log<St>, T: LogTag<J>> Room<St, J, T> {
     ) -> Result<Reply, AllocError>
         requires { said_of text.now false ≡ heard seat.old.desk.session stmt.now }
         ensures seat { IfOk result (SeatVisited T.opened seat.old seat.new text.now) }
-        ensures answered { IfOk result (Ran J.faults J.Keeps J.generation J.moment J.opens_since
-            J.Quiet (record self.old.board { kept = entered self.old.board.kept seat.old.desk })
+        ensures answered { IfOk result
+            (Ran J.Log (record self.old.board { kept = entered self.old.board.kept seat.old.desk })
             self.new.board text.now) }
         ensures whole { OnOk result (seat.new.seen ≡ self.new.pen.lines) }
         ensures stays { RoomStays self.old self.new }
@@ -185,8 +185,7 @@ impl<St: Store, J: Log<St>, T: LogTag<J>> Room<St, J, T> {
         ensures named { (result.note.note ≡ T.note) × (self.pen.note ≡ T.note) }
         ensures opened { (self.board.kept.opening ≡ T.opened)
             × (self.board.kept.first_count ≡ T.first) }
-        ensures stores { StoresSince J.faults J.Keeps J.generation J.moment J.opens_since J.Quiet
-            T.log self.board }
+        ensures stores { StoresSince J.Log T.log self.board }
         ensures stands { Stands self.board.kept
             × (self.board.kept.steps ≡ steps_of self.pen.lines) }
         ensures noted { AllNoted T.numbers self.pen.lines }

@@ -21,7 +21,7 @@ use Rattle.db_image.proofs.SegmentsRead.{Ascend}
 abbrev pub slots_laid : ℕ → List Delta → List (List ℕ)
 slots_laid size ds = map slots_of (map (bits_of size) ds)
 
-bits_counted : (size : ℕ) (d : Delta) → length (bits_of size d) ≡ size
+pub bits_counted : (size : ℕ) (d : Delta) → length (bits_of size d) ≡ size
 bits_counted size d = length-map-range_with_len (delta_bit d) 0 size
 
 has_bit : (size : ℕ) (d : Delta) (slot : ℕ) → slot < size → has (slots_of (bits_of size d)) slot ≡ delta_bit d slot

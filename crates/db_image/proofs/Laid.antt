@@ -141,16 +141,16 @@ module _ (i : Image) (bases : List VersionPlace) (lasts : List ℕ) (is : IsImag
   parts_are : (r : ℕ) → laid.parts_of r p.segments ≡ map (segment_part rs r) (read r)
   parts_are r = part_at rs r 0 r i.segments (omega arith)
 
-  segments_are : (r : ℕ) → r < length rs → segments_at l.segments r ≡ laid_segments rs r (read r)
+  pub segments_are : (r : ℕ) → r < length rs → segments_at l.segments r ≡ laid_segments rs r (read r)
   segments_are r h = at_relation rs (λ q. map segment_laid (laid.parts_of q p.segments)) r [] h ∙ ap (λ x. map segment_laid x) (parts_are r)
 
-  rows_are : (b r : ℕ) → b < n → r < length rs → rows_at (lane_at l b) r ≡ rows_from b 0 (map (segment_part rs r) (read r))
+  pub rows_are : (b r : ℕ) → b < n → r < length rs → rows_at (lane_at l b) r ≡ rows_from b 0 (map (segment_part rs r) (read r))
   rows_are b r lb h =
       ap (λ (x : Lane). rows_at x r) (lane_is i bases lasts is b lb)
       ∙ at_relation rs (λ q. rows_from b 0 (laid.parts_of q p.segments)) r [] h
       ∙ ap (λ x. rows_from b 0 x) (parts_are r)
 
-  there : (r : ℕ) → r < length rs → r < length i.segments
+  pub there : (r : ℕ) → r < length rs → r < length i.segments
   there r h = let e = is.parts.count in omega (arith, e, h)
 
   read_are : (r : ℕ) → r < length rs → AreSegments (length (columns_at rs r)) lasts (read r)

@@ -35,3 +35,8 @@ pub mod RuledRows
 pub mod RuledWhole
 pub mod Ruled
 pub mod SegmentsKept
+pub mod RulesSteps
+pub mod RulesLines
+pub mod RulesRows
+pub mod ReadImaged
+pub mod NumbersFit

@@ -61,7 +61,7 @@ module _ (p : LayoutParts) (sound : IsSound (dataset_in (layout_of_parts p))) wh
   lane_is : (b : ℕ) → b < n → lane_at l b ≡ lane_laid p b
   lane_is b h = get_or-map-range_with_len (lane_laid p) 0 n b b no_lane h (omega arith)
 
-  branches_are : made_branches l ≡ p.branches
+  pub branches_are : made_branches l ≡ p.branches
   branches_are =
       ap (λ k. map (λ b. part_of (lane_at l b)) (range_with_len 0 k)) count
       ∙ maps_agree (λ b. part_of (lane_at l b)) (λ b. get_or p.branches b no_branch_part) n 0 (λ b g h. ap part_of (lane_is b (omega (arith, h))))
@@ -91,7 +91,7 @@ module _ (p : LayoutParts) (sound : IsSound (dataset_in (layout_of_parts p))) wh
           ∙ get_or-map (λ (w : MadeVersion). w.second) (versions_of (get_or vs k no_made).branch vs) (length (versions_of (get_or vs k no_made).branch (take k vs))) no_made
           ∙ ap (λ (w : MadeVersion). w.second) (own_at (get_or vs k no_made).branch vs k h refl)
 
-  versions_are : made_versions l ≡ vs
+  pub versions_are : made_versions l ≡ vs
   versions_are =
       let e : length l.order - 1 ≡ length vs = let o = order_count in omega (arith, o) in
       ap (λ k. map (made_version l) (range_with_len 0 k)) e

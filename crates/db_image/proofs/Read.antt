@@ -34,7 +34,7 @@ pub record IsImage (i : Image) (bases : List VersionPlace) (lasts : List ℕ) : 
 abbrev no_parts : List (List SegmentPart)
 no_parts = []
 
-parts_read : (b : List ℕ) (x : Image × List ℕ) → parts_at b ≡ Ok x → (bases : List VersionPlace) × AreParts x.0 bases x.1
+pub parts_read : (b : List ℕ) (x : Image × List ℕ) → parts_at b ≡ Ok x → (bases : List VersionPlace) × AreParts x.0 bases x.1
 unfolding parts_at
 parts_read b x e =
     let rs = bind_ok (relations_at b) (λ rs. branches_at rs.1 >>= λ bs. versions_at bs.0.1 bs.1 >>= λ vs. repeat (next_segments rs.0 vs.0.0) (length rs.0) no_parts vs.1 >>= λ ss. test (length ss.1 == 0) ss.1 >>= λ ended. Ok (record { relations = rs.0; branches = bs.0.0; versions = vs.0.1; segments = ss.0 }, vs.0.0)) x e in
@@ -61,7 +61,7 @@ parts_read b x e =
 abbrev done : {A : Type 0} → A → Result A ℕ
 done x = Ok x
 
-whole_ok : (w : Bool) (p i : Image) → cond w (done p) (Err 0) ≡ Ok i → (w ≡ true) × (p ≡ i)
+pub whole_ok : (w : Bool) (p i : Image) → cond w (done p) (Err 0) ≡ Ok i → (w ≡ true) × (p ≡ i)
 whole_ok true p i e = (refl, ok_is p i e)
 whole_ok false p i e = absurd cc
 

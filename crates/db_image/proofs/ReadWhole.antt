@@ -48,18 +48,18 @@ all_back relations lasts counted_ seen (ss ∷ sss) e are =
     ∙ ap (λ l. Ok (l, no_bytes)) (append_assoc seen (ss ∷ []) sss)
 
 -- the branches and the versions are seen as they are
-branches_are : (parts : List BranchPart) (bases : List VersionPlace) (bs : List BranchPart) → (after branch_next (parts, bases) bs).0 ≡ parts ++ bs
+pub branches_are : (parts : List BranchPart) (bases : List VersionPlace) (bs : List BranchPart) → (after branch_next (parts, bases) bs).0 ≡ parts ++ bs
 branches_are parts bases [] = sym (append-nil parts)
 branches_are parts bases (b ∷ bs) = branches_are (branch_next (parts, bases) b).0 (branch_next (parts, bases) b).1 bs ∙ append_assoc parts (b ∷ []) bs
 
-versions_are : (lasts : List ℕ) (seen vs : List MadeVersion) → (after version_next (lasts, seen) vs).1 ≡ seen ++ vs
+pub versions_are : (lasts : List ℕ) (seen vs : List MadeVersion) → (after version_next (lasts, seen) vs).1 ≡ seen ++ vs
 versions_are lasts seen [] = sym (append-nil seen)
 versions_are lasts seen (v ∷ vs) = versions_are (version_next (lasts, seen) v).0 (version_next (lasts, seen) v).1 vs ∙ append_assoc seen (v ∷ []) vs
 
 counted_is : (i : Image) → IsRuled i → is_counted i.relations ≡ true
 counted_is i is = and_from _ _ (and_from _ _ (lt-ltb 0 (length i.relations) is.some_relations) (le-leb (length i.relations) 8 is.few_relations)) (each_counted [] i.relations is.relations)
 
-parts_back : (i : Image) → IsRuled i → parts_at (spelling i) ≡ Ok (i, lasts_of i)
+pub parts_back : (i : Image) → IsRuled i → parts_at (spelling i) ≡ Ok (i, lasts_of i)
 unfolding parts_at spelling
 parts_back i is =
     step (λ relations. branches_at relations.1 >>= λ branches. versions_at branches.0.1 branches.1 >>= λ versions. repeat (next_segments relations.0 versions.0.0) (length relations.0) no_parts versions.1 >>= λ segments. test (length segments.1 == 0) segments.1 >>= λ ended. Ok (record { relations = relations.0; branches = branches.0.0; versions = versions.0.1; segments = segments.0 }, versions.0.0)) (relations_back i.relations (counted branch_bytes i.branches ++ (counted version_bytes i.versions ++ segments_bytes i.relations i.segments)) is.some_relations is.few_relations is.relations)

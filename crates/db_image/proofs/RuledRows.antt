@@ -6,6 +6,8 @@ use Rattle.std.proofs.lemmas.List.{length-append, length-map, get_or-map}
 use Rattle.std.proofs.lemmas.List.Elements.{All-nil, All-push}
 use Rattle.std.proofs.lemmas.List.FromFn.{get_or-map-range_with_len, length-map-range_with_len}
 use Rattle.db_value.specs.Relations.{columns_at}
+use Rattle.db_value.specs.declared.record.Record.{Record}
+use Rattle.record_page.specs.Page.{IsRecord}
 use Rattle.db_store.specs.Sound.{IsSound}
 use Rattle.db_store.specs.Layout.{Segment, Row, Layout, lane_at, records_at, segments_at, no_segment, branch_of, dataset_in}
 use Rattle.db_store.specs.LayoutGrowth.{is_head_of}
@@ -16,7 +18,7 @@ use Rattle.image_text.specs.declared.image.RowPart.{RowPart}
 use Rattle.image_text.specs.Reading.{rises, are_blank, last_of, has_room}
 use Rattle.image_text.specs.Reading as image
 use Rattle.db_image.specs.Images.{delta_image, row_with, row_image, head_image, segment_image, segments_image, image_of}
-use Rattle.db_image.specs.Imaged.{AreSlots, AreWithin, AreInOrder, HasSegments}
+use Rattle.db_image.specs.Imaged.{AreSlots, AreWithin, AreInOrder, HasSegments, IsRanged, AllNumbersFit}
 use Rattle.db_image.specs.Rules.{EachNext, onto, IsDelta, IsNextRow, IsSegment, AreSegments, AreByRelation, lasts_of}
 use Rattle.db_image.proofs.RuledDelta.{delta_ruled}
 use Rattle.db_image.proofs.LinesKept.{lasts, lasts_same, count, last_is, lanes_few}
@@ -61,7 +63,10 @@ blank_of zero ds h = refl
 blank_of (suc from) [] h = ap (λ q. q || true) (ne_eqb (suc from) 0 (λ e. omega (arith, e)))
 blank_of (suc from) (d ∷ ds) h = λ i. ne_eqb (suc from) 0 (λ e. omega (arith, e)) i || are_blank (delta_image (h (omega arith) i) ∷ [])
 
-module _ (l : Layout) (laid : IsLaid l) (sound : IsSound (dataset_in l)) (within : AreWithin l) (are : AreInOrder l) (has : HasSegments l) (r : ℕ) (hr : r < length l.schema) where
+all_records : (columns : ℕ) (xs : List Record) → All (λ (x : Record). length x.fields ≡ columns) xs → All IsRanged xs → All (IsRecord columns) xs
+all_records columns xs wide ranged = λ k d l. record { key = (ranged k d l).key; width = wide k d l; values = (ranged k d l).values }
+
+module _ (l : Layout) (laid : IsLaid l) (sound : IsSound (dataset_in l)) (within : AreWithin l) (are : AreInOrder l) (has : HasSegments l) (numbers : AllNumbersFit l) (r : ℕ) (hr : r < length l.schema) where
   abbrev ss : List Segment
   ss = segments_at l.segments r
 
@@ -88,7 +93,7 @@ module _ (l : Layout) (laid : IsLaid l) (sound : IsSound (dataset_in l)) (within
           let c = count l are sound in
           let f = lanes_few l are sound in
           let m = length-map (row_at (rows_in l r b) y.0).deltas delta_image in
-          let few = (has.filled r hr s no_segment hs).few in
+          let few = (numbers r hr s no_segment hs).few in
           let slots : All (AreSlots (length (records_at (segments_at l.segments r) s))) (row_at (rows_in l r b) y.0).deltas =
           subst (λ k. All (AreSlots (length (records_at (segments_at l.segments r) k))) (row_at (rows_in l r b) y.0).deltas) y.3 of.slots in
           inr (
@@ -146,9 +151,9 @@ module _ (l : Layout) (laid : IsLaid l) (sound : IsSound (dataset_in l)) (within
       record {
         head = omega (arith, h, f);
         there = omega (arith, h, c);
-        few = (has.filled r hr s no_segment hs).few;
+        few = (numbers r hr s no_segment hs).few;
         room = head.1;
-        records = (has.filled r hr s no_segment hs).records;
+        records = all_records (length (columns_at l.schema r)) (records_at ss s) (has.filled r hr s no_segment hs).wide (numbers r hr s no_segment hs).records;
         few_rows = omega (arith, n, f);
         rows_within = omega (arith, n, c);
         rows = rows_each s hs (length l.lanes) 0 [] (All-nil (λ (y : RowPart). y.branch < 0)) (omega arith);
@@ -172,6 +177,6 @@ by_from : (l : Layout) → ((r : ℕ) → r < length l.schema → AreSegments (l
 by_from l f zero k le = tt
 by_from l f (suc m) k le = (f k (omega (arith, le)), by_from l f m (k + 1) (omega (arith, le)))
 
-pub all_ruled : (l : Layout) → IsLaid l → IsSound (dataset_in l) → AreWithin l → AreInOrder l → HasSegments l → AreByRelation l.schema (lasts_of (image_of l)) 0 (image_of l).segments
-all_ruled l laid sound within are has =
-    subst (λ xs. AreByRelation l.schema xs 0 (image_of l).segments) (sym (lasts_same l)) (by_from l (λ r hr. segments_ruled l laid sound within are has r hr) (length l.schema) 0 (omega arith))
+pub all_ruled : (l : Layout) → IsLaid l → IsSound (dataset_in l) → AreWithin l → AreInOrder l → HasSegments l → AllNumbersFit l → AreByRelation l.schema (lasts_of (image_of l)) 0 (image_of l).segments
+all_ruled l laid sound within are has numbers =
+    subst (λ xs. AreByRelation l.schema xs 0 (image_of l).segments) (sym (lasts_same l)) (by_from l (λ r hr. segments_ruled l laid sound within are has numbers r hr) (length l.schema) 0 (omega arith))

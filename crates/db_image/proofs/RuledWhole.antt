@@ -34,7 +34,7 @@ use Rattle.image_parts.specs.Walk.{no_segment as no_part}
 use Rattle.image_parts.specs.Whole.{are_made, has_row, is_kept, counts_from, heads_once, keys_at, are_distinct, is_table, is_keyed, keys_once, is_whole}
 use Rattle.db_image.specs.Parts.{segment_part}
 use Rattle.db_image.specs.Images.{branch_image, branches_image, row_with, row_image, rows_image, head_image, segment_image, segments_image, image_of}
-use Rattle.db_image.specs.Imaged.{AreWithin, AreInOrder, HasOrigins, HasSegments}
+use Rattle.db_image.specs.Imaged.{AreWithin, AreInOrder, HasOrigins, HasSegments, AllNumbersFit}
 use Rattle.db_image.specs.Rules.{lasts_of}
 use Rattle.db_image.proofs.Heads.{heads_of, counts_are, length_counts, zero_in, steps}
 use Rattle.db_image.proofs.RowsLaid.{key_of, laid_segments, laid_at, length_laid, keys_are}
@@ -168,7 +168,7 @@ same_default (x ∷ xs) (suc i) d e l = same_default xs i d e (omega (arith, l))
 
 -- ---- the whole
 
-module _ (l : Layout) (laid : IsLaid l) (sound : IsSound (dataset_in l)) (counted : IsCounted (dataset_in l)) (within : AreWithin l) (are : AreInOrder l) (has : HasSegments l) (r : ℕ) (hr : r < length l.schema) where
+module _ (l : Layout) (laid : IsLaid l) (sound : IsSound (dataset_in l)) (counted : IsCounted (dataset_in l)) (within : AreWithin l) (are : AreInOrder l) (has : HasSegments l) (numbers : AllNumbersFit l) (r : ℕ) (hr : r < length l.schema) where
   abbrev ss : List Segment
   ss = segments_at l.segments r
 
@@ -255,7 +255,7 @@ module _ (l : Layout) (laid : IsLaid l) (sound : IsSound (dataset_in l)) (counte
   read s hs =
       let some = some_columns l.schema r hr counted.relations in
       let a = segment_adds (length (columns_at l.schema r)) (lasts l) [] (segment_bytes (length (columns_at l.schema r)) (segment_image l r s) ++ []) (segment_image l r s ∷ [], [])
-      (segment_back (length (columns_at l.schema r)) some.0 some.1 (lasts l) [] (segment_image l r s) [] (segment_ruled l laid sound within are has r hr s hs)) in
+      (segment_back (length (columns_at l.schema r)) some.0 some.1 (lasts l) [] (segment_image l r s) [] (segment_ruled l laid sound within are has numbers r hr s hs)) in
       subst (IsSegment (length (columns_at l.schema r)) (lasts l)) (ap (λ (xs : List SegmentPart). get_or xs 0 no_part) (sym a.2)) a.1
 
   all_read : All (IsSegment (length (columns_at l.schema r)) (lasts l)) parts
@@ -308,9 +308,9 @@ module _ (l : Layout) (laid : IsLaid l) (sound : IsSound (dataset_in l)) (counte
   pub whole_part : (heads_once (length (lasts l)) parts && keys_once (lasts l) parts) ≡ true
   whole_part = and_from (heads_once (length (lasts l)) parts) (keys_once (lasts l) parts) once keyed
 
-pub whole_ruled : (l : Layout) → IsLaid l → IsSound (dataset_in l) → IsCounted (dataset_in l) → AreWithin l → AreInOrder l → HasSegments l → HasOrigins l → is_whole (image_of l) (lasts_of (image_of l)) ≡ true
+pub whole_ruled : (l : Layout) → IsLaid l → IsSound (dataset_in l) → IsCounted (dataset_in l) → AreWithin l → AreInOrder l → HasSegments l → AllNumbersFit l → HasOrigins l → is_whole (image_of l) (lasts_of (image_of l)) ≡ true
 unfolding is_whole
-whole_ruled l laid sound counted within are has made =
+whole_ruled l laid sound counted within are has numbers made =
     ap (is_whole (image_of l)) (lasts_same l)
     ∙ and_from (are_made (lasts l) (branches_image l)) (list_all (λ (xs : List SegmentPart). heads_once (length (lasts l)) xs && keys_once (lasts l) xs) (image_of l).segments)
     (all_from (λ (b : BranchPart). is_there (lasts l) b.origin) (branches_image l) (λ k d h.
@@ -322,4 +322,4 @@ whole_ruled l laid sound counted within are has made =
     let n = length-map-range_with_len (segments_image l) 0 (length l.schema) in
     let g : k < length l.schema = omega (arith, n, h) in
     ap (λ (xs : List SegmentPart). heads_once (length (lasts l)) xs && keys_once (lasts l) xs) (get_or-map-range_with_len (segments_image l) 0 (length l.schema) k k d g (omega arith))
-    ∙ whole_part l laid sound counted within are has k g))
+    ∙ whole_part l laid sound counted within are has numbers k g))

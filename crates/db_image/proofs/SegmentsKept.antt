@@ -1,18 +1,18 @@
 -- Growth keeps that an image can have the segments and the rows of a layout.
-use Rattle.std.proofs.Common.{◌≡◌, ◌≢◌, ◌⊎◌, inl, inr, ℕ, zero, suc, ◌+◌, ◌*◌, ◌^◌, ◌<◌, ◌≤◌, ◌==◌, Bool, true, false, cond, List, [], ◌∷◌, ◌++◌, map, length, get_or, Option, Some, None, refl, sym, ap, subst, ◌∙◌, arith}
+use Rattle.std.proofs.Common.{◌≡◌, ◌≢◌, ◌⊎◌, inl, inr, ℕ, zero, suc, ◌+◌, ◌*◌, ◌<◌, ◌≤◌, ◌==◌, Bool, true, false, cond, List, [], ◌∷◌, ◌++◌, map, length, get_or, Option, Some, None, refl, sym, ap, subst, ◌∙◌, arith}
 use Rattle.std.specs.Prelude.{nat_lt}
-use Rattle.std.specs.List.{All, AllByRecursion, flat_map, list_all}
+use Rattle.std.specs.List.{All, flat_map, list_all}
 use Rattle.std.proofs.lemmas.Bool.{and_parts, eqb-true, leb-true, cases_eq, cases_lt}
 use Rattle.std.proofs.lemmas.List.{length-map, length-append, length_push, get_or_past}
 use Rattle.std.proofs.lemmas.List.Elements.{All-nil, All-cons, All-append}
 use Rattle.db_value.specs.Value.{Value}
 use Rattle.db_value.specs.Relations.{columns_at}
 use Rattle.db_value.specs.declared.version.VersionPlace.{VersionPlace}
+use Rattle.db_value.specs.declared.record.Record.{Record}
 use Rattle.db_value.specs.declared.entry.Change.{Change}
 use Rattle.db_value.specs.declared.entry.Entry.{Entry}
 use Rattle.db_value.specs.declared.entry.Entry.TheVariants.{Commit, Branch as NewBranch}
 use Rattle.db_value.specs.declared.schema.Relation.{Relation}
-use Rattle.record_page.specs.Page.{IsRecord}
 use Rattle.db_store.specs.Dataset.{apply, IsMade}
 use Rattle.db_store.specs.Fits.{fits, change_fits, has_fields}
 use Rattle.db_store.specs.Growth.{commit_parts, made_from, made_stays}
@@ -22,7 +22,7 @@ use Rattle.db_store.specs.LayoutGrowth.{is_head_of, put_before, puts, touches, s
 use Rattle.db_store.specs.LaidOut.{row_at, IsLaid}
 use Rattle.db_store.proofs.SegmentLemmas.{at_relation}
 use Rattle.db_store.proofs.LayoutLaw.{count_is, lanes_there, made_there, layout_law}
-use Rattle.db_image.specs.Imaged.{AreRanged, HasRanges, IsNamed, IsBlank, IsFilled, last_at, HasOrigins, HasSegments, AreInOrder, IsImaged}
+use Rattle.db_image.specs.Imaged.{IsNamed, IsBlank, IsFilled, last_at, HasOrigins, HasSegments, AreInOrder, IsImaged}
 use Rattle.hybrid_store.specs.declared.parts.BranchPart.{BranchPart}
 use Rattle.db_image.specs.Rules.{EachNext, onto, IsNextRelation}
 use Rattle.db_image.proofs.OrderKept.{own_lane, other_lane, own_seconds, count, same, same_part, same_seconds, wide_count, new_lane, source_lane, older_lane, new_in_order, stays_in_order}
@@ -40,24 +40,26 @@ all_flat Q f (x ∷ xs) h = All-append Q (f x) (flat_map f xs) (h x) (all_flat Q
 
 -- ---- what changes put
 
-puts_are : (schema : List Relation) (cs : List Change) (r : ℕ) → list_all (change_fits schema) cs ≡ true → AllByRecursion (λ (c : Change). (c.key < 2 ^ 64) × AreRanged c.fields) cs → All (IsRecord (length (columns_at schema r))) (puts cs r) × (length (puts cs r) ≤ length cs)
-puts_are schema [] r e ranged = (All-nil (IsRecord (length (columns_at schema r))), omega arith)
-puts_are schema (c ∷ cs) r e ranged = at (c.relation == r) refl c.fields (and_parts (nat_lt c.relation (length schema)) (has_fields (length (columns_at schema c.relation)) c.fields) two.0).1 ranged.0.1 (puts_are schema cs r two.1 ranged.1)
+-- a record has so many fields
+abbrev IsWide : ℕ → Record → Type 0
+IsWide columns x = length x.fields ≡ columns
+
+puts_are : (schema : List Relation) (cs : List Change) (r : ℕ) → list_all (change_fits schema) cs ≡ true → All (IsWide (length (columns_at schema r))) (puts cs r) × (length (puts cs r) ≤ length cs)
+puts_are schema [] r e = (All-nil (IsWide (length (columns_at schema r))), omega arith)
+puts_are schema (c ∷ cs) r e = at (c.relation == r) refl c.fields (and_parts (nat_lt c.relation (length schema)) (has_fields (length (columns_at schema c.relation)) c.fields) two.0).1 (puts_are schema cs r two.1)
   where
     two : (change_fits schema c ≡ true) × (list_all (change_fits schema) cs ≡ true)
     two = and_parts (change_fits schema c) (list_all (change_fits schema) cs) e
 
-    at : (q : Bool) → (c.relation == r) ≡ q → (fields : Option (List Value)) → has_fields (length (columns_at schema c.relation)) fields ≡ true → AreRanged fields
-        → All (IsRecord (length (columns_at schema r))) (puts cs r) × (length (puts cs r) ≤ length cs)
-        → All (IsRecord (length (columns_at schema r))) (put_before q c.key fields (puts cs r)) × (length (put_before q c.key fields (puts cs r)) ≤ suc (length cs))
-    at true h (Some fields) w v rest =
+    at : (q : Bool) → (c.relation == r) ≡ q → (fields : Option (List Value)) → has_fields (length (columns_at schema c.relation)) fields ≡ true
+        → All (IsWide (length (columns_at schema r))) (puts cs r) × (length (puts cs r) ≤ length cs)
+        → All (IsWide (length (columns_at schema r))) (put_before q c.key fields (puts cs r)) × (length (put_before q c.key fields (puts cs r)) ≤ suc (length cs))
+    at true h (Some fields) w rest =
         let n = rest.1 in
-        let width : length fields ≡ length (columns_at schema r) = eqb-true (length fields) (length (columns_at schema c.relation)) w ∙ ap (λ k. length (columns_at schema k)) (eqb-true c.relation r h) in (
-          All-cons (IsRecord (length (columns_at schema r))) (record { key = c.key; fields = fields }) (puts cs r) (record { key = ranged.0.0; width = width; values = v }) rest.0,
-          omega (arith, n),
-        )
-    at true h None w v rest = let n = rest.1 in (rest.0, omega (arith, n))
-    at false h fields w v rest = let n = rest.1 in (rest.0, omega (arith, n))
+        let width : length fields ≡ length (columns_at schema r) = eqb-true (length fields) (length (columns_at schema c.relation)) w ∙ ap (λ k. length (columns_at schema k)) (eqb-true c.relation r h) in
+        (All-cons (IsWide (length (columns_at schema r))) (record { key = c.key; fields = fields }) (puts cs r) width rest.0, omega (arith, n))
+    at true h None w rest = let n = rest.1 in (rest.0, omega (arith, n))
+    at false h fields w rest = let n = rest.1 in (rest.0, omega (arith, n))
 
 -- ---- heads and deltas
 
@@ -75,7 +77,7 @@ blank_push (x ∷ xs) d l = refl
 -- ---- a commit
 
 module _ (l : Layout) (b : ℕ) (second : Option VersionPlace) (changes : List Change) (laid : IsLaid l) (are : AreInOrder l) (sound : IsSound (dataset_in l)) (h : b < length l.lanes) (room : length (lane_at l b).seconds < 65536) (few : length changes ≤ 65536)
-    (fit : list_all (change_fits l.schema) changes ≡ true) (ranged : AllByRecursion (λ (c : Change). (c.key < 2 ^ 64) × AreRanged c.fields) changes) (has : HasSegments l) where
+    (fit : list_all (change_fits l.schema) changes ≡ true) (has : HasSegments l) where
   abbrev m : Layout
   m = after_commit l b second changes
 
@@ -95,21 +97,19 @@ module _ (l : Layout) (b : ℕ) (second : Option VersionPlace) (changes : List C
     where
       at : (q : Bool) → is_head_of b s.head ≡ q → IsFilled (length (columns_at l.schema r)) (last_at m) (record { head = s.head; records = cond q (s.records ++ puts changes r) s.records })
       at false e = record {
-        few = is.few;
-        records = is.records;
+        wide = is.wide;
         room = λ c g. let a = is.room c g in let n = grown c in omega (arith, a, n);
       }
       at true e =
           let own : s.head ≡ Some b = is_head_some s.head b e in
-          let p = puts_are l.schema changes r fit ranged in
+          let p = puts_are l.schema changes r fit in
           let size = length-append s.records (puts changes r) in
           let a = is.room b own in
           let n = p.1 in
           let k = longer in
           let some = (laid.lanes b h).some in
           record {
-            few = omega (arith, size, a, n, few, room, some);
-            records = All-append (IsRecord (length (columns_at l.schema r))) s.records (puts changes r) is.records p.0;
+            wide = All-append (IsWide (length (columns_at l.schema r))) s.records (puts changes r) is.wide p.0;
             room = λ c g.
                 let same_branch : b ≡ c = some_same b c (sym own ∙ g) in
                 subst (λ d. length (s.records ++ puts changes r) ≤ 65536 * last_at m d) same_branch (omega (arith, size, a, n, few, k, some));
@@ -154,17 +154,17 @@ module _ (l : Layout) (b : ℕ) (second : Option VersionPlace) (changes : List C
 -- ---- a new branch
 
 filled_more : (columns : ℕ) (last now : ℕ → ℕ) (s : Segment) → ((c : ℕ) → last c ≤ now c) → IsFilled columns last s → IsFilled columns now s
-filled_more columns last now s more is = record { few = is.few; records = is.records; room = λ c g. let a = is.room c g in let n = more c in omega (arith, a, n) }
+filled_more columns last now s more is = record { wide = is.wide; room = λ c g. let a = is.room c g in let n = more c in omega (arith, a, n) }
 
 filled_without : (columns b : ℕ) (now : ℕ → ℕ) (s : Segment) → IsFilled columns now s → IsFilled columns now (without_head b s)
 filled_without columns b now s is = at (is_head_of b s.head)
   where
     at : (q : Bool) → IsFilled columns now (internal_if q s)
-    at true = record { few = is.few; records = is.records; room = λ c g. absurd cc }
+    at true = record { wide = is.wide; room = λ c g. absurd cc }
     at false = is
 
 filled_head : (columns b : ℕ) (now : ℕ → ℕ) → IsFilled columns now (head_segment b)
-filled_head columns b now = record { few = omega arith; records = All-nil (IsRecord columns); room = λ c g. omega arith }
+filled_head columns b now = record { wide = All-nil (IsWide columns); room = λ c g. omega arith }
 
 filled_with : (columns b c : ℕ) (last now : ℕ → ℕ) (q : Bool) (ss : List Segment) → ((d : ℕ) → last d ≤ now d) → All (IsFilled columns last) ss → All (IsFilled columns now) (segments_with q b c ss)
 filled_with columns b c last now true ss more all =
@@ -293,8 +293,8 @@ new_imaged schema names = record {
     blank zero r h hr = subst (All IsBlank) (sym (at_relation schema (λ k. head_row 0 0 ∷ []) r [] hr)) (All-cons IsBlank (head_row 0 0) [] (λ late. refl) (All-nil IsBlank))
     blank (suc b) r h hr = absurd (omega (arith, h))
 
-pub imaged_stays : (l : Layout) (e : Entry) → IsLaid l → IsSound (dataset_in l) → fits (dataset_in l) e ≡ true → IsNamed e → HasRanges e → IsImaged l → IsImaged (grow_layout l e)
-imaged_stays l (Commit b second changes) laid sound f named ranged is =
+pub imaged_stays : (l : Layout) (e : Entry) → IsLaid l → IsSound (dataset_in l) → fits (dataset_in l) e ≡ true → IsNamed e → IsImaged l → IsImaged (grow_layout l e)
+imaged_stays l (Commit b second changes) laid sound f named is =
     let parts = commit_parts (dataset_in l) b second changes f in
     let h : b < length l.lanes = lanes_there l b parts.there in
     let three = and_parts _ _ parts.changes in
@@ -304,9 +304,9 @@ imaged_stays l (Commit b second changes) laid sound f named ranged is =
       relations = is.relations;
       lines = lines_stay l (Commit b second changes) sound f named is.ordered is.lines;
       origins = commit_origins l b second changes laid is.ordered sound f is.origins;
-      segments = commit_segments l b second changes laid is.ordered sound h (let c = count_is l b h in let r = parts.room in omega (arith, c, r)) (leb-true (length changes) 65536 two.0) three.1 ranged is.segments;
+      segments = commit_segments l b second changes laid is.ordered sound h (let c = count_is l b h in let r = parts.room in omega (arith, c, r)) (leb-true (length changes) 65536 two.0) three.1 is.segments;
     }
-imaged_stays l (NewBranch name origin) laid sound f named ranged is =
+imaged_stays l (NewBranch name origin) laid sound f named is =
     let there = (made_there l origin (made_from (dataset_in l) origin (and_parts _ _ f).1)).0 in
     record {
       ordered = stays_in_order l (NewBranch name origin) sound f is.ordered;

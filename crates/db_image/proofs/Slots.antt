@@ -36,6 +36,12 @@ clear_from d k l =
     ∙ ap (λ q. nat_le d.first (k / 64) && q) (no_word_bit (k % 64))
     ∙ and_false (nat_le d.first (k / 64))
 
+pub clear_words : (d : Delta) (k : ℕ) → length d.words ≡ 0 → delta_bit d k ≡ false
+clear_words d k none =
+    ap (λ w. nat_le d.first (k / 64) && word_bit w (k % 64)) (get_or_past d.words (k / 64 - d.first) 0 (omega (arith, none)))
+    ∙ ap (λ q. nat_le d.first (k / 64) && q) (no_word_bit (k % 64))
+    ∙ and_false (nat_le d.first (k / 64))
+
 -- the slots from one up to another whose bits are set
 abbrev pub slots_between : (ℕ → Bool) → ℕ → ℕ → List ℕ
 slots_between p from slot = filter p (range_with_len from (slot - from))

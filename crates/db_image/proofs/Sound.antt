@@ -97,7 +97,7 @@ module _ (i : Image) (bases : List VersionPlace) (lasts : List ℕ) (is : IsImag
   versions_counted : (b : ℕ) → b < n → length (branch_at d b).versions ≡ suc (last b)
   versions_counted b h = count_is l b (let e = lanes_are in omega (arith, h, e)) ∙ counted b h
 
-  made : (at : VersionPlace) → at.branch < n → IsThere last at → IsMade d at
+  pub made : (at : VersionPlace) → at.branch < n → IsThere last at → IsMade d at
   made at b t = (let e = branches_are in omega (arith, b, e), let c = versions_counted at.branch b in omega (arith, t, c))
 
   pub of_made : (at : VersionPlace) → IsMade d at → (at.branch < n) × IsThere last at

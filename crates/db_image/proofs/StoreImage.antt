@@ -6,16 +6,16 @@ use Rattle.hybrid_store.specs.Store.{layout_of, state_of}
 use Rattle.image_text.specs.Spelling.{spelling}
 use Rattle.image_parts.specs.Whole.{image_at}
 use Rattle.db_image.specs.Images.{image_of}
-use Rattle.db_image.specs.Imaged.{IsImaged}
+use Rattle.db_image.specs.Imaged.{AllNumbersFit, IsImaged}
 use Rattle.db_image.specs.Stores.{IsImageOf}
 use Rattle.db_image.proofs.LayoutBack.{layout_back}
 use Rattle.db_image.proofs.ReadWhole.{image_back}
 use Rattle.db_image.proofs.Ruled.{ruled}
 use Rattle.db_image.proofs.StoreWithin.{are_within}
 
-pub store_image : (s : HybridStore) (bytes : List ℕ) → bytes ≡ spelling (image_of (layout_of s)) → IsImaged (layout_of s) → IsImageOf bytes (state_of s)
-store_image s bytes e is = record {
+pub store_image : (s : HybridStore) (bytes : List ℕ) → bytes ≡ spelling (image_of (layout_of s)) → AllNumbersFit (layout_of s) → IsImaged (layout_of s) → IsImageOf bytes (state_of s)
+store_image s bytes e numbers is = record {
   image = image_of (layout_of s);
-  read = ap image_at e ∙ image_back (image_of (layout_of s)) (ruled (layout_of s) s.laid s.sound s.counted (are_within s.schema s.lanes.items s.order.items s.segments.items s.laid) (let n = s.numbered in omega (arith, n)) is);
+  read = ap image_at e ∙ image_back (image_of (layout_of s)) (ruled (layout_of s) s.laid s.sound s.counted (are_within s.schema s.lanes.items s.order.items s.segments.items s.laid) (let n = s.numbered in omega (arith, n)) numbers is);
   layout = ap laid (sym (layout_back (layout_of s) (are_within s.schema s.lanes.items s.order.items s.segments.items s.laid) is.ordered));
 }

@@ -42,7 +42,7 @@ own_versions b vs v e = filter-append (λ (w : VersionLaid). w.branch == b) vs (
 pub other_versions : (b : ℕ) (vs : List VersionLaid) (v : VersionLaid) → v.branch ≢ b → versions_of b (vs ++ v ∷ []) ≡ versions_of b vs
 other_versions b vs v e = filter-append (λ (w : VersionLaid). w.branch == b) vs (v ∷ []) ∙ ap (λ q. versions_of b vs ++ cond q (v ∷ []) []) (ne_eqb v.branch b e) ∙ append-nil (versions_of b vs)
 
-begun_is : (bases : List VersionPlace) (lasts : List ℕ) (b : ℕ) → is_begun bases lasts b ≡ true → (b < length lasts) × HasBegun bases (last_of lasts) b
+pub begun_is : (bases : List VersionPlace) (lasts : List ℕ) (b : ℕ) → is_begun bases lasts b ≡ true → (b < length lasts) × HasBegun bases (last_of lasts) b
 begun_is bases lasts b e =
     let two = both_true (nat_lt b (length lasts)) (is_there lasts (get_or bases b root)) e in
     (ltb-true b (length lasts) two.0, leb-true (get_or bases b root).position (last_of lasts (get_or bases b root).branch) two.1)
@@ -136,7 +136,7 @@ module _ (bases : List VersionPlace) (s t : List ℕ × List MadeVersion) (prope
 
 -- ---- no version yet
 
-zero_at : (n b : ℕ) → last_of (replicate n 0) b ≡ 0
+pub zero_at : (n b : ℕ) → last_of (replicate n 0) b ≡ 0
 zero_at zero b = refl
 zero_at (suc n) zero = refl
 zero_at (suc n) (suc b) = zero_at n b

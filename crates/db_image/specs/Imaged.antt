@@ -1,23 +1,22 @@
 -- The layouts of which an image tells all.
-use Rattle.std.specs.Prelude.{◌≡◌, ℕ, ◌-◌, ◌*◌, ◌^◌, ◌<◌, ◌≤◌, true, List, [], length, map, replicate, Option, Some, None}
+use Rattle.std.specs.Prelude.{◌≡◌, ℕ, ◌-◌, ◌*◌, ◌^◌, ◌<◌, ◌≤◌, true, List, [], length, map, replicate, Some}
 use Rattle.std.specs.List.{All, AllByRecursion, range_with_len}
 use Rattle.std.specs.Int.{w64}
 use Rattle.std.specs.Int.RustNames.{FitsSigned}
-use Rattle.db_value.specs.Value.{Value}
-use Rattle.db_value.specs.declared.entry.Change.{Change}
 use Rattle.std.proofs.Common.{get_or}
 use Rattle.db_value.specs.Text.{is_name}
 use Rattle.db_value.specs.Relations.{columns_at}
+use Rattle.db_value.specs.declared.record.Record.{Record}
 use Rattle.db_value.specs.declared.entry.Entry.{Entry}
 use Rattle.db_value.specs.declared.entry.Entry.TheVariants.{Commit, Branch as NewBranch}
 use Rattle.db_store.specs.Dataset.{root, IsMade}
 use Rattle.db_store.specs.Layout.{Segment, Row, Lane, Layout, has, slots_where, lane_at, records_at, segments_at, rows_at, by_relation, dataset_in}
 use Rattle.db_store.specs.LaidOut.{rises}
-use Rattle.record_page.specs.Page.{IsRecord}
 use Rattle.hybrid_store.specs.declared.made.MadeVersion.{MadeVersion}
 use Rattle.hybrid_store.specs.declared.parts.BranchPart.{BranchPart}
 use Rattle.hybrid_store.specs.Readers.{made_version}
 use Rattle.hybrid_store.specs.Parts.{bases_from, order_of, seconds_of}
+use Rattle.image_text.specs.declared.image.SegmentPart.{SegmentPart}
 use Rattle.db_image.specs.Images.{branches_image, versions_image, image_of}
 use Rattle.db_image.specs.Rules.{EachNext, onto, IsNextRelation, branch_next, IsNextBranch, version_next, IsNextVersion, branches_seen}
 
@@ -77,10 +76,9 @@ abbrev pub IsNamed : Entry → Type 0
 IsNamed (Commit b second changes) = Unit {0}
 IsNamed (NewBranch name origin) = is_name name ≡ true
 
--- a segment has fewer than 2^32 records, which keep their rules, and the head of a branch has at most 65,536 of them for each version after position 0
+-- the records of a segment have so many fields, and the head of a branch has at most 65,536 of them for each version after position 0
 pub record IsFilled (columns : ℕ) (last : ℕ → ℕ) (s : Segment) : Type 0 where
-  pub few : length s.records < 2 ^ 32
-  pub records : All (IsRecord columns) s.records
+  pub wide : All (λ (x : Record). length x.fields ≡ columns) s.records
   pub room : (b : ℕ) → s.head ≡ Some b → length s.records ≤ 65536 * last b
 
 -- the last position of a branch
@@ -97,15 +95,26 @@ pub record HasSegments (l : Layout) : Type 0 where
   pub filled : (r : ℕ) → r < length l.schema → All (IsFilled (length (columns_at l.schema r)) (last_at l)) (segments_at l.segments r)
   pub blank : (b r : ℕ) → b < length l.lanes → r < length l.schema → All IsBlank (rows_at (lane_at l b) r)
 
--- the key and each value that a change puts have 64 bits
-abbrev pub AreRanged : Option (List Value) → Type 0
-AreRanged None = Unit {0}
-AreRanged (Some fields) = AllByRecursion (FitsSigned w64) fields
+-- the key and each value of a record have 64 bits
+pub record IsRanged (x : Record) : Type 0 where
+  pub key : x.key < 2 ^ 64
+  pub values : AllByRecursion (FitsSigned w64) x.fields
 
--- so have those of an entry's changes, since they have their types
-abbrev pub HasRanges : Entry → Type 0
-HasRanges (Commit b second changes) = AllByRecursion (λ (c : Change). (c.key < 2 ^ 64) × AreRanged c.fields) changes
-HasRanges (NewBranch name origin) = Unit {0}
+-- so has each record of a segment of an image, and of the segments of a relation
+abbrev pub AreRanged : SegmentPart → Type 0
+AreRanged s = All IsRanged s.records
+
+abbrev pub AllAreRanged : List SegmentPart → Type 0
+AllAreRanged ss = All AreRanged ss
+
+-- a segment has fewer than 2^32 records, of which each number has 64 bits
+pub record NumbersFit (s : Segment) : Type 0 where
+  pub few : length s.records < 2 ^ 32
+  pub records : All IsRanged s.records
+
+-- so it is of each segment of a store, since its numbers have their types
+abbrev pub AllNumbersFit : Layout → Type 0
+AllNumbersFit l = (r : ℕ) → r < length l.schema → All NumbersFit (segments_at l.segments r)
 
 -- a layout of which an image can be: its versions stand in the order made, and it keeps the rules of images that not every layout keeps
 pub record IsImaged (l : Layout) : Type 0 where

@@ -1,9 +1,10 @@
 //! How the image of a store is written.
 ghost use Rattle.std.specs.Prelude.{◌≡◌, IfOk};
+ghost use Rattle.std.specs.List.{All};
 ghost use Rattle.hybrid_store.specs.Store.{layout_of, state_of};
 ghost use Rattle.image_text.specs.Spelling.{Fits, spelling};
 ghost use Rattle.db_image.specs.Images.{image_of};
-ghost use Rattle.db_image.specs.Imaged.{IsImaged};
+ghost use Rattle.db_image.specs.Imaged.{AllAreRanged, IsImaged};
 ghost use Rattle.db_image.specs.Stores.{IsImageOf};
 
 use crate::image_segments::all_segments;
@@ -21,6 +22,7 @@ pub type ImageBytes = ListOf<u8>;
 pub fn image_of_store(alloc: Global, store: &HybridStore) -> Result<Image, AllocError>
     ensures value { IfOk result (λ image. image ≡ image_of (layout_of store.now)) }
     ensures fits { IfOk result Fits }
+    ensures ranged { IfOk result (λ image. All AllAreRanged image.segments) }
 {
     let relations = relations_image(alloc, store.schema().relations())?;
     let branches = branches_image(alloc, store)?;

@@ -4,9 +4,11 @@ ghost use Rattle.std.specs.List.{All};
 ghost use Rattle.db_store.specs.Layout.{by_relation, segments_at};
 ghost use Rattle.hybrid_store.specs.Store.{layout_of};
 ghost use Rattle.image_text.specs.Spelling.{FitsRow, FitsSegment, FitsSegments};
+ghost use Rattle.db_image.specs.Imaged.{IsRanged, AreRanged, AllAreRanged};
 ghost use Rattle.db_image.specs.Images.{row_image, rows_image, head_image, segment_image, segments_image};
 
 use crate::image_deltas::deltas_image;
+use crate::image_records::fits_its_types;
 use db_store::{Store, blank_record};
 use db_value::{ListOf, Record, Records, Steps};
 use hybrid_store::HybridStore;
@@ -79,7 +81,7 @@ fn rows_image(
     Ok(ListOf::of(rows))
 }
 
-// The records of a segment, where nobody counts the steps.
+// The records of a segment, where nobody counts the steps. Their numbers have the ranges of their types.
 fn records_counted<L: Ledger>(
     alloc: Global,
     segment: &Segment,
@@ -88,13 +90,15 @@ fn records_counted<L: Ledger>(
     requires name { blank.name ≡ L.name }
     requires parts { blank.parts ≡ L.parts }
     requires some { 0 < L.parts }
-    ensures { IfOk result (λ records. records.items ≡ segment.now.records) }
+    ensures value { IfOk result (λ records. records.items ≡ segment.now.records) }
+    ensures ranged { IfOk result (λ records. All IsRanged records.items) }
 {
     let mut steps = Steps::<L>::open(blank);
     let mut row = blank_record();
     let mut records = Vec::with_capacity(alloc, segment.len() as usize)?;
     for slot in 0..segment.len() {
         segment.read(slot, &mut row, &mut steps);
+        fits_its_types(&row);
         records.push(row)?;
     }
     Ok(records)
@@ -103,6 +107,7 @@ fn records_counted<L: Ledger>(
 // The records of a segment.
 fn records_image(alloc: Global, segment: &Segment) -> Result<Records, AllocError>
     ensures value { IfOk result (λ records. records ≡ segment.now.records) }
+    ensures ranged { IfOk result (λ records. All IsRanged records) }
     ensures few { length segment.now.records < 2 ^ 32 }
 {
     let _count = segment.len();
@@ -133,6 +138,7 @@ fn segment_image(
     ensures value { IfOk result (λ made.
         made ≡ segment_image (layout_of store.now) relation index) }
     ensures fits { IfOk result FitsSegment }
+    ensures ranged { IfOk result AreRanged }
 {
     let head = head_image(store.head(relation, index));
     let records = records_image(alloc, store.segment(relation, index))?;
@@ -153,6 +159,7 @@ fn segments_image(
     requires { relation < length (layout_of store.now).schema }
     ensures value { IfOk result (λ made. made ≡ segments_image (layout_of store.now) relation) }
     ensures fits { IfOk result FitsSegments }
+    ensures ranged { IfOk result (λ made. All AreRanged made) }
 {
     let mut made = Vec::new(alloc);
     for index in 0..store.segments(relation) {
@@ -169,6 +176,7 @@ pub(crate) fn all_segments(
     ensures value { IfOk result (λ made. made
         ≡ by_relation (layout_of store.now).schema (segments_image (layout_of store.now))) }
     ensures fits { IfOk result (λ made. All FitsSegments made) }
+    ensures ranged { IfOk result (λ made. All AllAreRanged made) }
 {
     let mut made = Vec::new(alloc);
     for relation in 0..relation_count(store) {

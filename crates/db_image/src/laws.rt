@@ -20,7 +20,7 @@ ghost use Rattle.hybrid_view.specs.Deltas.{slots_of};
 ghost use Rattle.db_image.specs.Parts.{bits_of, parts_of};
 ghost use Rattle.db_image.specs.Read.{IsFit};
 ghost use Rattle.db_image.specs.Images.{delta_image, image_of};
-ghost use Rattle.db_image.specs.Imaged.{AreSlots, AreWithin, AreInOrder, HasLines, HasOrigins, HasRanges, HasSegments, IsImaged, IsNamed};
+ghost use Rattle.db_image.specs.Imaged.{AreSlots, AreWithin, AreInOrder, AllNumbersFit, HasLines, HasOrigins, HasSegments, IsImaged, IsNamed};
 ghost use Rattle.db_image.specs.Rules.{lasts_of, onto, AreByRelation, EachNext, IsDelta, IsNextRelation, IsRuled};
 
 use hybrid_store::HybridStore;
@@ -81,18 +81,18 @@ pub fn lines_law()
 {}
 
 /// The segments of the image of a layout keep their rules, if those of the layout are filled as those of
-/// an image can be.
+/// an image can be and their numbers fit.
 pub fn segments_law()
     ensures { (l : Layout) → IsLaid l → IsSound (dataset_in l) → AreWithin l → AreInOrder l
-        → HasSegments l
+        → HasSegments l → AllNumbersFit l
         → AreByRelation l.schema (lasts_of (image_of l)) 0 (image_of l).segments }
 {}
 
 /// The rules over the whole hold of the image of a layout, if its segments are filled as those of an
-/// image can be and the place from which each branch was made is made.
+/// image can be, their numbers fit, and the place from which each branch was made is made.
 pub fn whole_law()
     ensures { (l : Layout) → IsLaid l → IsSound (dataset_in l) → IsCounted (dataset_in l)
-        → AreWithin l → AreInOrder l → HasSegments l → HasOrigins l
+        → AreWithin l → AreInOrder l → HasSegments l → AllNumbersFit l → HasOrigins l
         → is_whole (image_of l) (lasts_of (image_of l)) ≡ true }
 {}
 
@@ -102,6 +102,11 @@ pub fn imaged_law()
     ensures first { (schema : List Relation) → EachNext onto IsNextRelation [] schema
         → IsImaged (new_layout schema) }
     ensures stays { (l : Layout) (e : Entry) → IsLaid l → IsSound (dataset_in l)
-        → fits (dataset_in l) e ≡ true → IsNamed e → HasRanges e → IsImaged l
-        → IsImaged (grow_layout l e) }
+        → fits (dataset_in l) e ≡ true → IsNamed e → IsImaged l → IsImaged (grow_layout l e) }
+{}
+
+/// An image can be of the layout that an image which is read stands for.
+pub fn read_law()
+    ensures { (b : List ℕ) (i : Image) → image_at b ≡ Ok i
+        → IsImaged (layout_of_parts (parts_of i)) }
 {}

@@ -18,6 +18,7 @@
 //! | `specs/Imaged.antt` | the layouts of which an image tells all, and those of which it keeps the rules |
 //! | `src/image_versions.rt` | relations, branches and versions of an image, from those of a store |
 //! | `src/image_deltas.rt`, `src/image_segments.rt` | deltas, rows and segments, from those of a store |
+//! | `src/image_records.rt` | the ranges that the numbers of a record have |
 //! | `src/encoding.rt` | the bytes of the image of a store |
 #![tactic(auto)]
 
@@ -25,6 +26,7 @@ mod decoding;
 mod deltas;
 mod encoding;
 mod image_deltas;
+mod image_records;
 mod image_segments;
 mod image_versions;
 mod laws;
@@ -38,8 +40,8 @@ pub use deltas::delta_of;
 pub use encoding::{ImageBytes, encode, image_of_store};
 pub use image_deltas::{delta_image, deltas_image};
 pub use laws::{
-    delta_law, fit_law, imaged_law, layout_law, lines_law, order_law, parts_law, rules_law,
-    segments_law, whole_law, within_law,
+    delta_law, fit_law, imaged_law, layout_law, lines_law, order_law, parts_law, read_law,
+    rules_law, segments_law, whole_law, within_law,
 };
 pub use rows::{history_of, row_of, rows_of};
 pub use segments::{put_segments, segment_of};

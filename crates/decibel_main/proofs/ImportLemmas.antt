@@ -7,7 +7,7 @@ use Rattle.db_value.specs.declared.entry.Entry.{Entry}
 use Rattle.db_store.specs.State.{State}
 use Rattle.db_outside.specs.Count.{counted}
 use Rattle.db_outside.specs.declared.disk.Disk.{Ghosts}
-use Rattle.entry_codec.specs.Logs.{Opening}
+use Rattle.entry_codec.specs.declared.log.Log.{Ghosts as LogGhosts}
 use Rattle.db_core.specs.Order.{World, opening}
 use Rattle.db_core.specs.Kept.{Kept, Logged, world_of, new_kept}
 use Rattle.csv_port.specs.declared.imports.Imported.{Imported}
@@ -17,20 +17,20 @@ use Rattle.csv_port.specs.Import.{import_told, lines_told, Tells}
 use Rattle.csv_port.specs.Ran.{RunsFirst, RunsToEnd, StopsAs}
 use Rattle.generations.specs.declared.dataset.Dataset.{Dataset}
 use Rattle.generations.specs.declared.pair.Pair.{Pair}
-use Rattle.generations.specs.Datasets.{pair_in, generation_in, counted_in, place_in, KeepsIn, moment_in, OpensSinceIn, QuietIn}
+use Rattle.generations.specs.Datasets.{pair_in, generation_in, counted_in, place_in, KeepsIn}
 use Rattle.generations.specs.Files.{opened, counts, reads}
 use Rattle.generations.specs.Pairs.{moments_of, AreAllOnDisk, BothOnlyRead}
 use Rattle.generations.specs.Reopens.{StaysQuiet}
 use Rattle.script_run.specs.Device.{Appends, AppendsShort}
-use Rattle.db_core.specs.Heard.{Marked, failures, lines_of, unmarked}
-use Rattle.db_core.specs.Acknowledged.{StoresAll}
+use Rattle.db_core.specs.Heard.{Marked, said, failures, lines_of, unmarked}
+use Rattle.db_core.specs.Accounts.{StoresAll, NoneCheckpoints}
 use Rattle.db_core.specs.Runs.{Runs}
-use Rattle.db_core.proofs.Storing.{stores_none}
+use Rattle.db_core.proofs.Storing.{stores_none, no_image_law}
 use Rattle.decibel_main.specs.Ends.{IsRowsStatus, IsUntouched}
 use Rattle.decibel_main.specs.Imports.{imported_text, line_refused, stop_status, TellsMade, EndedBy, EndsImport, ImportsAll, ImportsLog, RunsImport}
 use Rattle.decibel_main.specs.declared.status.Status.{Status}
 use Rattle.decibel_main.specs.declared.status.Status.TheVariants.{Done, Usage, NotDataset, Damaged, ReadFault, WriteFault, DiskFault, TooLong, Memory, AlreadyThere, BadLine}
-use Rattle.decibel_main.proofs.ScriptLemmas.{faults_l, runs_on}
+use Rattle.decibel_main.proofs.ScriptLemmas.{log_of, runs_on}
 
 -- a count that is told to be greater is greater
 pub counted_less : (a b : ℕ) → counted a < counted b → a < b
@@ -95,9 +95,9 @@ made_row : {P : Type 0} (made : Imported) (rose : Bool) (n : ℕ) (status : Stat
 made_row made true n status before after is e = absurd (cc (sym is ∙ e.0))
 made_row made false n status before after is e = absurd (subst (λ (t : Status). TellsMade made t before after) is e)
 
-module _ {L : Type 0} (faults : L → ℕ) (Keeps : L → State → List Entry → Option (List ℕ) → Type 0) (generation : L → ℕ) (moment : L → ℕ × ℕ) (opens_since : L → ℕ × ℕ → Opening → Type 0) (Quiet : L → ℕ × ℕ → Type 0) where
+module _ {L S V P Q : Type 0} (j : LogGhosts L S V P Q) where
   -- a row that is refused spares the log
-  row_spares : (old new : Logged L) (stop : ImportStop) (rose : Bool) (n : ℕ) → stop_status rose stop ≡ BadLine n → StopsAs faults old new stop → new.log ≡ old.log
+  row_spares : (old new : Logged L) (stop : ImportStop) (rose : Bool) (n : ℕ) → stop_status rose stop ≡ BadLine n → StopsAs j.faults old new stop → new.log ≡ old.log
   row_spares old new (BadRow row) rose n is s = s.1
   row_spares old new NoRelation rose n is s = s.1
   row_spares old new (KeyThere row) rose n is s = s.1
@@ -107,7 +107,7 @@ module _ {L : Type 0} (faults : L → ℕ) (Keeps : L → State → List Entry �
   row_spares old new NoMemory rose n is s = absurd (cc is)
 
   abbrev Log : State → L → L → List ℕ → List ℕ → Status → Option (List ℕ) → Option (List ℕ) → Type 0
-  Log s old new relation input status before after = ImportsLog faults Keeps generation moment opens_since Quiet s old new relation input status before after
+  Log s old new relation input status before after = ImportsLog j s old new relation input status before after
 
   -- if no disk was to be written, the log was not called
   pub untouched_log : (s : State) (old new : L) (relation input : List ℕ) (status : Status) (before after : Option (List ℕ)) → IsUntouched status → Log s old new relation input status before after → new ≡ old
@@ -129,8 +129,9 @@ module _ {L : Type 0} (faults : L → ℕ) (Keeps : L → State → List Entry �
     ran = [];
     rest = lines_told s relation input;
     lines = refl;
-    stores = stores_none faults Keeps generation moment opens_since Quiet (opening s) log;
+    stores = stores_none j (opening s) log;
     ends = refl;
+    others = tt;
     spared = λ n is. absurd (cc is);
   }
 
@@ -138,21 +139,22 @@ module _ {L : Type 0} (faults : L → ℕ) (Keeps : L → State → List Entry �
     abbrev lines : List (List ℕ)
     lines = lines_told s relation input
 
-    stores_at : (ran : List Marked) (rest : List (List ℕ)) → Runs faults Keeps generation moment opens_since Quiet k m lines ran rest → StoresAll faults Keeps generation moment opens_since Quiet (opening s) ran k.log m.log
-    stores_at ran rest r = subst (λ (w : World). StoresAll faults Keeps generation moment opens_since Quiet w ran k.log m.log) world r.stores
+    stores_at : (ran : List Marked) (rest : List (List ℕ)) → Runs j k m lines ran rest → StoresAll j (opening s) ran k.log m.log
+    stores_at ran rest r = subst (λ (w : World). StoresAll j w ran k.log m.log) world r.stores
 
     by_result : (imported : Result Imported ImportStop) → Tells (import_told s relation input) imported
-        → RunsFirst faults Keeps generation moment opens_since Quiet k m lines
-        → OnOk imported (RunsToEnd faults Keeps generation moment opens_since Quiet k m lines)
-        → IfErr imported (StopsAs faults k m)
+        → RunsFirst j k m lines
+        → OnOk imported (RunsToEnd j k m lines)
+        → IfErr imported (StopsAs j.faults k m)
         → EndedBy imported rose status before after
         → Log s k.log m.log relation input status before after
     by_result (Ok made) tells first all stops e = record {
       ran = map unmarked lines;
       rest = [];
-      lines = all.lines;
-      stores = stores_at (map unmarked lines) [] all;
+      lines = all.0.lines;
+      stores = stores_at (map unmarked lines) [] all.0;
       ends = ends_made (import_told s relation input) (map unmarked lines) [] before after made rose status (tells, refl, none_marked lines) e;
+      others = all.1;
       spared = λ n is. made_row made rose n status before after is e;
     }
     by_result (Err stop) tells first all stops e = record {
@@ -161,6 +163,7 @@ module _ {L : Type 0} (faults : L → ℕ) (Keeps : L → State → List Entry �
       lines = first.2.lines;
       stores = stores_at first.0 first.1 first.2;
       ends = subst (λ (t : Status). EndsImport t (import_told s relation input) first.0 first.1 before after) (sym e.0) (ends_stop (import_told s relation input) first.0 first.1 before after stop rose tells e.1);
+      others = first.3;
       spared = λ n is. row_spares k m stop rose n (sym e.0 ∙ is) stops;
     }
 
@@ -168,9 +171,9 @@ module _ {L : Type 0} (faults : L → ℕ) (Keeps : L → State → List Entry �
   pub imports_told : (k m : Logged L) (s : State) (n : ℕ) (log log' : L) (relation input : List ℕ) (rose : Bool) (status : Status) (before after : Option (List ℕ)) (imported : Result Imported ImportStop)
       → k.kept ≡ new_kept s n → k.log ≡ log → log' ≡ m.log
       → Tells (import_told k.kept.now relation input) imported
-      → RunsFirst faults Keeps generation moment opens_since Quiet k m (lines_told k.kept.now relation input)
-      → OnOk imported (RunsToEnd faults Keeps generation moment opens_since Quiet k m (lines_told k.kept.now relation input))
-      → IfErr imported (StopsAs faults k m)
+      → RunsFirst j k m (lines_told k.kept.now relation input)
+      → OnOk imported (RunsToEnd j k m (lines_told k.kept.now relation input))
+      → IfErr imported (StopsAs j.faults k m)
       → EndedBy imported rose status before after
       → Log s log log' relation input status before after
   imports_told k m s n log log' relation input rose status before after imported kept same after_is tells first all stops e =
@@ -178,25 +181,28 @@ module _ {L : Type 0} (faults : L → ℕ) (Keeps : L → State → List Entry �
       subst (λ (p : L × L). Log s p.0 p.1 relation input status before after) (λ i. (same i, sym after_is i))
       (by_result s k m relation input rose status before after (ap (λ (x : Kept). world_of x) kept) imported
       (subst (λ (x : State). Tells (import_told x relation input) imported) now tells)
-      (subst (λ (x : State). RunsFirst faults Keeps generation moment opens_since Quiet k m (lines_told x relation input)) now first)
-      (subst (λ (x : State). OnOk imported (RunsToEnd faults Keeps generation moment opens_since Quiet k m (lines_told x relation input))) now all)
+      (subst (λ (x : State). RunsFirst j k m (lines_told x relation input)) now first)
+      (subst (λ (x : State). OnOk imported (RunsToEnd j k m (lines_told x relation input))) now all)
       stops e)
 
 -- ---- on two files
 
-module _ {D : Type 0} (g : Ghosts D) (disks : Pair D) (a b : Dataset D g) (s : State) (es : List Entry) (relation input : List ℕ) (status : Status) (before after : Option (List ℕ)) (only : BothOnlyRead g disks (pair_in a)) where
-  pub imports_files : KeepsIn a s es None → ImportsLog (faults_l g) KeepsIn generation_in moment_in OpensSinceIn QuietIn s a b relation input status before after
+module _ {D S V P Q : Type 0} (g : Ghosts D) (disks : Pair D) (a b : Dataset D g) (s : State) (es : List Entry) (relation input : List ℕ) (status : Status) (before after : Option (List ℕ)) (only : BothOnlyRead g disks (pair_in a)) where
+  pub imports_files : KeepsIn a s es None → ImportsLog (log_of g {S = S} {V = V} {P = P} {Q = Q}) s a b relation input status before after
       → (c d : List ℕ) → reads c d ≡ counts (counted_in a) (generation_in a) (opened s es (place_in a)) → (AreAllOnDisk g disks → StaysQuiet (moments_of g disks) a c d) → RunsImport g disks (pair_in b) relation input status before after c d
-  imports_files kept r c d is quiet = record {
-    file = counted_in a;
-    generation = generation_in a;
-    state = s;
-    entries = es;
-    at = place_in a;
-    opens = is;
-    ran = r.ran;
-    rest = r.rest;
-    lines = r.lines;
-    runs = runs_on g disks a b s es only kept r.ran r.stores c d is quiet;
-    ends = r.ends;
-  }
+  imports_files kept r c d is quiet =
+      let runs = runs_on g disks a b s es only kept r.ran r.stores c d is quiet in
+      record {
+        file = counted_in a;
+        generation = generation_in a;
+        state = s;
+        entries = es;
+        at = place_in a;
+        opens = is;
+        ran = r.ran;
+        rest = r.rest;
+        lines = r.lines;
+        runs = runs;
+        any_moment = runs.any_moment (no_image_law (opening s) (map said r.ran) r.others);
+        ends = r.ends;
+      }

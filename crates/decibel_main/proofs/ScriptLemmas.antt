@@ -1,34 +1,37 @@
 -- A run on a log, and on two files.
-use Rattle.std.proofs.Common.{◌≡◌, inl, ⊎_elim, ◌∙◌, ◌+◌, ◌-◌, ◌^◌, ◌<◌, ◌≤◌, ◌++◌, ◌∷◌, [], List, ℕ, Bool, true, false, cond, nat_lt, refl, sym, ap, subst, arith, Option, Some, None}
+use Rattle.std.proofs.Common.{◌≡◌, ◌⊎◌, inl, inr, map, ⊎_elim, ◌∙◌, ◌+◌, ◌-◌, ◌^◌, ◌<◌, ◌≤◌, ◌++◌, ◌∷◌, [], List, ℕ, Bool, true, false, cond, nat_lt, refl, sym, ap, subst, arith, Option, Some, None}
 use Rattle.std.specs.Prelude.{Result, Ok, Err, OnOk, IsErrOf}
 use Rattle.std.proofs.lemmas.List.{append-nil}
 use Rattle.db_value.specs.declared.entry.Entry.{Entry}
 use Rattle.db_store.specs.State.{State}
 use Rattle.db_outside.specs.Count.{counted}
 use Rattle.db_outside.specs.declared.disk.Disk.{Ghosts}
+use Rattle.entry_codec.specs.declared.log.Log.{Ghosts as LogGhosts}
 use Rattle.entry_codec.specs.Logs.{Opening, gives, MayGive}
+use Rattle.store_tx.specs.Stored.{Has, GivesOwed}
 use Rattle.db_core.specs.Order.{World, opening}
 use Rattle.db_core.specs.Kept.{Logged, world_of, new_kept}
 use Rattle.generations.specs.declared.dataset.Dataset.{Dataset}
 use Rattle.generations.specs.declared.pair.Pair.{Pair}
-use Rattle.generations.specs.Datasets.{pair_in, generation_in, counted_in, place_in, KeepsIn, moment_in, OpensSinceIn, QuietIn}
+use Rattle.generations.specs.Datasets.{pair_in, generation_in, counted_in, place_in, KeepsIn, OwesIn, moment_in, OpensNowIn, OpensSinceIn, QuietIn}
 use Rattle.generations.specs.Files.{opened, counts, reads}
 use Rattle.generations.specs.Given.{opening_of}
 use Rattle.generations.specs.Pairs.{moments_of, AreAllOnDisk, RoseInOne, BothOnlyRead}
 use Rattle.generations.specs.Reopens.{StaysQuiet}
 use Rattle.script_run.specs.declared.run.RunStop.{RunStop}
 use Rattle.script_run.specs.declared.run.RunStop.TheVariants.{Fault, Memory as NoMemory}
-use Rattle.db_core.specs.Heard.{Marked, failures, world_after}
-use Rattle.db_core.specs.Acknowledged.{acknowledged, begun, GivesAny, GivesDuring, StoresAll}
+use Rattle.db_core.specs.Heard.{Marked, said, failures, world_after}
+use Rattle.db_core.specs.Marks.{NoneSaves}
+use Rattle.db_core.specs.Accounts.{Account, opened_account, account, GivesBy, GivesDuring, IsHeldBy, StoresAll}
 use Rattle.script_run.specs.Runs.{RunsAll, RunsCut, RunsWhole}
 use Rattle.script_run.proofs.OutputLemmas.{out_end}
-use Rattle.db_core.proofs.Storing.{stores_none, may_any}
+use Rattle.db_core.proofs.Storing.{stores_none, may_any, unfailed_law, one_opening_law}
 use Rattle.decibel_main.specs.Ends.{IsEndOf}
 use Rattle.decibel_main.specs.Images.{OpensNow, OpensSince, faults_in}
-use Rattle.decibel_main.specs.Scripts.{RunsLog, RunsOn, RunsScript}
+use Rattle.decibel_main.specs.Scripts.{GivesAs, RunsLog, RunsOn, RunsScript}
 use Rattle.decibel_main.specs.declared.status.Status.{Status}
 use Rattle.decibel_main.specs.declared.status.Status.TheVariants.{Done, Usage, NotDataset, Damaged, ReadFault, WriteFault, DiskFault, TooLong, Memory, AlreadyThere, BadLine}
-use Rattle.decibel_main.proofs.FileLemmas.{keeps_pairs, faults_are, one_rose}
+use Rattle.decibel_main.proofs.FileLemmas.{keeps_pairs, owes_pairs, faults_are, one_rose}
 
 counted_below : (n : ℕ) → n < 2 ^ 64 - 1 → counted n ≡ n
 counted_below n below = by (nat_lt n (2 ^ 64 - 1)) (search (arith, below))
@@ -47,9 +50,9 @@ pub ok_of : {T E P : Type 0} (r : Result T E) (x : T) → r ≡ Ok x → OnOk r 
 ok_of (Ok y) x is p = p
 ok_of (Err e) x is p = absurd (cc is)
 
-module _ {L : Type 0} (faults : L → ℕ) (Keeps : L → State → List Entry → Option (List ℕ) → Type 0) (generation : L → ℕ) (moment : L → ℕ × ℕ) (opens_since : L → ℕ × ℕ → Opening → Type 0) (Quiet : L → ℕ × ℕ → Type 0) where
+module _ {L S V P Q : Type 0} (j : LogGhosts L S V P Q) where
   abbrev Log : World → L → L → List (List ℕ) → Status → Option (List ℕ) → Option (List ℕ) → Type 0
-  Log w old new all status before written = RunsLog faults Keeps generation moment opens_since Quiet w old new all status before written
+  Log w old new all status before written = RunsLog j w old new all status before written
 
   -- nothing was run
   pub runs_none : (w : World) (log : L) (all : List (List ℕ)) (before : Option (List ℕ)) → Log w log log all Memory before before
@@ -57,32 +60,32 @@ module _ {L : Type 0} (faults : L → ℕ) (Keeps : L → State → List Entry �
     ran = [];
     rest = all;
     lines = refl;
-    stores = stores_none faults Keeps generation moment opens_since Quiet w log;
+    stores = stores_none j w log;
     answers = ([], inl refl, λ old h. h ∙ ap Some (sym (append-nil old) ∙ ap (λ t. old ++ t) (sym (out_end w))));
     unfailed = λ is. absurd (cc is);
   }
 
   module _ (k m : Logged L) (all : List (List ℕ)) (before written : Option (List ℕ)) where
     abbrev All : Type 0
-    All = RunsAll faults Keeps generation moment opens_since Quiet k m all before written
+    All = RunsAll j k m all before written
 
     abbrev Cut : Type 0
-    Cut = RunsCut faults Keeps generation moment opens_since Quiet k m all before written
+    Cut = RunsCut j k m all before written
 
     abbrev Whole : Type 0
-    Whole = RunsWhole faults Keeps generation moment opens_since Quiet k m all before written
+    Whole = RunsWhole j k m all before written
 
     abbrev Of : Status → Type 0
     Of status = Log (world_of k.kept) k.log m.log all status before written
 
-    of_done : All → counted (faults m.log) ≤ counted (faults k.log) → Of Done
+    of_done : All → counted (j.faults m.log) ≤ counted (j.faults k.log) → Of Done
     of_done a le = record {
       ran = a.ran;
       rest = [];
       lines = a.runs.lines;
       stores = a.runs.stores;
       answers = (refl, a.answers);
-      unfailed = λ is below. none_failed (failures a.ran) (faults k.log) (faults m.log) a.runs.stores.few a.runs.stores.later le below;
+      unfailed = λ is below. none_failed (failures a.ran) (j.faults k.log) (j.faults m.log) a.runs.stores.few a.runs.stores.later le below;
     }
 
     of_fault : All → Of DiskFault
@@ -95,7 +98,7 @@ module _ {L : Type 0} (faults : L → ℕ) (Keeps : L → State → List Entry �
     of_whole a = record { ran = a.ran; rest = a.rest; lines = a.runs.lines; stores = a.runs.stores; answers = (a.done, a.one_more, a.answers); unfailed = λ is. absurd (cc is) }
 
     module _ (ran : Result (Unit {0}) RunStop) (all_of : OnOk ran All) (cut_of : IsErrOf ran Fault → Cut) (whole_of : IsErrOf ran NoMemory → Whole) where
-      pub runs_by : (status : Status) → IsEndOf status ran (counted (faults k.log)) (counted (faults m.log)) → Of status
+      pub runs_by : (status : Status) → IsEndOf status ran (counted (j.faults k.log)) (counted (j.faults m.log)) → Of status
       runs_by Done end = of_done (ok_of ran tt end.0 all_of) end.1
       runs_by DiskFault end = of_fault (ok_of ran tt end.0 all_of)
       runs_by WriteFault end = of_cut (cut_of end)
@@ -110,15 +113,15 @@ module _ {L : Type 0} (faults : L → ℕ) (Keeps : L → State → List Entry �
 
   -- a run of a core on which nothing was run before
   pub run_told : (k m : Logged L) (s : State) (n : ℕ) (log log' : L) (all : List (List ℕ)) (before written : Option (List ℕ)) (ran : Result (Unit {0}) RunStop) (status : Status) (x y : ℕ)
-      → k.kept ≡ new_kept s n → k.log ≡ log → log' ≡ m.log → x ≡ counted (faults log) → y ≡ counted (faults log')
-      → OnOk ran (RunsAll faults Keeps generation moment opens_since Quiet k m all before written)
-      → (IsErrOf ran Fault → RunsCut faults Keeps generation moment opens_since Quiet k m all before written)
-      → (IsErrOf ran NoMemory → RunsWhole faults Keeps generation moment opens_since Quiet k m all before written)
+      → k.kept ≡ new_kept s n → k.log ≡ log → log' ≡ m.log → x ≡ counted (j.faults log) → y ≡ counted (j.faults log')
+      → OnOk ran (RunsAll j k m all before written)
+      → (IsErrOf ran Fault → RunsCut j k m all before written)
+      → (IsErrOf ran NoMemory → RunsWhole j k m all before written)
       → IsEndOf status ran x y → Log (opening s) log log' all status before written
   run_told k m s n log log' all before written ran status x y kept same after is_x is_y all_of cut_of whole_of end =
       subst (λ (p : World × L × L). Log p.0 p.1 p.2 all status before written) (λ i. (world_of (kept i), same i, sym after i))
       (runs_by k m all before written ran all_of cut_of whole_of status
-      (subst (λ (p : ℕ × ℕ). IsEndOf status ran p.0 p.1) (λ i. ((is_x ∙ ap (λ (l : L). counted (faults l)) (sym same)) i, (is_y ∙ ap (λ (l : L). counted (faults l)) after) i)) end))
+      (subst (λ (p : ℕ × ℕ). IsEndOf status ran p.0 p.1) (λ i. ((is_x ∙ ap (λ (l : L). counted (j.faults l)) (sym same)) i, (is_y ∙ ap (λ (l : L). counted (j.faults l)) after) i)) end))
 
 -- ---- on two files
 
@@ -126,40 +129,78 @@ module _ {D : Type 0} (g : Ghosts D) where
   abbrev pub faults_l : Dataset D g → ℕ
   faults_l l = g.faults l.file.disk + g.faults l.beside.disk
 
+  -- what a dataset in two files is as a log
+  abbrev pub log_of : {S V P Q : Type 0} → LogGhosts (Dataset D g) S V P Q
+  log_of = record {
+    faults = λ l. faults_l l;
+    Keeps = λ l s es f. KeepsIn l s es f;
+    Owes = λ l s es f. OwesIn l s es f;
+    generation = λ l. generation_in l;
+    moment = λ l. moment_in l;
+    opens_now = λ l o. OpensNowIn l o;
+    opens_since = λ l t o. OpensSinceIn l t o;
+    Quiet = λ l t. QuietIn l t;
+  }
+
+  -- what it has tells what its files open to
+  has_pairs : (S V P Q : Type 0) (owing : Bool) (l : Dataset D g) (s : State) (es : List Entry) (f : Option (List ℕ)) → Has (log_of {S = S} {V = V} {P = P} {Q = Q}) owing l s es f
+      → OpensNow g (pair_in l) (λ o. MayGive (generation_in l) s es f o ⊎ GivesOwed owing (generation_in l) s o)
+  has_pairs S V P Q false l s es f k = λ c d hc hd. inl (keeps_pairs g l s es f k c d hc hd)
+  has_pairs S V P Q true l s es f (inl k) = λ c d hc hd. inl (keeps_pairs g l s es f k c d hc hd)
+  has_pairs S V P Q true l s es f (inr owes) = owes_pairs g l s es f owes
+
   -- lines that were run, and what a log did for them
-  module _ (disks : Pair D) (a b : Dataset D g) (s : State) (es : List Entry) (only : BothOnlyRead g disks (pair_in a)) (kept : KeepsIn a s es None) (ran : List Marked)
-      (stores : StoresAll faults_l KeepsIn generation_in moment_in OpensSinceIn QuietIn (opening s) ran a b) where
+  module _ {S V P Q : Type 0} (disks : Pair D) (a b : Dataset D g) (s : State) (es : List Entry) (only : BothOnlyRead g disks (pair_in a)) (kept : KeepsIn a s es None) (ran : List Marked)
+      (stores : StoresAll (log_of {S = S} {V = V} {P = P} {Q = Q}) (opening s) ran a b) where
+    abbrev first : Account
+    first = opened_account (generation_in a) es
+
+    abbrev last : Account
+    last = account (opening s) first ran
+
+    abbrev after : State
+    after = (world_after (opening s) ran).state
+
+    held : IsHeldBy (log_of {S = S} {V = V} {P = P} {Q = Q}) a s first
+    held = record { generation = refl; pending = None; among = tt; has = kept }
+
     few : faults_in g (pair_in b) < 2 ^ 64 - 1 → failures ran + faults_in g disks ≤ faults_in g (pair_in b)
     few below =
         omega (arith, faults_are g a, faults_are g b, only.first.later, only.second.later, stores.few (omega (arith, below, faults_are g b)))
 
-    now : OpensNow g (pair_in b) (GivesAny (generation_in a) (world_after (opening s) ran).state (es ++ acknowledged (opening s) ran) (begun (opening s) [] ran))
+    now : OpensNow g (pair_in b) (GivesBy after last)
     now = λ c d hc hd.
-        let k = stores.kept es None kept in
-        may_any (generation_in a) (world_after (opening s) ran).state (es ++ acknowledged (opening s) ran) k.0 (begun (opening s) [] ran) (opening_of (reads c d)) k.1
-        (subst (λ (n : ℕ). MayGive n (world_after (opening s) ran).state (es ++ acknowledged (opening s) ran) k.0 (opening_of (reads c d))) stores.generation_stays
-        (keeps_pairs g b (world_after (opening s) ran).state (es ++ acknowledged (opening s) ran) k.0 k.2 c d hc hd))
+        let k = stores.held first held in
+        let o : Opening = opening_of (reads c d) in
+        let gives : MayGive last.generation after last.entries k.pending o ⊎ GivesOwed last.owing last.generation after o =
+        subst (λ (n : ℕ). MayGive n after last.entries k.pending o ⊎ GivesOwed last.owing n after o) k.generation (has_pairs S V P Q last.owing b after last.entries k.pending k.has c d hc hd) in
+        ⊎_elim (λ may. inl (may_any last.generation after last.entries k.pending last.batches o k.among may)) (λ owed. inr owed) gives
+
+    settled : failures ran ≡ 0 → OpensNow g (pair_in b) (GivesAs after last)
+    settled none = λ c d hc hd.
+        let clean = unfailed_law (opening s) first ran none refl refl in
+        one_opening_law after last (opening_of (reads c d)) clean.0 clean.1 (now c d hc hd)
 
     -- before the first line was run
-    at_first : (o : Opening) → o ≡ gives (generation_in a) s es → GivesDuring (generation_in a) (opening s) es None ran o
-    at_first o is = ([], ran, refl, inl (is ∙ ap (λ (l : List Entry). gives (generation_in a) s l) (sym (append-nil es))))
+    at_first : (o : Opening) → o ≡ gives (generation_in a) s es → GivesDuring (opening s) first ran o
+    at_first o is = ([], ran, refl, inl is)
 
-    any_moment : (c d : List ℕ) → reads c d ≡ counts (counted_in a) (generation_in a) (opened s es (place_in a)) → StaysQuiet (moments_of g disks) a c d
-        → OpensSince g (moments_of g disks) (pair_in b) (GivesDuring (generation_in a) (opening s) es None ran)
-    any_moment c d is quiet = λ x y hx hy.
+    any_moment : NoneSaves (opening s) (map said ran) → (c d : List ℕ) → reads c d ≡ counts (counted_in a) (generation_in a) (opened s es (place_in a)) → StaysQuiet (moments_of g disks) a c d
+        → OpensSince g (moments_of g disks) (pair_in b) (GivesDuring (opening s) first ran)
+    any_moment none c d is quiet = λ x y hx hy.
         let o = opening_of (reads x y) in
         ⊎_elim (λ was. at_first o (quiet.opens o was ∙ ap opening_of is)) (λ during. during)
-        ((stores.any_moment es None kept).adds (moments_of g disks) (only.first.any_moment.later, only.second.any_moment.later) quiet.quiet o (x, y, hx, hy, refl))
+        ((stores.any_moment none first refl held).adds (moments_of g disks) (only.first.any_moment.later, only.second.any_moment.later) quiet.quiet o (x, y, hx, hy, refl))
 
     pub runs_on : (c d : List ℕ) → reads c d ≡ counts (counted_in a) (generation_in a) (opened s es (place_in a)) → (AreAllOnDisk g disks → StaysQuiet (moments_of g disks) a c d) → RunsOn g disks (pair_in b) (generation_in a) s es ran
-    runs_on c d is quiet = record { few = few; now = now; any_moment = λ durable. any_moment c d is (quiet durable) }
+    runs_on c d is quiet = record { few = few; now = now; settled = settled; any_moment = λ none durable. any_moment none c d is (quiet durable) }
 
   -- a count that rose in the run
   pub rose : (disks : Pair D) (a b : Dataset D g) → BothOnlyRead g disks (pair_in a) → faults_l a < faults_l b → RoseInOne g disks (pair_in b)
   rose disks a b only less = one_rose g disks (pair_in b) (omega (arith, less, faults_are g a, faults_are g b, only.first.later, only.second.later))
 
-  pub runs_files : (disks : Pair D) (a b : Dataset D g) (s : State) (es : List Entry) (all : List (List ℕ)) (status : Status) (before written : Option (List ℕ)) → BothOnlyRead g disks (pair_in a) → KeepsIn a s es None
-      → RunsLog faults_l KeepsIn generation_in moment_in OpensSinceIn QuietIn (opening s) a b all status before written
+  pub runs_files : {S V P Q : Type 0} (disks : Pair D) (a b : Dataset D g) (s : State) (es : List Entry) (all : List (List ℕ)) (status : Status) (before written : Option (List ℕ)) → BothOnlyRead g disks (pair_in a) → KeepsIn a s es None
+      → RunsLog (log_of {S = S} {V = V} {P = P} {Q = Q}) (opening s) a b all status before written
       → (c d : List ℕ) → reads c d ≡ counts (counted_in a) (generation_in a) (opened s es (place_in a)) → (AreAllOnDisk g disks → StaysQuiet (moments_of g disks) a c d) → RunsScript g disks (pair_in b) all status before written c d
   runs_files disks a b s es all status before written only kept r c d is quiet = record {
     file = counted_in a;

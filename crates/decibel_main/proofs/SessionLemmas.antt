@@ -8,10 +8,10 @@ use Rattle.db_value.specs.declared.step.Step.{Step}
 use Rattle.db_value.specs.declared.entry.Entry.{Entry}
 use Rattle.db_outside.specs.Count.{counted}
 use Rattle.db_outside.specs.declared.disk.Disk.{Ghosts}
-use Rattle.entry_codec.specs.Logs.{Opening}
+use Rattle.entry_codec.specs.declared.log.Log.{Ghosts as LogGhosts}
 use Rattle.generations.specs.declared.dataset.Dataset.{Dataset}
 use Rattle.generations.specs.declared.pair.Pair.{Pair}
-use Rattle.generations.specs.Datasets.{pair_in, generation_in, counted_in, place_in, KeepsIn, moment_in, OpensSinceIn, QuietIn}
+use Rattle.generations.specs.Datasets.{pair_in, generation_in, counted_in, place_in, KeepsIn}
 use Rattle.generations.specs.Files.{opened, counts, reads}
 use Rattle.generations.specs.Pairs.{moments_of, AreAllOnDisk, BothOnlyRead}
 use Rattle.generations.specs.Reopens.{StaysQuiet}
@@ -28,7 +28,7 @@ use Rattle.script_run.specs.declared.run.RunStop.{RunStop}
 use Rattle.script_run.specs.declared.run.RunStop.TheVariants.{Fault, Memory as WantOfMemory}
 use Rattle.script_run.specs.Device.{Appends, AppendsFront, AppendsShort}
 use Rattle.db_core.specs.Heard.{Marked, marked_step, marked_steps, said, world_after, failures}
-use Rattle.db_core.specs.Acknowledged.{StoresAll}
+use Rattle.db_core.specs.Accounts.{StoresAll}
 use Rattle.db_core.specs.Kept.{Logged}
 use Rattle.db_core.specs.Runs.{StoresSteps}
 use Rattle.db_core.proofs.Storing.{stores_none}
@@ -45,7 +45,7 @@ use Rattle.decibel_main.specs.Output.{IsCut}
 use Rattle.decibel_main.specs.Sessions.{step_text, steps_text, AllNameRows, CutsSteps, RanSections, RanOnFiles}
 use Rattle.decibel_main.specs.declared.status.Status.{Status}
 use Rattle.decibel_main.specs.declared.status.Status.TheVariants.{Done, Usage, NotDataset, Damaged, ReadFault, WriteFault, DiskFault, TooLong, Memory, AlreadyThere, BadLine}
-use Rattle.decibel_main.proofs.ScriptLemmas.{ok_of, none_failed, faults_l, runs_on}
+use Rattle.decibel_main.proofs.ScriptLemmas.{ok_of, none_failed, log_of, runs_on}
 use Rattle.decibel_main.proofs.FileLemmas.{faults_are}
 
 -- ---- steps, written
@@ -179,9 +179,9 @@ all_begun o (s ∷ ss) steps all = (whole_begun o s steps all.0, all_begun o ss 
 
 -- ---- a run by how it ended
 
-module _ {L : Type 0} (faults : L → ℕ) (Keeps : L → State → List Entry → Option (List ℕ) → Type 0) (generation : L → ℕ) (moment : L → ℕ × ℕ) (opens_since : L → ℕ × ℕ → Opening → Type 0) (Quiet : L → ℕ × ℕ → Type 0) where
+module _ {L S V P Q : Type 0} (j : LogGhosts L S V P Q) where
   abbrev Ran : State → L → L → List Section → Status → Option (List ℕ) → Option (List ℕ) → Type 0
-  Ran o old new sections status before written = RanSections faults Keeps generation moment opens_since Quiet o old new sections status before written
+  Ran o old new sections status before written = RanSections j o old new sections status before written
 
   -- nothing was run
   pub none_ran : (o : State) (log : L) (sections : List Section) (before : Option (List ℕ)) → Ran o log log sections Memory before before
@@ -189,11 +189,11 @@ module _ {L : Type 0} (faults : L → ℕ) (Keeps : L → State → List Entry �
     steps = [];
     list = (NoMemory, (tt, none_begun o sections [] refl));
     answers = λ old at. ([], out (opening o) [], at ∙ ap Some (sym (append-nil old)), refl);
-    stores = stores_none faults Keeps generation moment opens_since Quiet (opening o) log;
+    stores = stores_none j (opening o) log;
     unfailed = λ is. absurd (cc is);
   }
 
-  module _ (sections : List Section) (k : Kept) (old new : L) (before written : Option (List ℕ)) (stands : Stands k) (stores : StoresAll faults Keeps generation moment opens_since Quiet (opening k.opening) (marked_steps k.steps) old new) where
+  module _ (sections : List Section) (k : Kept) (old new : L) (before written : Option (List ℕ)) (stands : Stands k) (stores : StoresAll j (opening k.opening) (marked_steps k.steps) old new) where
     -- want of memory while sections were run
     part_by : (why : Unfinished) → IsBeginning why k.opening sections k.steps → AppendsFront before written (steps_text k.steps) → Ran k.opening old new sections Memory before written
     part_by why begun front = record {
@@ -206,13 +206,13 @@ module _ {L : Type 0} (faults : L → ℕ) (Keeps : L → State → List Entry �
 
     module _ (put : Result (Unit {0}) RunStop) (whole : IsInterleaving k.opening sections k.steps)
         (all : OnOk put (Appends before written (steps_text k.steps))) (cut : IsErrOf put Fault → CutsSteps k.steps before written) (front : AppendsFront before written (steps_text k.steps)) where
-      ran_by : (status : Status) → IsEndOf status put (counted (faults old)) (counted (faults new)) → Ran k.opening old new sections status before written
+      ran_by : (status : Status) → IsEndOf status put (counted (j.faults old)) (counted (j.faults new)) → Ran k.opening old new sections status before written
       ran_by Done end = record {
         steps = k.steps;
         list = whole;
         answers = subst (Appends before written) (told_all k stands) (ok_of put tt end.0 all);
         stores = stores;
-        unfailed = λ is below. none_failed (failures (marked_steps k.steps)) (faults old) (faults new) stores.few stores.later end.1 below;
+        unfailed = λ is below. none_failed (failures (marked_steps k.steps)) (j.faults old) (j.faults new) stores.few stores.later end.1 below;
       }
       ran_by DiskFault end = record { steps = k.steps; list = whole; answers = subst (Appends before written) (told_all k stands) (ok_of put tt end.0 all); stores = stores; unfailed = λ is. absurd (cc is) }
       ran_by WriteFault end = record { steps = k.steps; list = whole; answers = cut_told k before written stands (cut end); stores = stores; unfailed = λ is. absurd (cc is) }
@@ -226,19 +226,19 @@ module _ {L : Type 0} (faults : L → ℕ) (Keeps : L → State → List Entry �
       ran_by (BadLine n) end = absurd end
 
   -- what the log did for the steps of a board whose log is handed back
-  stored_as : (o : State) (b : Logged L) (old new : L) → new ≡ b.log → StoresSteps faults Keeps generation moment opens_since Quiet old b
-      → StoresAll faults Keeps generation moment opens_since Quiet (opening b.kept.opening) (marked_steps b.kept.steps) old new
-  stored_as o b old new is stores = subst (λ (l : L). StoresAll faults Keeps generation moment opens_since Quiet (opening b.kept.opening) (marked_steps b.kept.steps) old l) (sym is) stores
+  stored_as : (o : State) (b : Logged L) (old new : L) → new ≡ b.log → StoresSteps j old b
+      → StoresAll j (opening b.kept.opening) (marked_steps b.kept.steps) old new
+  stored_as o b old new is stores = subst (λ (l : L). StoresAll j (opening b.kept.opening) (marked_steps b.kept.steps) old l) (sym is) stores
 
   pub part_ran : (o : State) (sections : List Section) (b : Logged L) (old new : L) (before written : Option (List ℕ)) (why : Unfinished) → b.kept.opening ≡ o → Stands b.kept → new ≡ b.log
-      → StoresSteps faults Keeps generation moment opens_since Quiet old b → IsBeginning why o sections b.kept.steps → AppendsFront before written (steps_text b.kept.steps) → Ran o old new sections Memory before written
+      → StoresSteps j old b → IsBeginning why o sections b.kept.steps → AppendsFront before written (steps_text b.kept.steps) → Ran o old new sections Memory before written
   part_ran o sections b old new before written why same stands is stores begun front =
       subst (λ (s : State). Ran s old new sections Memory before written) same
       (part_by sections b.kept old new before written stands (stored_as o b old new is stores) why (subst (λ (s : State). IsBeginning why s sections b.kept.steps) (sym same) begun) front)
 
   -- all sections were run to their ends
   pub all_ran : (o : State) (sections : List Section) (b : Logged L) (old new : L) (before written : Option (List ℕ)) (put : Result (Unit {0}) RunStop) (status : Status) (x y : ℕ) → b.kept.opening ≡ o → Stands b.kept → new ≡ b.log
-      → StoresSteps faults Keeps generation moment opens_since Quiet old b → x ≡ counted (faults old) → y ≡ counted (faults new) → IsInterleaving o sections b.kept.steps
+      → StoresSteps j old b → x ≡ counted (j.faults old) → y ≡ counted (j.faults new) → IsInterleaving o sections b.kept.steps
       → OnOk put (Appends before written (steps_text b.kept.steps)) → (IsErrOf put Fault → CutsSteps b.kept.steps before written) → AppendsFront before written (steps_text b.kept.steps) → IsEndOf status put x y
       → Ran o old new sections status before written
   all_ran o sections b old new before written put status x y same stands is stores is_x is_y whole all cut front end =
@@ -249,8 +249,8 @@ module _ {L : Type 0} (faults : L → ℕ) (Keeps : L → State → List Entry �
 -- ---- on two files
 
 module _ {D : Type 0} (g : Ghosts D) where
-  pub ran_files : (disks : Pair D) (a b : Dataset D g) (s : State) (es : List Entry) (sections : List Section) (status : Status) (before written : Option (List ℕ)) → BothOnlyRead g disks (pair_in a) → KeepsIn a s es None
-      → RanSections (faults_l g) KeepsIn generation_in moment_in OpensSinceIn QuietIn s a b sections status before written
+  pub ran_files : {S V P Q : Type 0} (disks : Pair D) (a b : Dataset D g) (s : State) (es : List Entry) (sections : List Section) (status : Status) (before written : Option (List ℕ)) → BothOnlyRead g disks (pair_in a) → KeepsIn a s es None
+      → RanSections (log_of g {S = S} {V = V} {P = P} {Q = Q}) s a b sections status before written
       → (c d : List ℕ) → reads c d ≡ counts (counted_in a) (generation_in a) (opened s es (place_in a)) → (AreAllOnDisk g disks → StaysQuiet (moments_of g disks) a c d) → RanOnFiles g disks (pair_in b) sections status before written c d
   ran_files disks a b s es sections status before written only kept r c d is quiet = record {
     file = counted_in a;

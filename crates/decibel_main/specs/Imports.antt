@@ -1,11 +1,11 @@
 -- What `import` does.
-use Rattle.std.specs.Prelude.{◌≡◌, ◌⊎◌, ℕ, codes, cond, Bool, true, false, List, [], ◌∷◌, ◌++◌, Option, Some, None, Result, Ok, Err}
+use Rattle.std.specs.Prelude.{map, ◌≡◌, ◌⊎◌, ℕ, codes, cond, Bool, true, false, List, [], ◌∷◌, ◌++◌, Option, Some, None, Result, Ok, Err}
 use Rattle.std.specs.Fmt.{decimal}
 use Rattle.std.specs.Result.{is_ok}
 use Rattle.db_value.specs.declared.entry.Entry.{Entry}
 use Rattle.db_store.specs.State.{State}
 use Rattle.db_outside.specs.declared.disk.Disk.{Ghosts}
-use Rattle.entry_codec.specs.Logs.{Opening}
+use Rattle.entry_codec.specs.declared.log.Log.{Ghosts as LogGhosts}
 use Rattle.csv_port.specs.declared.imports.Imported.{Imported}
 use Rattle.csv_port.specs.declared.stop.ImportStop.{ImportStop}
 use Rattle.csv_port.specs.declared.stop.ImportStop.TheVariants.{BadRow, NoRelation, KeyThere, Full, DiskFault as LogFailed, Memory as NoMemory}
@@ -13,9 +13,11 @@ use Rattle.csv_port.specs.Import.{import_told, lines_told}
 use Rattle.db_core.specs.Order.{opening}
 use Rattle.generations.specs.declared.pair.Pair.{Pair}
 use Rattle.generations.specs.Files.{opened, counts, reads}
-use Rattle.db_core.specs.Acknowledged.{StoresAll}
+use Rattle.generations.specs.Pairs.{moments_of, AreAllOnDisk}
+use Rattle.db_core.specs.Accounts.{opened_account, GivesDuring, StoresAll, NoneCheckpoints}
 use Rattle.script_run.specs.Device.{Appends, AppendsShort}
-use Rattle.db_core.specs.Heard.{Marked, failures, lines_of}
+use Rattle.db_core.specs.Heard.{Marked, said, failures, lines_of}
+use Rattle.decibel_main.specs.Images.{OpensSince}
 use Rattle.decibel_main.specs.Scripts.{RunsOn, Stops}
 use Rattle.decibel_main.specs.declared.status.Status.{Status}
 use Rattle.decibel_main.specs.declared.status.Status.TheVariants.{Done, NotDataset, Damaged, WriteFault, DiskFault, Memory, BadLine}
@@ -73,18 +75,17 @@ EndsImport DiskFault told ran rest before after = (is_ok told ≡ true) × (afte
 EndsImport Memory told ran rest before after = after ≡ before
 EndsImport _ told ran rest before after = ⊥
 
--- Of the lines of an import into a state the first ones were run, with their marks, and a log did for them what a log does. If a row was refused, the log was not called.
-pub record ImportsLog
-    {L : Type 0} (faults : L → ℕ) (Keeps : L → State → List Entry → Option (List ℕ) → Type 0) (generation : L → ℕ) (moment : L → ℕ × ℕ) (opens_since : L → ℕ × ℕ → Opening → Type 0) (Quiet : L → ℕ × ℕ → Type 0)
-    (s : State) (old new : L) (relation input : List ℕ) (status : Status) (before after : Option (List ℕ)) : Type 0 where
+-- Of the lines of an import into a state the first ones were run, with their marks, and a log did for them what a log does. None is a checkpoint. If a row was refused, the log was not called.
+pub record ImportsLog {L S V P Q : Type 0} (j : LogGhosts L S V P Q) (s : State) (old new : L) (relation input : List ℕ) (status : Status) (before after : Option (List ℕ)) : Type 0 where
   pub ran : List Marked
   pub rest : List (List ℕ)
   pub lines : lines_told s relation input ≡ lines_of ran ++ rest
-  pub stores : StoresAll faults Keeps generation moment opens_since Quiet (opening s) ran old new
+  pub stores : StoresAll j (opening s) ran old new
   pub ends : EndsImport status (import_told s relation input) ran rest before after
+  pub others : NoneCheckpoints (map said ran)
   pub spared : (n : ℕ) → status ≡ BadLine n → new ≡ old
 
--- two files were opened, and of the lines of an import into their state the first ones were run
+-- Two files were opened, and of the lines of an import into their state the first ones were run. None asks for an image, so what a crash at any moment leaves is told of all of them.
 pub record RunsImport {D : Type 0} (g : Ghosts D) (old new : Pair D) (relation input : List ℕ) (status : Status) (before after : Option (List ℕ)) (c d : List ℕ) : Type 0 where
   pub file : ℕ
   pub generation : ℕ
@@ -96,6 +97,7 @@ pub record RunsImport {D : Type 0} (g : Ghosts D) (old new : Pair D) (relation i
   pub rest : List (List ℕ)
   pub lines : lines_told state relation input ≡ lines_of ran ++ rest
   pub runs : RunsOn g old new generation state entries ran
+  pub any_moment : AreAllOnDisk g old → OpensSince g (moments_of g old) new (GivesDuring (opening state) (opened_account generation entries) ran)
   pub ends : EndsImport status (import_told state relation input) ran rest before after
 
 -- Two files were opened and rows were imported into their state, or they weren't opened.

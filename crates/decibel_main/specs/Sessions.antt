@@ -6,10 +6,10 @@ use Rattle.db_store.specs.State.{State}
 use Rattle.db_outside.specs.declared.disk.Disk.{Ghosts}
 use Rattle.stmt_text.specs.declared.sections.Section.{Section}
 use Rattle.reply_text.specs.Reply.{NamesItsRows, echo_text, reply_text}
-use Rattle.entry_codec.specs.Logs.{Opening}
+use Rattle.entry_codec.specs.declared.log.Log.{Ghosts as LogGhosts}
 use Rattle.db_core.specs.Order.{World, opening}
 use Rattle.db_core.specs.Heard.{Marked, marked_steps, failures}
-use Rattle.db_core.specs.Acknowledged.{StoresAll}
+use Rattle.db_core.specs.Accounts.{StoresAll}
 use Rattle.generations.specs.declared.pair.Pair.{Pair}
 use Rattle.generations.specs.Files.{opened, counts, reads}
 use Rattle.script_run.specs.Device.{Appends, AppendsFront, AppendsShort}
@@ -65,14 +65,12 @@ Tells Memory w all before written = AppendsFront before written (out w all)
 Tells _ w all before written = ⊥
 
 -- Sections were run on a state, each line with the reply of its whole transaction, and a log did for the lines of the list, one after another, what a log does.
-pub record RanSections
-    {L : Type 0} (faults : L → ℕ) (Keeps : L → State → List Entry → Option (List ℕ) → Type 0) (generation : L → ℕ) (moment : L → ℕ × ℕ) (opens_since : L → ℕ × ℕ → Opening → Type 0) (Quiet : L → ℕ × ℕ → Type 0)
-    (o : State) (old new : L) (sections : List Section) (status : Status) (before written : Option (List ℕ)) : Type 0 where
+pub record RanSections {L S V P Q : Type 0} (j : LogGhosts L S V P Q) (o : State) (old new : L) (sections : List Section) (status : Status) (before written : Option (List ℕ)) : Type 0 where
   pub steps : List Step
   pub list : Leaves status o sections steps
   pub answers : Tells status (opening o) (marked_steps steps) before written
-  pub stores : StoresAll faults Keeps generation moment opens_since Quiet (opening o) (marked_steps steps) old new
-  pub unfailed : status ≡ Done → faults new < 2 ^ 64 - 1 → failures (marked_steps steps) ≡ 0
+  pub stores : StoresAll j (opening o) (marked_steps steps) old new
+  pub unfailed : status ≡ Done → j.faults new < 2 ^ 64 - 1 → failures (marked_steps steps) ≡ 0
 
 -- Two files were opened, and the sections were run on their state. A crash then leaves what it leaves of these lines on one thread.
 pub record RanOnFiles {D : Type 0} (g : Ghosts D) (old new : Pair D) (sections : List Section) (status : Status) (before written : Option (List ℕ)) (c d : List ℕ) : Type 0 where

@@ -106,9 +106,8 @@ fn import_on<St: Store, J: Log<St>, K: Sink>(
     log: J,
 ) -> (Status, J)
     requires named { is_name relation.now ≡ true }
-    ensures imports { ImportsLog J.faults J.Keeps J.generation J.moment J.opens_since J.Quiet
-        (St.state store) log result.1 relation.now input.now result.0
-        (K.written sink.old) (K.written sink.new) }
+    ensures imports { ImportsLog J.Log (St.state store) log result.1
+        relation.now input.now result.0 (K.written sink.old) (K.written sink.new) }
     ensures disk { result.0 ≡ Status.DiskFault → J.faults log < J.faults result.1 }
     ensures write { result.0 ≡ Status.WriteFault → Faulted K.faults sink.old sink.new }
     ensures quiet { IsUntouched result.0 → sink.new ≡ sink.old }

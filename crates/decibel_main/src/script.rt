@@ -54,8 +54,8 @@ fn run_on<St: Store, J: Log<St>, K: Sink>(
     store: St,
     log: J,
 ) -> (Status, J)
-    ensures runs { RunsLog J.faults J.Keeps J.generation J.moment J.opens_since J.Quiet
-        (opening (St.state store)) log result.1 (lines_run (lines script.now)) result.0
+    ensures runs { RunsLog J.Log (opening (St.state store)) log result.1
+        (lines_run (lines script.now)) result.0
         (K.written sink.old) (K.written sink.new) }
     ensures ends { IsRanStatus result.0 }
     ensures disk { result.0 ≡ Status.DiskFault → J.faults log < J.faults result.1 }

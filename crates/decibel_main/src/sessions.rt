@@ -1,78 +1,27 @@
 //! The command `sessions`: the sections of an input, each on a thread of its own, on a dataset in two
 //! files.
-ghost use Rattle.std.specs.Prelude.{◌≡◌, ◌<◌, [], IfOk, IfErr, OnOk, IsErrOf};
+ghost use Rattle.std.specs.Prelude.{◌≡◌, ◌<◌, IfOk, IfErr};
 ghost use Rattle.db_outside.specs.Count.{counted};
 ghost use Rattle.db_outside.specs.Device.{Faulted};
 ghost use Rattle.generations.specs.Pairs.{IfTold, RoseInOne, BothOnlyRead};
-ghost use Rattle.reply_text.specs.Reply.{NamesItsRows};
-ghost use Rattle.script_run.specs.Device.{Appends, AppendsFront, AppendsShort, CountsIf};
 ghost use Rattle.session_run.specs.Runs.{IsNew};
 ghost use Rattle.stmt_text.specs.Sections.{sections_in};
-ghost use Rattle.decibel_main.specs.Sessions.{step_text, steps_text, AllNameRows, CutsSteps, RanSections, RunsSections};
+ghost use Rattle.decibel_main.specs.Sessions.{RanSections, RunsSections};
 ghost use Rattle.decibel_main.specs.Ends.{IsOpenStatus, IsRanStatus, IsUntouched};
 
 use crate::script::{ended, status_of};
+use crate::spelling::put_steps;
 use crate::status::{Finish, Status};
 use db_core::Board;
 use db_outside::{Disk, Gate, Sink};
 use db_store::Store;
-use db_value::{Schema, Step};
 use entry_codec::Log;
 use generations::{Pair, reopen};
-use reply_text::write_reply;
-use script_run::{RunStop, put_all};
 use session_run::run_sessions;
 use std::alloc::Global;
 use std::sync::Wait;
 use std::thread::Threads;
 use stmt_text::{Sections, sections_of};
-
-// Writes the echo of a step's line, and its reply.
-fn put_step<K: Sink>(
-    alloc: Global,
-    schema: &Schema,
-    step: &Step,
-    sink: &mut K,
-) -> Result<(), RunStop>
-    requires { NamesItsRows step.now.reply }
-    ensures all { OnOk result
-        (Appends (K.written sink.old) (K.written sink.new) (step_text step.now)) }
-    ensures cut { IsErrOf result RunStop.Fault →
-        AppendsShort (K.written sink.old) (K.written sink.new) [] (step_text step.now) }
-    ensures memory { IsErrOf result RunStop.Memory → sink.new ≡ sink.old }
-    ensures faults { CountsIf (IsErrOf result RunStop.Fault) K.faults sink.old sink.new }
-{
-    let bytes = write_reply(alloc, schema, &step.line, &step.reply)?;
-    match put_all(sink, bytes.as_slice()) {
-        Ok(()) => Ok(()),
-        Err(_) => Err(RunStop::Fault),
-    }
-}
-
-// Writes the steps, in order. A fault breaks off in the answer to a line, and want of memory comes
-// between the answers to two.
-fn put_steps<K: Sink>(
-    alloc: Global,
-    schema: &Schema,
-    steps: &[Step],
-    sink: &mut K,
-) -> Result<(), RunStop>
-    requires { AllNameRows steps.now }
-    ensures all { OnOk result
-        (Appends (K.written sink.old) (K.written sink.new) (steps_text steps.now)) }
-    ensures cut { IsErrOf result RunStop.Fault →
-        CutsSteps steps.now (K.written sink.old) (K.written sink.new) }
-    ensures front { AppendsFront (K.written sink.old) (K.written sink.new) (steps_text steps.now) }
-    ensures faults { CountsIf (IsErrOf result RunStop.Fault) K.faults sink.old sink.new }
-{
-    for step in steps {
-        match put_step(alloc, schema, step, sink) {
-            Ok(()) => {}
-            Err(stop) => return Err(stop),
-        }
-    }
-    Ok(())
-}
 
 // Runs sections on a board on which nothing was run, and then writes the list that they leave. After
 // want of memory what was run is written, as far as it can be.
@@ -97,22 +46,21 @@ where
     St::PreparedBranch: Send + Sync,
     requires fresh { IsNew board.kept }
     requires count { before ≡ counted (J.faults board.log) }
-    ensures runs { RanSections J.faults J.Keeps J.generation J.moment J.opens_since J.Quiet
-        board.kept.opening board.log result.1 sections.now result.0
-        (K.written sink.old) (K.written sink.new) }
+    ensures runs { RanSections J.Log board.kept.opening board.log result.1
+        sections.now result.0 (K.written sink.old) (K.written sink.new) }
     ensures ends { IsRanStatus result.0 }
     ensures disk { result.0 ≡ Status.DiskFault → before < counted (J.faults result.1) }
     ensures write { result.0 ≡ Status.WriteFault → Faulted K.faults sink.old sink.new }
 {
     match run_sessions(rt, alloc, sections, board, gate) {
         Ok(board) => {
-            let put = put_steps(alloc, board.schema(), board.steps(), sink);
+            let put = put_steps(rt, alloc, board.steps(), sink);
             let (_, log) = board.into_parts();
             let status = ended(put, before, log.fault_count());
             (status, log)
         }
         Err((_, board)) => {
-            let _ = put_steps(alloc, board.schema(), board.steps(), sink);
+            let _ = put_steps(rt, alloc, board.steps(), sink);
             let (_, log) = board.into_parts();
             (Status::Memory, log)
         }
@@ -144,9 +92,8 @@ where
     St::View: Send + Sync,
     St::Prepared: Send + Sync,
     St::PreparedBranch: Send + Sync,
-    ensures runs { RanSections J.faults J.Keeps J.generation J.moment J.opens_since J.Quiet
-        (St.state store) log result.1 (sections_in input.now) result.0
-        (K.written sink.old) (K.written sink.new) }
+    ensures runs { RanSections J.Log (St.state store) log result.1
+        (sections_in input.now) result.0 (K.written sink.old) (K.written sink.new) }
     ensures ends { IsRanStatus result.0 }
     ensures disk { result.0 ≡ Status.DiskFault → J.faults log < J.faults result.1 }
     ensures write { result.0 ≡ Status.WriteFault → Faulted K.faults sink.old sink.new }

@@ -62,21 +62,21 @@ pub record Found (c : List ℕ) (g : ℕ) (t : State) (es : List Entry) (p : ℕ
   pub place : p ≡ length front
   pub ends : Ends front c
 
-same_opened : (s t : State) (es fs : List Entry) (p q : ℕ) → opened s es p ≡ opened t fs q → (s ≡ t) × (es ≡ fs) × (p ≡ q)
+pub same_opened : (s t : State) (es fs : List Entry) (p q : ℕ) → opened s es p ≡ opened t fs q → (s ≡ t) × (es ≡ fs) × (p ≡ q)
 same_opened s t es fs p q is = (cc is, cc is, cc is)
 
 -- the state, the entries and the place at an outcome that is behind others
-split_behind : (es : List Entry) (o : Outcome) (t : State) (more : List Entry) (p : ℕ) → behind es o ≡ opened t more p → (m : List Entry) × (o ≡ opened t m p) × (more ≡ es ++ m)
+pub split_behind : (es : List Entry) (o : Outcome) (t : State) (more : List Entry) (p : ℕ) → behind es o ≡ opened t more p → (m : List Entry) × (o ≡ opened t m p) × (more ≡ es ++ m)
 split_behind es (damaged at cause) t more p is = absurd (cc is)
 split_behind es (opened s m q) t more p is =
     let parts = same_opened s t (es ++ m) more q p is in
     (m, ap (λ (x : State). opened x m q) parts.0 ∙ ap (λ (k : ℕ). opened t m k) parts.2, sym parts.1)
 
-by_entries_some : (at : ℕ) (o : Option (List Entry)) (go : List Entry → Outcome) (t : State) (more : List Entry) (p : ℕ) → by_entries at o go ≡ opened t more p → (es : List Entry) × (o ≡ Some es) × (go es ≡ opened t more p)
+pub by_entries_some : (at : ℕ) (o : Option (List Entry)) (go : List Entry → Outcome) (t : State) (more : List Entry) (p : ℕ) → by_entries at o go ≡ opened t more p → (es : List Entry) × (o ≡ Some es) × (go es ≡ opened t more p)
 by_entries_some at None go t more p is = absurd (cc is)
 by_entries_some at (Some es) go t more p is = (es, refl, is)
 
-by_state_some : (at : ℕ) (o : Option State) (go : State → Outcome) (t : State) (more : List Entry) (p : ℕ) → by_state at o go ≡ opened t more p → (u : State) × (o ≡ Some u) × (go u ≡ opened t more p)
+pub by_state_some : (at : ℕ) (o : Option State) (go : State → Outcome) (t : State) (more : List Entry) (p : ℕ) → by_state at o go ≡ opened t more p → (u : State) × (o ≡ Some u) × (go u ≡ opened t more p)
 by_state_some at None go t more p is = absurd (cc is)
 by_state_some at (Some u) go t more p is = (u, refl, is)
 
@@ -158,13 +158,13 @@ le_there a b is = search (arith, is)
 window : (i k : ℕ) (front rest : List ℕ) → i + k ≤ length front → take k (drop i (front ++ rest)) ≡ take k (drop i front)
 window i k front rest le = ap (λ (l : List ℕ). take k l) (drop-append-le i front rest (omega (arith, le))) ∙ take-append-le k (drop i front) rest (omega (arith, le, length-drop i front))
 
-header_some : (p q r : Bool) (o : Outcome) (t : State) (es : List Entry) (at : ℕ) → by_header p q r o ≡ opened t es at → (p ≡ true) × (q ≡ true) × (r ≡ true) × (o ≡ opened t es at)
+pub header_some : (p q r : Bool) (o : Outcome) (t : State) (es : List Entry) (at : ℕ) → by_header p q r o ≡ opened t es at → (p ≡ true) × (q ≡ true) × (r ≡ true) × (o ≡ opened t es at)
 header_some true true true o t es at is = (refl, refl, refl, is)
 header_some true true false o t es at is = absurd (cc is)
 header_some true false r o t es at is = absurd (cc is)
 header_some false q r o t es at is = absurd (cc is)
 
-image_some : (size : ℕ) (x : Result Image ℕ) (go : Image → Outcome) (t : State) (es : List Entry) (at : ℕ) → by_image size x go ≡ opened t es at → (i : Image) × (x ≡ Ok i) × (go i ≡ opened t es at)
+pub image_some : (size : ℕ) (x : Result Image ℕ) (go : Image → Outcome) (t : State) (es : List Entry) (at : ℕ) → by_image size x go ≡ opened t es at → (i : Image) × (x ≡ Ok i) × (go i ≡ opened t es at)
 image_some size (Err left) go t es at is = absurd (cc is)
 image_some size (Ok i) go t es at is = (i, refl, is)
 

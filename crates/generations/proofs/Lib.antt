@@ -4,7 +4,9 @@ pub mod Besides
 pub mod Both
 pub mod Creating
 pub mod Entries
+pub mod Imaging
 pub mod Looking
+pub mod Named
 pub mod NewLaid
 pub mod NewRead
 pub mod Opening

@@ -6,8 +6,9 @@ use crate::beside::Beside;
 use crate::file::File;
 use crate::pair::Pair;
 use crate::store::DatasetStore;
+use db_image::encode;
 use db_outside::{Batch, Disk, Failed};
-use entry_codec::Log;
+use entry_codec::{CheckpointStop, Log};
 use std::alloc::Global;
 
 /// A dataset in two files, of which one counts.
@@ -111,6 +112,13 @@ impl<D: Disk + Drop> Log<DatasetStore> for Dataset<D> {
         self.beside.close_owed()?;
         self.file.append(batch)?;
         Ok(())
+    }
+
+    fn checkpoint(&mut self, store: &DatasetStore) -> Result<(), CheckpointStop> {
+        match encode(self.alloc, store) {
+            Err(_) => Err(CheckpointStop::Memory),
+            Ok(image) => self.checkpoint_bytes(image.as_slice()),
+        }
     }
 
     fn fault_count(&self) -> u64 {

@@ -122,6 +122,19 @@ pub fn image_after_one(alloc: Global) -> Option<Vec<u8>> {
     Some(bytes)
 }
 
+/// The store of that dataset after the entries of bodies.
+pub fn stored(alloc: Global, bodies: &[&[u8]]) -> Option<DatasetStore> {
+    let file = file_of(alloc, 1, &IMAGE, bodies)?;
+    let disks = Pair {
+        first: MemDisk::of(alloc, &file, &[], 1000, 1000).ok()?,
+        second: MemDisk::of(alloc, b"", &[], 1000, 1000).ok()?,
+    };
+    match reopen(alloc, disks) {
+        Ok((_, store)) => Some(store),
+        Err(_) => None,
+    }
+}
+
 /// Why no dataset is made on disks with these bytes, and the disks. `None` is a dataset, or want of
 /// memory.
 pub fn not_created(

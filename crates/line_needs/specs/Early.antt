@@ -7,9 +7,9 @@ use Rattle.db_value.specs.Pred.{first_unknown}
 use Rattle.db_value.specs.declared.condition.Set.{Set}
 use Rattle.db_value.specs.declared.condition.Term.{Term}
 use Rattle.db_value.specs.declared.reply.Refusal.{Refusal}
-use Rattle.db_value.specs.declared.reply.Refusal.TheVariants.{Line, NoRelation, NoColumn, InTransaction, NoTransaction, NotFirst, ValueCount}
+use Rattle.db_value.specs.declared.reply.Refusal.TheVariants.{NoRelation, NoColumn, InTransaction, NoTransaction, NotFirst, ValueCount}
 use Rattle.stmt_text.specs.declared.stmt.Stmt.{Stmt}
-use Rattle.stmt_text.specs.declared.stmt.Stmt.TheVariants.{Begin, Commit, Abort, On, LogOf, Graph, Segments, Branch, Merge, Insert, Update, Delete, Get, Scan, Join, Minus}
+use Rattle.stmt_text.specs.declared.stmt.Stmt.TheVariants.{Begin, Commit, Abort, On, LogOf, Graph, Segments, Checkpoint, Branch, Merge, Insert, Update, Delete, Get, Scan, Join, Minus}
 use Rattle.stmt_text.specs.declared.stmt.NamedSet.{NamedSet}
 use Rattle.line_needs.specs.Columns.{relation_named, resolved}
 
@@ -64,7 +64,7 @@ abbrev pub first_refusal : Bool → Option Refusal
 first_refusal true = Some NotFirst
 first_refusal false = None
 
--- Why a line is refused by the schema, or by whether a transaction is open and has changed something. A form that isn't built yet is a bad line.
+-- why a line is refused by the schema, or by whether a transaction is open and has changed something
 abbrev pub early_refusal : List Relation → Bool → Bool → Stmt → Option Refusal
 early_refusal schema begun changed (Begin room) = outside_refusal begun
 early_refusal schema begun changed Commit = inside_refusal begun
@@ -73,6 +73,7 @@ early_refusal schema begun changed (On name) = outside_refusal begun
 early_refusal schema begun changed (LogOf name) = None
 early_refusal schema begun changed Graph = None
 early_refusal schema begun changed Segments = None
+early_refusal schema begun changed Checkpoint = outside_refusal begun
 early_refusal schema begun changed (Branch name origin) = outside_refusal begun
 early_refusal schema begun changed (Merge name prefer) = first_refusal changed
 early_refusal schema begun changed (Insert name key fields) = count_refusal schema name fields (relation_named schema name)
@@ -82,7 +83,6 @@ early_refusal schema begun changed (Get name key at) = relation_refusal name (re
 early_refusal schema begun changed (Scan name over terms) = ask_refusal schema name terms (relation_named schema name)
 early_refusal schema begun changed (Join left right v w terms) = join_refusal schema left right terms (relation_named schema left) (relation_named schema right)
 early_refusal schema begun changed (Minus name v w) = relation_refusal name (relation_named schema name)
-early_refusal schema begun changed _ = Some Line
 
 -- the line is refused by what is known without a lock
 abbrev pub is_early : List Relation → Bool → Bool → Stmt → Bool

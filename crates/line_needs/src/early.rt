@@ -162,6 +162,7 @@ pub fn early_refusal(schema: &Schema, begun: bool, changed: bool, stmt: &Stmt) -
         Stmt::LogOf { .. } => None,
         Stmt::Graph => None,
         Stmt::Segments => None,
+        Stmt::Checkpoint => outside_refusal(begun),
         Stmt::Branch { .. } => outside_refusal(begun),
         Stmt::Merge { .. } => first_refusal(changed),
         Stmt::Insert {
@@ -184,7 +185,6 @@ pub fn early_refusal(schema: &Schema, begun: bool, changed: bool, stmt: &Stmt) -
             ..
         } => join_refusal(schema, left, right, terms.as_slice()),
         Stmt::Minus { relation, .. } => relation_refusal(schema, relation),
-        _ => Some(Refusal::Line),
     }
 }
 

@@ -70,6 +70,10 @@ impl Lock {
     pub fn release(&mut self, session: u32)
         ensures { self.new ≡ without_grants session self.old }
     {
+        // Most locks have no grants.
+        if self.grants.is_empty() {
+            return;
+        }
         let mut kept = 0;
         for i in 0..self.grants.len() {
             if self.grants[i].session != session {

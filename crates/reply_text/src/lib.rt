@@ -1,7 +1,7 @@
 //! The text that answers a line: its echo, and the lines of its reply.
 //!
-//! The layer above relies on one statement, the clause of `write_reply`: the bytes are those that
-//! `specs/Reply.antt` gives for the line and the reply.
+//! The layer above relies on one statement, the clause of `write_reply` and of `add_reply`: the bytes
+//! are those that `specs/Reply.antt` gives for the line and the reply.
 //!
 //! | file | has |
 //! |---|---|
@@ -18,4 +18,5 @@ mod report;
 mod rows;
 mod writer;
 
-pub use reply::{ReplyBytes, write_reply};
+pub use reply::{ReplyBytes, add_reply, write_reply};
+pub use writer::Writer;

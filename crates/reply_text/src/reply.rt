@@ -64,6 +64,15 @@ fn write_answer(out: &mut Writer, reply: &Reply) -> Result<(), AllocError>
     }
 }
 
+/// Adds the bytes that answer a line: its echo, and its reply.
+pub fn add_reply(out: &mut Writer, line: &LineText, reply: &Reply) -> Result<(), AllocError>
+    requires { NamesItsRows reply.now }
+    ensures { OnOk result (out.new ≡ out.old ++ (echo_text line.now ++ reply_text reply.now)) }
+{
+    write_echo(out, line.as_slice())?;
+    write_answer(out, reply)
+}
+
 /// The echo of a line, and its reply.
 ///
 /// The schema is that of the dataset which gave the reply. No text depends on it: a reply names its
@@ -78,7 +87,6 @@ pub fn write_reply(
     ensures { IfOk result (λ bytes. bytes ≡ echo_text line.now ++ reply_text reply.now) }
 {
     let mut out = Writer::new(alloc);
-    write_echo(&mut out, line.as_slice())?;
-    write_answer(&mut out, reply)?;
+    add_reply(&mut out, line, reply)?;
     Ok(ListOf::of(out.into_bytes()))
 }

@@ -1,8 +1,6 @@
 -- How a run of lines ends.
 use Rattle.std.specs.Prelude.{◌≡◌, ◌⊎◌, ℕ, List, [], ◌∷◌, ◌++◌, Option}
-use Rattle.db_value.specs.declared.entry.Entry.{Entry}
-use Rattle.db_store.specs.State.{State}
-use Rattle.entry_codec.specs.Logs.{Opening}
+use Rattle.entry_codec.specs.declared.log.Log.{Ghosts}
 use Rattle.db_core.specs.Kept.{Logged, world_of}
 use Rattle.db_core.specs.Heard.{Marked, world_after}
 use Rattle.db_core.specs.Runs.{Runs}
@@ -10,21 +8,17 @@ use Rattle.script_run.specs.Device.{Appends, AppendsShort}
 use Rattle.script_run.specs.Output.{answer_of, out}
 
 -- all lines were run, and answered whole
-pub record RunsAll
-    {L : Type 0} (faults : L → ℕ) (Keeps : L → State → List Entry → Option (List ℕ) → Type 0) (generation : L → ℕ) (moment : L → ℕ × ℕ) (opens_since : L → ℕ × ℕ → Opening → Type 0) (Quiet : L → ℕ × ℕ → Type 0)
-    (old new : Logged L) (all : List (List ℕ)) (before written : Option (List ℕ)) : Type 0 where
+pub record RunsAll {L S V P Q : Type 0} (g : Ghosts L S V P Q) (old new : Logged L) (all : List (List ℕ)) (before written : Option (List ℕ)) : Type 0 where
   pub ran : List Marked
-  pub runs : Runs faults Keeps generation moment opens_since Quiet old new all ran []
+  pub runs : Runs g old new all ran []
   pub answers : Appends before written (out (world_of old.kept) ran)
 
 -- some were run, all but the last of these were answered whole, and of the answer to the last a part is missing
-pub record RunsCut
-    {L : Type 0} (faults : L → ℕ) (Keeps : L → State → List Entry → Option (List ℕ) → Type 0) (generation : L → ℕ) (moment : L → ℕ × ℕ) (opens_since : L → ℕ × ℕ → Opening → Type 0) (Quiet : L → ℕ × ℕ → Type 0)
-    (old new : Logged L) (all : List (List ℕ)) (before written : Option (List ℕ)) : Type 0 where
+pub record RunsCut {L S V P Q : Type 0} (g : Ghosts L S V P Q) (old new : Logged L) (all : List (List ℕ)) (before written : Option (List ℕ)) : Type 0 where
   pub done : List Marked
   pub last : Marked
   pub rest : List (List ℕ)
-  pub runs : Runs faults Keeps generation moment opens_since Quiet old new all (done ++ last ∷ []) rest
+  pub runs : Runs g old new all (done ++ last ∷ []) rest
   pub answers : (later : List Marked) → AppendsShort before written (out (world_of old.kept) done) (answer_of (world_after (world_of old.kept) done) last later)
 
 -- the lines that were run are those that were answered, or one more
@@ -32,12 +26,10 @@ abbrev pub IsOneMore : List Marked → List Marked → Type 0
 IsOneMore done ran = (ran ≡ done) ⊎ ((last : Marked) × (ran ≡ done ++ last ∷ []))
 
 -- some were run and answered whole, then at most one more was run, and no other byte was written
-pub record RunsWhole
-    {L : Type 0} (faults : L → ℕ) (Keeps : L → State → List Entry → Option (List ℕ) → Type 0) (generation : L → ℕ) (moment : L → ℕ × ℕ) (opens_since : L → ℕ × ℕ → Opening → Type 0) (Quiet : L → ℕ × ℕ → Type 0)
-    (old new : Logged L) (all : List (List ℕ)) (before written : Option (List ℕ)) : Type 0 where
+pub record RunsWhole {L S V P Q : Type 0} (g : Ghosts L S V P Q) (old new : Logged L) (all : List (List ℕ)) (before written : Option (List ℕ)) : Type 0 where
   pub done : List Marked
   pub ran : List Marked
   pub rest : List (List ℕ)
-  pub runs : Runs faults Keeps generation moment opens_since Quiet old new all ran rest
+  pub runs : Runs g old new all ran rest
   pub one_more : IsOneMore done ran
   pub answers : Appends before written (out (world_of old.kept) done)

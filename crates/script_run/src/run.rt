@@ -45,11 +45,8 @@ fn answer<St: Store, J: Log<St>>(
     core: &mut Core<St, J>,
     line: &[u8],
 ) -> Result<ReplyBytes, AllocError>
-    ensures bytes { IfOk result
-        (λ v. AnswersLine J.faults J.Keeps J.generation J.moment J.opens_since
-        J.Quiet core.old core.new line.now v) }
-    ensures err { OnErr result (RanAtMost J.faults J.Keeps J.generation J.moment J.opens_since
-        J.Quiet core.old core.new line.now) }
+    ensures bytes { IfOk result (λ v. AnswersLine J.Log core.old core.new line.now v) }
+    ensures err { OnErr result (RanAtMost J.Log core.old core.new line.now) }
     ensures stands { Stands core.new.kept }
 {
     let answered = core.line(line);
@@ -63,17 +60,16 @@ fn run_line<St: Store, J: Log<St>, K: Sink>(
     line: &[u8],
     sink: &mut K,
 ) -> Result<(), RunStop>
-    ensures all { OnOk result (WritesAnswer J.faults J.Keeps J.generation J.moment J.opens_since
-        J.Quiet core.old core.new line.now (K.written sink.old) (K.written sink.new)) }
+    ensures all { OnOk result (WritesAnswer J.Log core.old core.new line.now
+        (K.written sink.old) (K.written sink.new)) }
 
     // After a fault of the sink the line was run, and a part of its answer is missing.
-    ensures cut { IsErrOf result RunStop.Fault → CutsAnswer J.faults J.Keeps J.generation J.moment
-        J.opens_since J.Quiet core.old core.new line.now (K.written sink.old) (K.written sink.new) }
+    ensures cut { IsErrOf result RunStop.Fault → CutsAnswer J.Log core.old core.new line.now
+        (K.written sink.old) (K.written sink.new) }
 
     // After want of memory the line was run, or it was not, and nothing of it was written.
     ensures memory { IsErrOf result RunStop.Memory → (sink.new ≡ sink.old)
-        × RanAtMost J.faults J.Keeps
-        J.generation J.moment J.opens_since J.Quiet core.old core.new line.now }
+        × RanAtMost J.Log core.old core.new line.now }
     ensures faults { CountsIf (IsErrOf result RunStop.Fault) K.faults sink.old sink.new }
     ensures stands { Stands core.new.kept }
 {
@@ -91,19 +87,16 @@ pub fn run_script<St: Store, J: Log<St>, K: Sink>(
     script: &[u8],
     sink: &mut K,
 ) -> Result<(), RunStop>
-    ensures all { OnOk result (RunsAll J.faults J.Keeps J.generation J.moment J.opens_since J.Quiet
-        core.old core.new (lines_run (lines script.now)) (K.written sink.old)
-        (K.written sink.new)) }
+    ensures all { OnOk result (RunsAll J.Log core.old core.new (lines_run (lines script.now))
+        (K.written sink.old) (K.written sink.new)) }
 
     // A fault of the sink breaks off in the answer to a line, after which no line is run.
-    ensures cut { IsErrOf result RunStop.Fault → RunsCut J.faults J.Keeps J.generation J.moment
-        J.opens_since J.Quiet core.old core.new (lines_run (lines script.now))
-        (K.written sink.old) (K.written sink.new) }
+    ensures cut { IsErrOf result RunStop.Fault → RunsCut J.Log core.old core.new
+        (lines_run (lines script.now)) (K.written sink.old) (K.written sink.new) }
 
     // Want of memory comes between the answers to two lines.
-    ensures whole { IsErrOf result RunStop.Memory → RunsWhole J.faults J.Keeps J.generation J.moment
-        J.opens_since J.Quiet core.old core.new (lines_run (lines script.now))
-        (K.written sink.old) (K.written sink.new) }
+    ensures whole { IsErrOf result RunStop.Memory → RunsWhole J.Log core.old core.new
+        (lines_run (lines script.now)) (K.written sink.old) (K.written sink.new) }
     ensures faults { CountsIf (IsErrOf result RunStop.Fault) K.faults sink.old sink.new }
 {
     core.stands();

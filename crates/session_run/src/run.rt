@@ -58,10 +58,7 @@ where
     ensures err { IfErr result (λ e. HasRun board.kept e.1.kept
         × IsBeginning e.0 board.kept.opening sections.now e.1.kept.steps) }
     ensures stored { MatchResult result
-        (λ b. StoresSteps J.faults J.Keeps J.generation J.moment J.opens_since J.Quiet
-        board.log b)
-        (λ e. StoresSteps J.faults J.Keeps J.generation J.moment J.opens_since J.Quiet
-        board.log e.1) }
+        (λ b. StoresSteps J.Log board.log b) (λ e. StoresSteps J.Log board.log e.1) }
 {
     let mut room = Room::<St, J, T>::new(alloc, board, note, pen);
     match seated(alloc, &mut room, sections) {
@@ -116,10 +113,7 @@ where
     ensures err { IfErr result (λ e. HasRun board.kept e.1.kept
         × IsBeginning e.0 board.kept.opening sections.now e.1.kept.steps) }
     ensures stored { MatchResult result
-        (λ b. StoresSteps J.faults J.Keeps J.generation J.moment J.opens_since J.Quiet
-        board.log b)
-        (λ e. StoresSteps J.faults J.Keeps J.generation J.moment J.opens_since J.Quiet
-        board.log e.1) }
+        (λ b. StoresSteps J.Log board.log b) (λ e. StoresSteps J.Log board.log e.1) }
 {
     match Note::new(alloc, board.store()) {
         Err(AllocError) => Err((Unfinished::Memory, board)),

@@ -26,7 +26,7 @@ use Rattle.lock_table.specs.declared.need.Need.{Need}
 use Rattle.lock_table.specs.Rows.{Row}
 use Rattle.lock_table.specs.Grants.{Has, row}
 use Rattle.stmt_text.specs.declared.stmt.Stmt.{Stmt}
-use Rattle.stmt_text.specs.declared.stmt.Stmt.TheVariants.{Begin, Commit, Abort, On, LogOf, Graph, Segments, Branch, Merge, Insert, Update, Delete, Get, Scan, Join, Minus}
+use Rattle.stmt_text.specs.declared.stmt.Stmt.TheVariants.{Begin, Commit, Abort, On, LogOf, Graph, Segments, Checkpoint, Branch, Merge, Insert, Update, Delete, Get, Scan, Join, Minus}
 use Rattle.stmt_text.specs.declared.stmt.ScanOver.{ScanOver}
 use Rattle.stmt_text.specs.declared.stmt.ScanOver.TheVariants.{Current, Named, Heads}
 use Rattle.branch_tx.specs.Keeping.{Keeping, over_table}
@@ -53,16 +53,17 @@ use Rattle.store_tx.proofs.Lends.{own_source, own_in, lent_is, lent_more, lent_l
 
 -- ---- a statement that goes on in an open transaction
 
-pub goes_on : (x : Stmt) → is_end x ≡ false → ((room : Option ℕ) → x ≡ Begin room → ⊥) → ((name : List ℕ) → x ≡ On name → ⊥) → ((name : List ℕ) → x ≡ LogOf name → ⊥) → ((name : List ℕ) (origin : VersionName) → x ≡ Branch name origin → ⊥) → (x ≡ Graph → ⊥) → (x ≡ Segments → ⊥) → IsWork x
-goes_on (Begin room) e b o l n h k = b room refl
-goes_on Commit e b o l n h k = absurd (true≢false e)
-goes_on Abort e b o l n h k = absurd (true≢false e)
-goes_on (On name) e b o l n h k = o name refl
-goes_on (LogOf name) e b o l n h k = l name refl
-goes_on Graph e b o l n h k = h refl
-goes_on Segments e b o l n h k = k refl
-goes_on (Branch name origin) e b o l n h k = n name origin refl
-goes_on _ e b o l n h k = tt
+pub goes_on : (x : Stmt) → is_end x ≡ false → ((room : Option ℕ) → x ≡ Begin room → ⊥) → ((name : List ℕ) → x ≡ On name → ⊥) → ((name : List ℕ) → x ≡ LogOf name → ⊥) → ((name : List ℕ) (origin : VersionName) → x ≡ Branch name origin → ⊥) → (x ≡ Graph → ⊥) → (x ≡ Segments → ⊥) → (x ≡ Checkpoint → ⊥) → IsWork x
+goes_on (Begin room) e b o l n h k c = b room refl
+goes_on Commit e b o l n h k c = absurd (true≢false e)
+goes_on Abort e b o l n h k c = absurd (true≢false e)
+goes_on (On name) e b o l n h k c = o name refl
+goes_on (LogOf name) e b o l n h k c = l name refl
+goes_on Graph e b o l n h k c = h refl
+goes_on Segments e b o l n h k c = k refl
+goes_on Checkpoint e b o l n h k c = c refl
+goes_on (Branch name origin) e b o l n h k c = n name origin refl
+goes_on _ e b o l n h k c = tt
 
 -- what is no merge reads or changes records
 pub no_merge : (x : Stmt) → IsWork x → ((name : List ℕ) (prefer : Prefer) → x ≡ Merge name prefer → ⊥) → IsAct x
@@ -77,6 +78,7 @@ act_is d b tx (On name) a = absurd a
 act_is d b tx (LogOf name) a = absurd a
 act_is d b tx Graph a = absurd a
 act_is d b tx Segments a = absurd a
+act_is d b tx Checkpoint a = absurd a
 act_is d b tx (Branch name origin) a = absurd a
 act_is d b tx (Merge name prefer) a = absurd a
 act_is d b tx _ a = refl
@@ -89,6 +91,7 @@ step_acts d b g (On name) a = absurd a
 step_acts d b g (LogOf name) a = absurd a
 step_acts d b g Graph a = absurd a
 step_acts d b g Segments a = absurd a
+step_acts d b g Checkpoint a = absurd a
 step_acts d b g (Branch name origin) a = absurd a
 step_acts d b g _ a = refl
 

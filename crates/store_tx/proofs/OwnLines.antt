@@ -24,7 +24,7 @@ use Rattle.db_store.specs.Fits.{fits, most_branches}
 use Rattle.db_store.proofs.OverlayLemmas.{count_touch, count_untouched}
 use Rattle.db_store.proofs.StateLemmas.{few_relations}
 use Rattle.stmt_text.specs.declared.stmt.Stmt.{Stmt}
-use Rattle.stmt_text.specs.declared.stmt.Stmt.TheVariants.{Begin, Commit, Abort, On, LogOf, Graph, Segments, Branch, Merge}
+use Rattle.stmt_text.specs.declared.stmt.Stmt.TheVariants.{Begin, Commit, Abort, On, LogOf, Graph, Segments, Checkpoint, Branch, Merge}
 use Rattle.branch_tx.specs.Keeping.{over_table}
 use Rattle.db_store.specs.Found.{found, lack, branch_names}
 use Rattle.branch_tx.specs.Found.{source_of}
@@ -37,7 +37,9 @@ use Rattle.branch_tx.proofs.Acts.{is_done, act_does, act_begun, begun, done_begu
 use Rattle.branch_tx.proofs.Ends.{entry_is}
 use Rattle.branch_tx.proofs.Keeps.{merge_changes}
 use Rattle.store_tx.specs.Ends.{is_abort, is_begin}
-use Rattle.store_tx.specs.Stored.{IsNamedIf}
+use Rattle.store_tx.specs.declared.stored.LogCall.{LogCall}
+use Rattle.store_tx.specs.declared.stored.LogCall.TheVariants.{Nothing, Save}
+use Rattle.store_tx.specs.Stored.{IsNamedIf, call_if, call_of, is_checkpoint, entry_called}
 use Rattle.store_tx.specs.Statements.{IsWork, step_out, act_over, commit_over, entry_over, branch_out, branch_entry}
 use Rattle.store_tx.proofs.KeepsLemmas.{act_is}
 
@@ -57,6 +59,7 @@ own_step d b (On name) a = absurd a
 own_step d b (LogOf name) a = absurd a
 own_step d b Graph a = absurd a
 own_step d b Segments a = absurd a
+own_step d b Checkpoint a = absurd a
 own_step d b (Branch name origin) a = absurd a
 own_step d b _ a = refl
 
@@ -207,6 +210,23 @@ quiet d b x tx w e m = sym (by_abort (is_abort x))
     by_abort true = refl
     by_abort false = plain_entry d b tx tx.made m ∙ nothing d b tx w e
 
+-- what a statement asks of the log that is no checkpoint
+pub call_is : (x : Stmt) (o : Option Entry) → is_checkpoint x ≡ false → call_of x o ≡ call_if o
+call_is x (Some e) n = refl
+call_is x None n = ap (λ q. cond q Save Nothing) n
+
+pub asks_nothing : (x : Stmt) (o : Option Entry) → is_checkpoint x ≡ false → None ≡ o → Nothing ≡ call_of x o
+asks_nothing x o n e = ap call_if e ∙ sym (call_is x o n)
+
+-- a statement that reads or changes records is none
+pub work_asks : (x : Stmt) → IsWork x → is_checkpoint x ≡ false
+work_asks Checkpoint a = absurd a
+work_asks _ a = refl
+
+-- an image is asked for
+pub asks_image : (d : Dataset) (b : ℕ) (x : Stmt) → x ≡ Checkpoint → Save ≡ call_of x (entry_over d b x (step_out d b x).tx)
+asks_image d b x e = ap (call_of Checkpoint) (quiet d b Checkpoint none_yet refl refl refl) ∙ ap (λ y. call_of y (entry_over d b y (step_out d b y).tx)) (sym e)
+
 pub quiet_commit : (d : Dataset) (b : ℕ) (x : Stmt) → x ≡ Commit → None ≡ entry_over d b x (step_out d b x).tx
 quiet_commit d b x e = quiet d b Commit none_yet refl refl refl ∙ ap (λ y. entry_over d b y (step_out d b y).tx) (sym e)
 
@@ -259,6 +279,19 @@ branch_stays d b x name origin e = sym (new_stays d b name (place_in (found d or
 pub own_stay : (d : Dataset) (b : ℕ) (x : Stmt) → IsWork x → None ≡ (step_out d b x).tx.moved
 own_stay d b x a = sym (own_moved d b x a) ∙ ap (λ (o : Outcome (List Overlay)). o.tx.moved) (sym (own_step d b x a))
 
+-- what is called for an entry is called with it
+pub called_is : (o : Option Entry) → entry_called (call_if o) ≡ o
+called_is None = refl
+called_is (Some e) = refl
+
+pub called_of : (x : Stmt) (o : Option Entry) → entry_called (call_of x o) ≡ o
+called_of x (Some e) = refl
+called_of x None = by (is_checkpoint x)
+  where
+    by : (q : Bool) → entry_called (cond q Save Nothing) ≡ None
+    by true = refl
+    by false = refl
+
 -- what is committed has no name
 pub commit_named : (d : Dataset) (b : ℕ) (tx : Tx (List Overlay)) → IsNamedIf (commit_over d b tx)
 commit_named d b tx = by (nat_lt 0 (count_touched tx.work) || is_some tx.second)
@@ -268,16 +301,17 @@ commit_named d b tx = by (nat_lt 0 (count_touched tx.work) || is_some tx.second)
     by false = tt
 
 -- a statement that is none of these acts
-pub acts : (x : Stmt) → ((room : Option ℕ) → x ≡ Begin room → ⊥) → (x ≡ Commit → ⊥) → (x ≡ Abort → ⊥) → ((name : List ℕ) → x ≡ On name → ⊥) → ((name : List ℕ) → x ≡ LogOf name → ⊥) → ((name : List ℕ) (origin : VersionName) → x ≡ Branch name origin → ⊥) → (x ≡ Graph → ⊥) → (x ≡ Segments → ⊥) → IsWork x
-acts (Begin room) a b c d e f g h = absurd (a room refl)
-acts Commit a b c d e f g h = absurd (b refl)
-acts Abort a b c d e f g h = absurd (c refl)
-acts (On name) a b c d e f g h = absurd (d name refl)
-acts (LogOf name) a b c d e f g h = absurd (e name refl)
-acts Graph a b c d e f g h = absurd (g refl)
-acts Segments a b c d e f g h = absurd (h refl)
-acts (Branch name origin) a b c d e f g h = absurd (f name origin refl)
-acts _ a b c d e f g h = tt
+pub acts : (x : Stmt) → ((room : Option ℕ) → x ≡ Begin room → ⊥) → (x ≡ Commit → ⊥) → (x ≡ Abort → ⊥) → ((name : List ℕ) → x ≡ On name → ⊥) → ((name : List ℕ) → x ≡ LogOf name → ⊥) → ((name : List ℕ) (origin : VersionName) → x ≡ Branch name origin → ⊥) → (x ≡ Graph → ⊥) → (x ≡ Segments → ⊥) → (x ≡ Checkpoint → ⊥) → IsWork x
+acts (Begin room) a b c d e f g h i = absurd (a room refl)
+acts Commit a b c d e f g h i = absurd (b refl)
+acts Abort a b c d e f g h i = absurd (c refl)
+acts (On name) a b c d e f g h i = absurd (d name refl)
+acts (LogOf name) a b c d e f g h i = absurd (e name refl)
+acts Graph a b c d e f g h i = absurd (g refl)
+acts Segments a b c d e f g h i = absurd (h refl)
+acts Checkpoint a b c d e f g h i = absurd (i refl)
+acts (Branch name origin) a b c d e f g h i = absurd (f name origin refl)
+acts _ a b c d e f g h i = tt
 
 -- what begins no transaction is no `begin`
 pub no_begin : (x : Stmt) → is_begin x ≡ false → (room : Option ℕ) → x ≡ Begin room → ⊥

@@ -1,5 +1,6 @@
 -- An entry that fits, as a batch of its own.
-use Rattle.std.proofs.Common.{◌≡◌, ◌⊎◌, inl, subst, ℕ, ◌*◌, ◌<◌, ◌≤◌, cond, not, ◌&&◌, nat_le, true, false, Bool, List, [], ◌∷◌, ◌++◌, length, refl, sym, ◌∙◌, ap, arith, Option, Some, None}
+use Rattle.std.proofs.Common.{◌≡◌, ◌⊎◌, inl, inr, ⊎_elim, subst, ℕ, ◌*◌, ◌<◌, ◌≤◌, cond, not, ◌&&◌, nat_le, true, false, Bool, List, [], ◌∷◌, ◌++◌, length, refl, sym, ◌∙◌, ap, arith, Option, Some, None}
+use Rattle.std.specs.Prelude.{Result, Ok, Err, OnOk, OnErr, IsErrOf}
 use Rattle.std.proofs.lemmas.List.{append-nil}
 use Rattle.std.proofs.lemmas.Bool.{and_parts, leb-true}
 use Rattle.db_value.specs.Value.{Value}
@@ -17,9 +18,13 @@ use Rattle.db_outside.specs.Record.{most_body}
 use Rattle.entry_codec.specs.Spelling.{spelling, entry_size, second_size, change_size, changes_size, field_count, HasFewChanges}
 use Rattle.entry_codec.specs.Grammar.{entries_in}
 use Rattle.entry_codec.specs.Laws.{IsEntry, IsChange, AreChanges, AreFields}
-use Rattle.entry_codec.specs.Logs.{Follows, Opening, MayGive, GivesOneOf, GivesOnly, GoesOn, AddsOnly, KeepsAny, KeepsOneOf, WhereKept}
+use Rattle.entry_codec.specs.declared.log.Log.{Ghosts}
+use Rattle.entry_codec.specs.declared.stop.CheckpointStop.{CheckpointStop}
+use Rattle.entry_codec.specs.declared.stop.CheckpointStop.TheVariants.{DiskFault}
+use Rattle.entry_codec.specs.Logs.{Follows, Opening, MayGive, GivesOneOf, GivesImage, GivesOnly, GoesOn, AddsOnly, KeepsAny, KeepsOneOf, KeepsOrOwes, WhereKept, WhereKeptOrOwed, StoresOwing, Checkpoints, Renews, CountsStops, next_generation, entries_after}
 use Rattle.db_outside.specs.Device.{Rose}
-use Rattle.store_tx.specs.Stored.{GivesIf, Stores}
+use Rattle.store_tx.specs.declared.stored.LogCall.TheVariants.{Nothing, Append, Save}
+use Rattle.store_tx.specs.Stored.{Has, GivesIn, GivesOwed, IsPendingOf, Stores}
 use Rattle.entry_codec.proofs.Back.{size_is, all}
 
 few_fields : (fields : Option (List Value)) → AreFields fields → field_count fields ≤ 15
@@ -85,77 +90,140 @@ few_fit d (Branch name origin) fit = tt
 -- ---- what a log does for one entry
 
 module _
-    {L : Type 0} (faults : L → ℕ) (Keeps : L → State → List Entry → Option (List ℕ) → Type 0) (generation : L → ℕ) (moment : L → ℕ × ℕ) (opens_since : L → ℕ × ℕ → Opening → Type 0) (Quiet : L → ℕ × ℕ → Type 0)
-    (s : State) (e : Entry) (b : List ℕ) (same : b ≡ spelling e) (fit : fits (dataset_of s) e ≡ true) (is : IsEntry e) (old new : L)
-    (gives : WhereKept Keeps old b (λ t es f h. GivesOnly moment Quiet opens_since old new (GivesOneOf (generation old) t es f b)))
-    (goes_on : GoesOn generation moment old new) (later : faults old ≤ faults new) where
+    {L S V P Q T E : Type 0} (g : Ghosts L S V P Q) (s : State) (e : Entry) (b : List ℕ) (same : b ≡ spelling e) (fit : fits (dataset_of s) e ≡ true) (is : IsEntry e) (old new : L) (result : Result T E)
+    (gives : WhereKept g.Keeps old b (λ t es f h. GivesOnly g.moment g.Quiet g.opens_since old new (GivesOneOf (g.generation old) t es f b)))
+    (owed : WhereKept g.Owes old b (λ t es f h. StoresOwing g.Keeps g.Owes g.generation g.moment g.opens_since old new result t es f b h))
+    (goes_on : GoesOn g.generation g.moment old new) (later : g.faults old ≤ g.faults new) where
   abbrev follows : Follows s b
   follows = follows_one s e b same fit is
 
-  any_now : (es : List Entry) (f : Option (List ℕ)) → Keeps old s es f → (o : Opening) → opens_since new (moment old) o → GivesIf (generation old) s es f (Some e) o
-  any_now es f keeps o opens = subst (λ (x : List ℕ). GivesOneOf (generation old) s es f x o) same ((gives s es f follows keeps).any_moment o opens)
+  any_now : (owing : Bool) (es : List Entry) (f : Option (List ℕ)) → Has g owing old s es f → (o : Opening) → g.opens_since new (g.moment old) o → GivesIn (g.generation old) s es f (Append e) o ⊎ GivesOwed owing (g.generation old) s o
+  any_now false es f keeps o opens = inl (subst (λ (x : List ℕ). GivesOneOf (g.generation old) s es f x o) same ((gives s es f follows keeps).any_moment o opens))
+  any_now true es f (inl keeps) o opens = inl (subst (λ (x : List ℕ). GivesOneOf (g.generation old) s es f x o) same ((gives s es f follows keeps).any_moment o opens))
+  any_now true es f (inr owes) o opens = subst (λ (x : List ℕ). GivesOneOf (g.generation old) s es f x o ⊎ GivesImage (g.generation old) s o) same ((owed s es f follows owes).any_moment o opens)
 
-  quiet_now : (es : List Entry) (f : Option (List ℕ)) → Keeps old s es f → AddsOnly moment Quiet opens_since old new (GivesIf (generation old) s es f (Some e))
-  quiet_now es f keeps = subst (λ (x : List ℕ). AddsOnly moment Quiet opens_since old new (GivesOneOf (generation old) s es f x)) same (gives s es f follows keeps).quiet
+  quiet_now : (es : List Entry) (f : Option (List ℕ)) → g.Keeps old s es f → AddsOnly g.moment g.Quiet g.opens_since old new (GivesIn (g.generation old) s es f (Append e))
+  quiet_now es f keeps = subst (λ (x : List ℕ). AddsOnly g.moment g.Quiet g.opens_since old new (GivesOneOf (g.generation old) s es f x)) same (gives s es f follows keeps).quiet
 
   -- it stored the entry
-  pub stores_done : WhereKept Keeps old b (λ t es f h. Keeps new h.state (es ++ h.entries) None)
-      → Stores faults Keeps generation moment opens_since Quiet s false (Some e) old new
-  stores_done done = record {
+  module _ (value : T) (ok : result ≡ Ok value) (done : WhereKept g.Keeps old b (λ t es f h. g.Keeps new h.state (es ++ h.entries) None)) where
+    has_done : (owing : Bool) (es : List Entry) (f : Option (List ℕ)) → Has g owing old s es f → g.Keeps new (grow s e) (es ++ e ∷ []) None
+    has_done false es f keeps = done s es f follows keeps
+    has_done true es f (inl keeps) = done s es f follows keeps
+    has_done true es f (inr owes) = subst (λ (r : Result T E). OnOk r (g.Keeps new (grow s e) (es ++ e ∷ []) None)) ok (owed s es f follows owes).done
+
+    pub stores_done : Stores g s false (Append e) old new
+    stores_done = record {
+      some = λ bad. absurd (cc bad);
+      spared = λ none. absurd (cc none);
+      cause = λ bad. absurd (cc bad);
+      any_moment = any_now;
+      quiet = λ _. quiet_now;
+      has = has_done;
+      generation = goes_on.generation_stays;
+      time = goes_on.time;
+      later = later;
+    }
+
+  -- it failed
+  module _ (why : E) (err : result ≡ Err why) (failed : WhereKept g.Keeps old b (λ t es f h. KeepsOneOf g.Keeps new t es f b)) where
+    in_batch : (f h : Option (List ℕ)) → (h ≡ None) ⊎ (h ≡ f) ⊎ (h ≡ Some b) → IsPendingOf f (Append e) h
+    in_batch f h = subst (λ (x : List ℕ). (h ≡ None) ⊎ (h ≡ f) ⊎ (h ≡ Some x)) same
+
+    has_failed : (owing : Bool) (es : List Entry) (f : Option (List ℕ)) → Has g owing old s es f → (h : Option (List ℕ)) × IsPendingOf f (Append e) h × Has g owing new s es h
+    has_failed false es f keeps = let h = failed s es f follows keeps in (h.0, in_batch f h.0 h.1, h.2)
+    has_failed true es f (inl keeps) = let h = failed s es f follows keeps in (h.0, in_batch f h.0 h.1, inl h.2)
+    has_failed true es f (inr owes) =
+        let h = subst (λ (r : Result T E). OnErr r ((h : Option (List ℕ)) × ((h ≡ None) ⊎ (h ≡ f) ⊎ (h ≡ Some b)) × KeepsOrOwes g.Keeps g.Owes new s es h)) err (owed s es f follows owes).failed in
+        (h.0, in_batch f h.0 h.1, h.2)
+
+    pub stores_failed : Rose (g.faults old) (g.faults new) → Stores g s true (Append e) old new
+    stores_failed rose = record {
+      some = λ _. refl;
+      spared = λ none. absurd (cc none);
+      cause = λ _. rose;
+      any_moment = any_now;
+      quiet = λ _. quiet_now;
+      has = has_failed;
+      generation = goes_on.generation_stays;
+      time = goes_on.time;
+      later = later;
+    }
+
+-- ---- what it does for an image
+
+module _
+    {L S V P Q T : Type 0} (g : Ghosts L S V P Q) (s : State) (old new : L) (result : Result T CheckpointStop)
+    (kept : WhereKeptOrOwed g.Keeps g.Owes old s (λ es f. Checkpoints g.Keeps g.Owes g.generation g.moment g.opens_since old new result s es f))
+    (renewed : Renews g.generation g.moment old new result) (counts : CountsStops g.faults old new result) where
+  has_either : (owing : Bool) (es : List Entry) (f : Option (List ℕ)) → Has g owing old s es f → KeepsOrOwes g.Keeps g.Owes old s es f
+  has_either false es f keeps = inl keeps
+  has_either true es f has = has
+
+  any_saved : (owing : Bool) (es : List Entry) (f : Option (List ℕ)) → Has g owing old s es f → (o : Opening) → g.opens_since new (g.moment old) o → GivesIn (g.generation old) s es f Save o ⊎ GivesOwed owing (g.generation old) s o
+  any_saved owing es f has o opens = inl ((kept es f (has_either owing es f has)).any_moment o opens)
+
+  pub saves_done : (value : T) → result ≡ Ok value → Stores g s false Save old new
+  saves_done value ok = record {
     some = λ bad. absurd (cc bad);
     spared = λ none. absurd (cc none);
     cause = λ bad. absurd (cc bad);
-    any_moment = any_now;
-    quiet = quiet_now;
-    kept = λ es f keeps. done s es f follows keeps;
-    generation_stays = goes_on.generation_stays;
-    time = goes_on.time;
-    later = later;
+    any_moment = any_saved;
+    quiet = λ bad. absurd (cc bad);
+    has = λ owing es f has. subst (λ (r : Result T CheckpointStop). OnOk r (g.Keeps new s (entries_after (g.generation old) es) None)) ok (kept es f (has_either owing es f has)).done;
+    generation = subst (λ (r : Result T CheckpointStop). OnOk r (g.generation new ≡ next_generation (g.generation old))) ok renewed.done;
+    time = renewed.time;
+    later = counts.later;
   }
 
-  -- it failed
-  pub stores_failed : WhereKept Keeps old b (λ t es f h. KeepsOneOf Keeps new t es f b) → Rose (faults old) (faults new)
-      → Stores faults Keeps generation moment opens_since Quiet s true (Some e) old new
-  stores_failed failed rose = record {
+  pub saves_failed : result ≡ Err DiskFault → Stores g s true Save old new
+  saves_failed err = record {
     some = λ _. refl;
     spared = λ none. absurd (cc none);
-    cause = λ _. rose;
-    any_moment = any_now;
-    quiet = quiet_now;
-    kept = λ es f keeps. let h = failed s es f follows keeps in (h.0, subst (λ (x : List ℕ). (h.0 ≡ None) ⊎ (h.0 ≡ f) ⊎ (h.0 ≡ Some x)) same h.1, h.2);
-    generation_stays = goes_on.generation_stays;
-    time = goes_on.time;
-    later = later;
+    cause = λ _. counts.cause (subst (λ (r : Result T CheckpointStop). IsErrOf r DiskFault) (sym err) refl);
+    any_moment = any_saved;
+    quiet = λ bad. absurd (cc bad);
+    has = λ owing es f has. subst (λ (r : Result T CheckpointStop). OnErr r ((h : Option (List ℕ)) × ((h ≡ None) ⊎ (h ≡ f)) × KeepsOrOwes g.Keeps g.Owes new s es h)) err (kept es f (has_either owing es f has)).failed;
+    generation = subst (λ (r : Result T CheckpointStop). OnErr r (g.generation new ≡ g.generation old)) err renewed.failed;
+    time = renewed.time;
+    later = counts.later;
   }
 
--- a log that isn't called
+-- ---- a log that isn't called
+
 module _
-    {L : Type 0} (faults : L → ℕ) (Keeps : L → State → List Entry → Option (List ℕ) → Type 0) (generation : L → ℕ) (moment : L → ℕ × ℕ) (opens_now : L → Opening → Type 0) (opens_since : L → ℕ × ℕ → Opening → Type 0) (Quiet : L → ℕ × ℕ → Type 0)
-    (kept_opens : (log : L) (s : State) (es : List Entry) (f : Option (List ℕ)) → Keeps log s es f → (o : Opening) → opens_now log o → MayGive (generation log) s es f o)
-    (only_now : (log : L) (o : Opening) → opens_since log (moment log) o → opens_now log o) where
-  pub stores_none : (s : State) (log : L) → Stores faults Keeps generation moment opens_since Quiet s false None log log
+    {L S V P Q : Type 0} (g : Ghosts L S V P Q)
+    (kept_opens : (log : L) (s : State) (es : List Entry) (f : Option (List ℕ)) → g.Keeps log s es f → (o : Opening) → g.opens_now log o → MayGive (g.generation log) s es f o)
+    (owes_opens : (log : L) (s : State) (es : List Entry) (f : Option (List ℕ)) → g.Owes log s es f → (o : Opening) → g.opens_now log o → MayGive (g.generation log) s es f o ⊎ GivesImage (g.generation log) s o)
+    (only_now : (log : L) (o : Opening) → g.opens_since log (g.moment log) o → g.opens_now log o) where
+  opens_as : (s : State) (log : L) (owing : Bool) (es : List Entry) (f : Option (List ℕ)) → Has g owing log s es f → (o : Opening) → g.opens_since log (g.moment log) o → MayGive (g.generation log) s es f o ⊎ GivesOwed owing (g.generation log) s o
+  opens_as s log false es f keeps o opens = inl (kept_opens log s es f keeps o (only_now log o opens))
+  opens_as s log true es f (inl keeps) o opens = inl (kept_opens log s es f keeps o (only_now log o opens))
+  opens_as s log true es f (inr owes) o opens = owes_opens log s es f owes o (only_now log o opens)
+
+  pub stores_none : (s : State) (log : L) → Stores g s false Nothing log log
   stores_none s log = record {
     some = λ bad. absurd (cc bad);
     spared = λ none. refl;
     cause = λ bad. absurd (cc bad);
-    any_moment = λ es f keeps o opens. kept_opens log s es f keeps o (only_now log o opens);
-    quiet = λ es f keeps. record { stays = λ t q. q; adds = λ t le q o opens. inl opens };
-    kept = λ es f keeps. keeps;
-    generation_stays = refl;
+    any_moment = opens_as s log;
+    quiet = λ _ es f keeps. record { stays = λ t q. q; adds = λ t le q o opens. inl opens };
+    has = λ owing es f has. has;
+    generation = refl;
     time = (omega arith, omega arith);
     later = omega arith;
   }
 
   -- it keeps any state, so that the entry is as good as stored
-  pub stores_unasked : (s : State) (e : Entry) (log : L) → KeepsAny Keeps log → Stores faults Keeps generation moment opens_since Quiet s false (Some e) log log
+  pub stores_unasked : (s : State) (e : Entry) (log : L) → KeepsAny g.Keeps log → Stores g s false (Append e) log log
   stores_unasked s e log any = record {
     some = λ bad. absurd (cc bad);
     spared = λ none. absurd (cc none);
     cause = λ bad. absurd (cc bad);
-    any_moment = λ es f keeps o opens. inl (kept_opens log s es f keeps o (only_now log o opens));
-    quiet = λ es f keeps. record { stays = λ t q. q; adds = λ t le q o opens. inl opens };
-    kept = λ es f keeps. any (grow s e) (es ++ e ∷ []) None;
-    generation_stays = refl;
+    any_moment = λ owing es f has o opens. ⊎_elim (λ gives. inl (inl gives)) inr (opens_as s log owing es f has o opens);
+    quiet = λ _ es f keeps. record { stays = λ t q. q; adds = λ t le q o opens. inl opens };
+    has = λ owing es f has. any (grow s e) (es ++ e ∷ []) None;
+    generation = refl;
     time = (omega arith, omega arith);
     later = omega arith;
   }

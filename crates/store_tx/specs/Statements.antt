@@ -28,14 +28,14 @@ use Rattle.lock_table.specs.Rows.{Row}
 use Rattle.stmt_text.specs.declared.stmt.ScanOver.{ScanOver}
 use Rattle.stmt_text.specs.declared.stmt.ScanOver.TheVariants.{Current, Heads, Named}
 use Rattle.stmt_text.specs.declared.stmt.Stmt.{Stmt}
-use Rattle.stmt_text.specs.declared.stmt.Stmt.TheVariants.{Abort, Begin, Branch, Commit, Graph, LogOf, Merge, On, Segments}
+use Rattle.stmt_text.specs.declared.stmt.Stmt.TheVariants.{Abort, Begin, Branch, Checkpoint, Commit, Graph, LogOf, Merge, On, Segments}
 
 -- a statement that reads or changes records, or merges
 abbrev pub act_over : Dataset → ℕ → Tx (List Overlay) → Stmt → Outcome (List Overlay)
 act_over d b tx (Merge name prefer) = merge_of (over_table (head_of d b)) d b tx name prefer
 act_over d b tx x = act (over_table (head_of d b)) (ground_of d b) (λ v. source_of b (found d v)) (branch_names d) tx x
 
--- a statement that reads or changes records, or is in no form that is built
+-- a statement that reads or changes records
 abbrev pub IsAct : Stmt → Type 0
 IsAct (Begin room) = ⊥
 IsAct Commit = ⊥
@@ -44,6 +44,7 @@ IsAct (On name) = ⊥
 IsAct (LogOf name) = ⊥
 IsAct Graph = ⊥
 IsAct Segments = ⊥
+IsAct Checkpoint = ⊥
 IsAct (Branch name origin) = ⊥
 IsAct (Merge name prefer) = ⊥
 IsAct _ = Unit {0}

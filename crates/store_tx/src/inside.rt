@@ -208,6 +208,7 @@ pub fn go_on<St: Store>(
     match stmt {
         Stmt::Begin { .. } => Ok(refused(Refusal::InTransaction)),
         Stmt::On { .. } => Ok(refused(Refusal::InTransaction)),
+        Stmt::Checkpoint => Ok(refused(Refusal::InTransaction)),
         Stmt::Branch { .. } => Ok(refused(Refusal::InTransaction)),
         Stmt::LogOf { branch } => {
             let reply = log_branch(alloc, store, branch)?;

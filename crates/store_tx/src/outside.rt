@@ -7,11 +7,11 @@ ghost use Rattle.branch_tx.specs.Granted.{tx_in};
 ghost use Rattle.branch_tx.proofs.Acts.{is_done};
 ghost use Rattle.store_tx.specs.Ends.{is_begin, is_end};
 ghost use Rattle.store_tx.specs.Statements.{HasName, IsWork, step_in, step_out, entry_out, entry_over, commit_over, told_over, branched, branch_out, branch_entry, moved_out};
-ghost use Rattle.store_tx.specs.Stored.{FitsIf, IsNamedIf};
+ghost use Rattle.store_tx.specs.Stored.{FitsIf, IsNamedIf, call_if, call_of, entry_called};
 
 use crate::granting::open_tx;
 use crate::inside::work_twice;
-use crate::stored::{Plan, plain};
+use crate::stored::{LogCall, Plan, plain};
 use crate::twice::{copied, done, made, refused};
 use branch_tx::Tx;
 use db_store::Store;
@@ -31,9 +31,9 @@ pub fn commit<St: Store>(store: &St, tx: &Tx<St>, branch: u32) -> Result<Plan, A
     requires branch { branch < length (dataset_of (St.state store.now)).branches }
     ensures told { IfOk result (λ p. p.told ≡
         told_over (dataset_of (St.state store.now)) branch (tx_in tx.now)) }
-    ensures entry { IfOk result (λ p. p.entry ≡
-        commit_over (dataset_of (St.state store.now)) branch (tx_in tx.now)) }
-    ensures named { IfOk result (λ p. IsNamedIf p.entry) }
+    ensures call { IfOk result (λ p. p.call ≡
+        call_if (commit_over (dataset_of (St.state store.now)) branch (tx_in tx.now))) }
+    ensures named { IfOk result (λ p. IsNamedIf (entry_called p.call)) }
     ensures stays { IfOk result (λ p. p.moved ≡ None) }
 {
     let name = store.branch_name(branch);
@@ -42,7 +42,7 @@ pub fn commit<St: Store>(store: &St, tx: &Tx<St>, branch: u32) -> Result<Plan, A
         None => Ok(plain(done())),
         Some(entry) => Ok(Plan {
             told: made(name, position),
-            entry: Some(entry),
+            call: LogCall::Append { entry },
             moved: None,
         }),
     }
@@ -54,9 +54,9 @@ pub fn end<St: Store>(store: &St, tx: &Tx<St>, branch: u32, stmt: &Stmt) -> Resu
     requires ends { is_end stmt.now ≡ true }
     ensures told { IfOk result (λ p. p.told ≡
         (step_in (dataset_of (St.state store.now)) branch tx.now stmt.now).reply) }
-    ensures entry { IfOk result (λ p. p.entry ≡
-        entry_over (dataset_of (St.state store.now)) branch stmt.now (tx_in tx.now)) }
-    ensures named { IfOk result (λ p. IsNamedIf p.entry) }
+    ensures call { IfOk result (λ p. p.call ≡
+        call_if (entry_over (dataset_of (St.state store.now)) branch stmt.now (tx_in tx.now))) }
+    ensures named { IfOk result (λ p. IsNamedIf (entry_called p.call)) }
 {
     match stmt {
         Stmt::Commit => commit(store, tx, branch),
@@ -79,9 +79,9 @@ fn alone<St: Store>(alloc: Global, store: &St, branch: u32, stmt: &Stmt) -> Resu
     requires works { IsWork stmt.now }
     ensures told { IfOk result (λ p. p.told ≡
         (step_out (dataset_of (St.state store.now)) branch stmt.now).reply) }
-    ensures entry { IfOk result (λ p. p.entry ≡
-        entry_out (dataset_of (St.state store.now)) branch stmt.now) }
-    ensures named { IfOk result (λ p. IsNamedIf p.entry) }
+    ensures call { IfOk result (λ p. p.call ≡
+        call_if (entry_out (dataset_of (St.state store.now)) branch stmt.now)) }
+    ensures named { IfOk result (λ p. IsNamedIf (entry_called p.call)) }
     ensures stays { IfOk result (λ p. p.moved ≡ None) }
 {
     let mut tx = open_tx(alloc, store, branch, USUAL_ROOM)?;
@@ -98,10 +98,10 @@ fn branch_at<St: Store>(store: &St, name: &Name, origin: VersionPlace) -> Plan
     requires { IsMade (dataset_of (St.state store.now)) origin }
     ensures told { result.told ≡
         (branched (dataset_of (St.state store.now)) name.now origin).reply }
-    ensures entry { result.entry ≡
-        branch_entry (branched (dataset_of (St.state store.now)) name.now origin).tx.made }
-    ensures fits { FitsIf (dataset_of (St.state store.now)) result.entry }
-    ensures named { is_name name.now ≡ true → IsNamedIf result.entry }
+    ensures call { result.call ≡ call_if (branch_entry
+        (branched (dataset_of (St.state store.now)) name.now origin).tx.made) }
+    ensures fits { FitsIf (dataset_of (St.state store.now)) (entry_called result.call) }
+    ensures named { is_name name.now ≡ true → IsNamedIf (entry_called result.call) }
     ensures stays { result.moved ≡ None }
 {
     if store.branch(name).is_some() {
@@ -112,10 +112,12 @@ fn branch_at<St: Store>(store: &St, name: &Name, origin: VersionPlace) -> Plan
     }
     Plan {
         told: made(*name, 0),
-        entry: Some(Entry::Branch {
-            name: *name,
-            origin,
-        }),
+        call: LogCall::Append {
+            entry: Entry::Branch {
+                name: *name,
+                origin,
+            },
+        },
         moved: None,
     }
 }
@@ -124,10 +126,10 @@ fn branch_at<St: Store>(store: &St, name: &Name, origin: VersionPlace) -> Plan
 pub fn branch_of<St: Store>(store: &St, name: &Name, origin: &VersionName) -> Plan
     ensures told { result.told ≡
         (branch_out (dataset_of (St.state store.now)) name.now origin.now).reply }
-    ensures entry { result.entry ≡
-        branch_entry (branch_out (dataset_of (St.state store.now)) name.now origin.now).tx.made }
-    ensures fits { FitsIf (dataset_of (St.state store.now)) result.entry }
-    ensures named { is_name name.now ≡ true → IsNamedIf result.entry }
+    ensures call { result.call ≡ call_if (branch_entry
+        (branch_out (dataset_of (St.state store.now)) name.now origin.now).tx.made) }
+    ensures fits { FitsIf (dataset_of (St.state store.now)) (entry_called result.call) }
+    ensures named { is_name name.now ≡ true → IsNamedIf (entry_called result.call) }
     ensures stays { result.moved ≡ None }
 {
     match find_version(store, origin) {
@@ -139,16 +141,29 @@ pub fn branch_of<St: Store>(store: &St, name: &Name, origin: &VersionName) -> Pl
 // Makes a branch the current one.
 fn move_to<St: Store>(store: &St, name: &Name) -> Plan
     ensures told { result.told ≡ (moved_out (dataset_of (St.state store.now)) name.now).reply }
-    ensures entry { result.entry ≡ None }
+    ensures call { result.call ≡ LogCall.Nothing }
     ensures moved { result.moved ≡ (moved_out (dataset_of (St.state store.now)) name.now).tx.moved }
 {
     match store.branch(name) {
         None => plain(refused(Refusal::NoBranch { branch: *name })),
         Some(branch) => Plan {
             told: done(),
-            entry: None,
+            call: LogCall::Nothing,
             moved: Some(branch),
         },
+    }
+}
+
+// Asks for an image of the state.
+fn saved() -> Plan
+    ensures told { result.told ≡ Reply.Done }
+    ensures call { result.call ≡ LogCall.Save }
+    ensures moved { result.moved ≡ None }
+{
+    Plan {
+        told: done(),
+        call: LogCall::Save,
+        moved: None,
     }
 }
 
@@ -164,9 +179,9 @@ pub fn own<St: Store>(
     requires ends { is_begin stmt.now ≡ false }
     ensures told { IfOk result (λ p. p.told ≡
         (step_out (dataset_of (St.state store.now)) current stmt.now).reply) }
-    ensures entry { IfOk result (λ p. p.entry ≡
-        entry_out (dataset_of (St.state store.now)) current stmt.now) }
-    ensures named { IfOk result (λ p. HasName stmt.now → IsNamedIf p.entry) }
+    ensures call { IfOk result (λ p. p.call ≡
+        call_of stmt.now (entry_out (dataset_of (St.state store.now)) current stmt.now)) }
+    ensures named { IfOk result (λ p. HasName stmt.now → IsNamedIf (entry_called p.call)) }
     ensures moved { IfOk result (λ p. p.moved ≡
         (step_out (dataset_of (St.state store.now)) current stmt.now).tx.moved) }
 {
@@ -183,6 +198,7 @@ pub fn own<St: Store>(
             Ok(plain(told))
         }
         Stmt::Segments => Ok(plain(done())),
+        Stmt::Checkpoint => Ok(saved()),
         Stmt::Branch { name, origin } => Ok(branch_of(store, name, origin)),
         _ => {
             let plan = alone(alloc, store, current, stmt)?;

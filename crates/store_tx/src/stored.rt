@@ -1,44 +1,56 @@
-//! What a line stores: its entry goes to the log, and then to the store.
+//! What a line asks of the log: its entry goes to the log and then to the store, or the state is written
+//! as an image.
 ghost use Rattle.std.specs.Prelude.{◌≡◌, Some, None, true, false, IfOk, OnOk, OnErr};
 ghost use Rattle.db_store.specs.Fits.{fits};
 ghost use Rattle.db_store.specs.State.{dataset_of};
 ghost use Rattle.entry_codec.specs.Spelling.{spelling};
 ghost use Rattle.entry_codec.specs.Laws.{IsNamed, IsEntry};
 ghost use Rattle.store_tx.specs.Ends.{grown};
-ghost use Rattle.store_tx.specs.Stored.{Stores, told_if, stored_if, FitsIf, IsNamedIf};
+ghost use Rattle.store_tx.specs.Stored.{Stores, entry_called, told_if, stored_if, FitsIf, IsNamedIf};
 
 use crate::twice::{Twice, refused};
 use db_outside::{Batch, BatchStop};
 use db_store::Store;
 use db_value::{Entry, Refusal};
-use entry_codec::{Log, encode, fitting_law};
+use entry_codec::{CheckpointStop, Log, encode, fitting_law};
 use std::alloc::{AllocError, Global};
 
-/// What a line that ends a transaction is to do: what it is told, the entry that is to be stored
-/// first, if there is one, and the branch to which its session moves.
+/// What a line asks of the log.
+#[derive(Drop)]
+pub enum LogCall {
+    /// The log isn't called.
+    Nothing,
+    /// An entry is to be stored.
+    Append { entry: Entry },
+    /// The state is to be written as an image.
+    Save,
+}
+
+/// What a line that ends a transaction is to do: what it is told, what is asked of the log first, and
+/// the branch to which its session moves.
 #[derive(Drop)]
 pub struct Plan {
     pub told: Twice,
-    pub entry: Option<Entry>,
+    pub call: LogCall,
     pub moved: Option<u32>,
 }
 
-/// What a line was told, and whether the log failed to store its entry.
+/// What a line was told, and whether the log failed to do what it was asked for.
 #[derive(Drop)]
 pub struct Answer {
     pub told: Twice,
     pub failed: bool,
 }
 
-/// A plan that stores nothing and moves nobody.
+/// A plan that asks nothing of the log and moves nobody.
 pub fn plain(told: Twice) -> Plan
     ensures told { result.told ≡ told }
-    ensures entry { result.entry ≡ None }
+    ensures call { result.call ≡ LogCall.Nothing }
     ensures moved { result.moved ≡ None }
 {
     Plan {
         told,
-        entry: None,
+        call: LogCall::Nothing,
         moved: None,
     }
 }
@@ -47,8 +59,7 @@ pub fn plain(told: Twice) -> Plan
 pub fn unmarked<St: Store, J: Log<St>>(_store: &St, _log: &J, told: Twice) -> Answer
     ensures told { result.told ≡ told }
     ensures failed { result.failed ≡ false }
-    ensures stores { Stores J.faults J.Keeps J.generation J.moment J.opens_since J.Quiet
-        (St.state _store.now) false None _log.now _log.now }
+    ensures stores { Stores J.Log (St.state _store.now) false LogCall.Nothing _log.now _log.now }
 {
     Answer {
         told,
@@ -103,8 +114,8 @@ fn store_entry<St: Store, J: Log<St>>(
     requires named { IsNamed entry.now }
     ensures state { IfOk result (λ failed. St.state store.new
         ≡ grown (St.state store.old) (stored_if failed (Some entry.now))) }
-    ensures stores { IfOk result (λ failed. Stores J.faults J.Keeps J.generation J.moment
-        J.opens_since J.Quiet (St.state store.old) failed (Some entry.now) log.old log.new) }
+    ensures stores { IfOk result (λ failed. Stores J.Log (St.state store.old) failed
+        (LogCall.Append entry.now) log.old log.new) }
     ensures err { OnErr result ((St.state store.new ≡ St.state store.old) × (log.new ≡ log.old)) }
 {
     if log.stores_nothing() {
@@ -136,6 +147,20 @@ fn store_entry<St: Store, J: Log<St>>(
     }
 }
 
+/// Writes the state of a store as an image. It tells whether the log failed. Want of memory calls no
+/// log.
+pub fn save<St: Store, J: Log<St>>(store: &St, log: &mut J) -> Result<bool, AllocError>
+    ensures stores { IfOk result (λ failed. Stores J.Log (St.state store.now) failed LogCall.Save
+        log.old log.new) }
+    ensures err { OnErr result (log.new ≡ log.old) }
+{
+    match log.checkpoint(store) {
+        Ok(()) => Ok(false),
+        Err(CheckpointStop::DiskFault) => Ok(true),
+        Err(CheckpointStop::Memory) => Err(AllocError),
+    }
+}
+
 // What a line was told, or that the log failed.
 fn answered(told: Twice, failed: bool) -> Answer
     ensures told { result.told ≡ told_if failed told }
@@ -150,30 +175,35 @@ fn answered(told: Twice, failed: bool) -> Answer
     Answer { told, failed }
 }
 
-/// Carries a plan out: its entry, if it has one, is stored in the log and then added to the store. All
-/// memory is taken before the log is called. If the log fails, the line is refused for the disk, and
-/// the state stays.
+/// Carries a plan out: its entry, if it has one, is stored in the log and then added to the store; or
+/// the log writes an image. All memory is taken before the log is called. If the log fails, the line is
+/// refused for the disk, and the state stays.
 pub fn carry_out<St: Store, J: Log<St>>(
     alloc: Global,
     store: &mut St,
     log: &mut J,
     plan: Plan,
 ) -> Result<Answer, AllocError>
-    requires fits { FitsIf (dataset_of (St.state store.old)) plan.entry }
-    requires named { IsNamedIf plan.entry }
+    requires fits { FitsIf (dataset_of (St.state store.old)) (entry_called plan.call) }
+    requires named { IsNamedIf (entry_called plan.call) }
     ensures told { IfOk result (λ a. a.told ≡ told_if a.failed plan.told) }
     ensures state { IfOk result (λ a. St.state store.new
-        ≡ grown (St.state store.old) (stored_if a.failed plan.entry)) }
-    ensures stores { IfOk result (λ a. Stores J.faults J.Keeps J.generation J.moment J.opens_since
-        J.Quiet (St.state store.old) a.failed plan.entry log.old log.new) }
+        ≡ grown (St.state store.old) (stored_if a.failed (entry_called plan.call))) }
+    ensures stores { IfOk result (λ a. Stores J.Log (St.state store.old) a.failed plan.call log.old
+        log.new) }
     ensures err { OnErr result ((St.state store.new ≡ St.state store.old) × (log.new ≡ log.old)) }
 {
-    let Plan { told, entry, .. } = plan;
-    match entry {
-        None => Ok(unmarked(store, log, told)),
-        Some(entry) => {
+    let Plan { told, call, .. } = plan;
+    match call {
+        LogCall::Nothing => Ok(unmarked(store, log, told)),
+        LogCall::Append { entry } => {
             let failed = store_entry(alloc, store, log, &entry)?;
             Ok(answered(told, failed))
+        }
+        LogCall::Save => {
+            let failed = save(store, log)?;
+            let answer = answered(told, failed);
+            Ok(answer)
         }
     }
 }

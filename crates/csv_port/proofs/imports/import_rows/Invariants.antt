@@ -10,6 +10,6 @@ abbrev pub invariant-loop-row : goal.invariant-loop-row
 invariant-loop-row g l = record {
   number : l.number ≡ l.row-index;
   done : (done : List Record) × (l.fn.rows ≡ done ++ drop l.row-index l.fn.rows) × (length done ≡ l.row-index)
-      × Inserted g.J.Log.faults g.J.Log.Keeps g.J.Log.generation g.J.Log.moment g.J.Log.opens_since g.J.Log.Quiet l.fn.core l.core l.fn.relation done
+      × Inserted g.J.Log l.fn.core l.core l.fn.relation done
       × (told_of l.fn.core.kept.now l.fn.relation l.fn.rows ≡ told_from (world_of l.core.kept) l.fn.relation l.row-index (drop l.row-index l.fn.rows));
 }

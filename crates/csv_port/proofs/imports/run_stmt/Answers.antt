@@ -2,4 +2,4 @@ use Rattle.csv_port.proofs.RanLemmas.{ran_stmt}
 use Rattle.csv_port.proofs.imports.run_stmt.Goals as goal
 
 pub returns-clause-ran : goal.returns-clause-ran
-returns-clause-ran g c = ran_stmt g.J.Log.faults g.J.Log.Keeps g.J.Log.generation g.J.Log.moment g.J.Log.opens_since g.J.Log.Quiet _ _ _ _ _ c.requires c.in_ok-text.ensures.spelling c.in_ok-reply.ensures.answered
+returns-clause-ran g c = ran_stmt g.J.Log _ _ _ _ _ c.requires c.in_ok-text.ensures.spelling c.in_ok-reply.ensures.answered

@@ -5,6 +5,7 @@ use Rattle.std.proofs.lemmas.List.FromFn.{length-map-range_with_len}
 use Rattle.hybrid_store.specs.Store.{layout_of}
 use Rattle.image_text.specs.declared.image.SegmentPart.{SegmentPart}
 use Rattle.image_text.specs.Spelling.{FitsSegment}
+use Rattle.db_image.specs.Imaged.{AreRanged}
 use Rattle.db_image.specs.Images.{segment_image}
 use Rattle.db_image.proofs.ImageSteps.{range_next}
 use Rattle.db_image.proofs.image_segments.segments_image.Goals as goal
@@ -16,6 +17,7 @@ loop-index-preserved c =
     record {
       value = range_next (segment_image (layout_of c.args.store.now) c.args.relation) c.loop-index.index c.loop-index.made.items c.push.new.self.items c.in_ok-segment_image.field-0 e c.in_ok-segment_image.ensures.value v.value;
       fits = subst (All FitsSegment) (sym e) (All-push FitsSegment c.loop-index.made.items c.in_ok-segment_image.field-0 v.fits c.in_ok-segment_image.ensures.fits);
+      ranged = subst (All AreRanged) (sym e) (All-push AreRanged c.loop-index.made.items c.in_ok-segment_image.field-0 v.ranged c.in_ok-segment_image.ensures.ranged);
     }
 
 pub returns-clause-fits : goal.returns-clause-fits

@@ -8,13 +8,13 @@ use Rattle.decibel_main.proofs.import.import_on.Goals as goal
 pub returns-in-Err-clause-imports : goal.returns-in-Err-clause-imports
 returns-in-Err-clause-imports g c =
     let old : g.row.J.Denot = c.args.log in
-    subst (λ (l : g.row.J.Denot). ImportsLog g.J.Log.faults g.J.Log.Keeps g.J.Log.generation g.J.Log.moment g.J.Log.opens_since g.J.Log.Quiet (g.St.Store.state c.args.store) old l c.args.relation.now c.args.input.now Memory (g.K.Sink.written c.args.sink.now) (g.K.Sink.written c.args.sink.now))
+    subst (λ (l : g.row.J.Denot). ImportsLog g.J.Log (g.St.Store.state c.args.store) old l c.args.relation.now c.args.input.now Memory (g.K.Sink.written c.args.sink.now) (g.K.Sink.written c.args.sink.now))
     (sym c.in-Err.ensures.given_back.1)
-    (imports_none g.J.Log.faults g.J.Log.Keeps g.J.Log.generation g.J.Log.moment g.J.Log.opens_since g.J.Log.Quiet (g.St.Store.state c.args.store) old c.args.relation.now c.args.input.now (g.K.Sink.written c.args.sink.now))
+    (imports_none g.J.Log (g.St.Store.state c.args.store) old c.args.relation.now c.args.input.now (g.K.Sink.written c.args.sink.now))
 
 pub returns-clause-imports : goal.returns-clause-imports
 returns-clause-imports g c =
-    imports_told g.J.Log.faults g.J.Log.Keeps g.J.Log.generation g.J.Log.moment g.J.Log.opens_since g.J.Log.Quiet c.in-Ok.core c.import-imported.new.core (g.St.Store.state c.args.store) _ c.args.log _ c.args.relation.now c.args.input.now _ c.ended-status.result _ _ c.import-imported.result
+    imports_told g.J.Log c.in-Ok.core c.import-imported.new.core (g.St.Store.state c.args.store) _ c.args.log _ c.args.relation.now c.args.input.now _ c.ended-status.result _ _ c.import-imported.result
     c.in-Ok.ensures.kept c.in-Ok.ensures.log c.into_parts-log.ensures.log c.import-imported.ensures.told c.import-imported.ensures.first c.import-imported.ensures.all c.import-imported.ensures.stops c.ended-status.ensures.told
 
 pub returns-clause-disk : goal.returns-clause-disk

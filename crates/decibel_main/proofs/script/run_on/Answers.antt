@@ -10,12 +10,12 @@ use Rattle.decibel_main.proofs.script.run_on.Goals as goal
 pub returns-in-Err-clause-runs : goal.returns-in-Err-clause-runs
 returns-in-Err-clause-runs g c =
     let old : g.row.J.Denot = c.args.log in
-    subst (λ (l : g.row.J.Denot). RunsLog g.J.Log.faults g.J.Log.Keeps g.J.Log.generation g.J.Log.moment g.J.Log.opens_since g.J.Log.Quiet (opening (g.St.Store.state c.args.store)) old l (lines_run (lines c.args.script.now)) Memory (g.K.Sink.written c.args.sink.now) (g.K.Sink.written c.args.sink.now))
+    subst (λ (l : g.row.J.Denot). RunsLog g.J.Log (opening (g.St.Store.state c.args.store)) old l (lines_run (lines c.args.script.now)) Memory (g.K.Sink.written c.args.sink.now) (g.K.Sink.written c.args.sink.now))
     (sym c.in-Err.ensures.given_back.1)
-    (runs_none g.J.Log.faults g.J.Log.Keeps g.J.Log.generation g.J.Log.moment g.J.Log.opens_since g.J.Log.Quiet (opening (g.St.Store.state c.args.store)) old (lines_run (lines c.args.script.now)) (g.K.Sink.written c.args.sink.now))
+    (runs_none g.J.Log (opening (g.St.Store.state c.args.store)) old (lines_run (lines c.args.script.now)) (g.K.Sink.written c.args.sink.now))
 
 pub returns-clause-runs : goal.returns-clause-runs
 returns-clause-runs g c =
-    run_told g.J.Log.faults g.J.Log.Keeps g.J.Log.generation g.J.Log.moment g.J.Log.opens_since g.J.Log.Quiet c.in-Ok.core c.run_script-ran.new.core (g.St.Store.state c.args.store) _ c.args.log _ (lines_run (lines c.args.script.now)) _ _ c.run_script-ran.result c.ended-status.result _ _
+    run_told g.J.Log c.in-Ok.core c.run_script-ran.new.core (g.St.Store.state c.args.store) _ c.args.log _ (lines_run (lines c.args.script.now)) _ _ c.run_script-ran.result c.ended-status.result _ _
     c.in-Ok.ensures.kept c.in-Ok.ensures.log c.into_parts-log.ensures.log c.fault_count-before.ensures c.fault_count.ensures
     c.run_script-ran.ensures.all c.run_script-ran.ensures.cut c.run_script-ran.ensures.whole c.ended-status.ensures

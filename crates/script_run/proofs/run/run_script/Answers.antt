@@ -19,7 +19,7 @@ loop-rest-init g c = record {
     [],
     refl,
     hears_none c.args.core.now.kept,
-    stores_none g.J.Log.faults g.J.Log.Keeps g.J.Log.generation g.J.Log.moment g.J.Log.opens_since g.J.Log.Quiet (world_of c.args.core.now.kept) c.args.core.now.log,
+    stores_none g.J.Log (world_of c.args.core.now.kept) c.args.core.now.log,
     λ old h. h ∙ ap Some (sym (append-nil old) ∙ ap (λ t. old ++ t) (sym (out_end (world_of c.args.core.now.kept)))),
   );
   stands = c.stands.ensures;
@@ -49,7 +49,7 @@ loop-rest-preserved g c =
         r.0 ++ m ∷ [],
         at_line _ (lines_of r.0) c.loop-rest.rest.now line more r.1 c.first_line.ensures.lines run ∙ sym (lines_more r.0 m (lines_run more)),
         hears_more c.args.core.now.kept c.loop-rest.core.kept c.run_line.new.core.kept r.0 (m ∷ []) r.2 a.1.heard,
-        ran_more g.J.Log.faults g.J.Log.Keeps g.J.Log.generation g.J.Log.moment g.J.Log.opens_since g.J.Log.Quiet c.args.core.now c.loop-rest.core c.run_line.new.core r.0 m c.loop-rest.invariant.stands r.2 r.3 a.1,
+        ran_more g.J.Log c.args.core.now c.loop-rest.core c.run_line.new.core r.0 m c.loop-rest.invariant.stands r.2 r.3 a.1,
         more_output c.args.core.now.kept c.loop-rest.core.kept r.0 m _ _ _ c.stands.ensures r.2 r.4 a.2,
       );
       stands = c.run_line.ensures.stands;
@@ -68,7 +68,7 @@ returns-in-Err-clause-cut g c = λ f.
       done = r.0;
       last = m;
       rest = lines_run more;
-      runs = runs_more g.J.Log.faults g.J.Log.Keeps g.J.Log.generation g.J.Log.moment g.J.Log.opens_since g.J.Log.Quiet c.args.core.now c.loop-rest.core c.run_line.new.core _ r.0 m (lines_run more)
+      runs = runs_more g.J.Log c.args.core.now c.loop-rest.core c.run_line.new.core _ r.0 m (lines_run more)
           (at_line _ (lines_of r.0) c.loop-rest.rest.now line more r.1 c.first_line.ensures.lines run) c.loop-rest.invariant.stands c.run_line.ensures.stands r.2 r.3 a.1;
       answers = λ later. short_then _ _ _ (out (world_of c.args.core.now.kept) r.0) (answer_of (world_after (world_of c.args.core.now.kept) r.0) m later) r.4
           (subst (λ (v : World). AppendsShort (g.K.Sink.written c.loop-rest.sink) (g.K.Sink.written c.run_line.new.sink) [] (answer_of v m later)) (heard_world c.args.core.now.kept c.loop-rest.core.kept r.0 r.2) (a.2 later));
@@ -81,7 +81,7 @@ returns-in-Err-clause-whole g c = λ f.
     let more = lines c.first_line.result.1.now in
     let run = not_passed line more (sym c.passes_over.ensures ∙ c.if-passes_over.false) in
     let a = c.in-Err.ensures.memory f in
-    runs_whole g.J.Log.faults g.J.Log.Keeps g.J.Log.generation g.J.Log.moment g.J.Log.opens_since g.J.Log.Quiet c.args.core.now c.loop-rest.core c.run_line.new.core _ r.0 line (lines_run more) _ _
+    runs_whole g.J.Log c.args.core.now c.loop-rest.core c.run_line.new.core _ r.0 line (lines_run more) _ _
     (at_line _ (lines_of r.0) c.loop-rest.rest.now line more r.1 c.first_line.ensures.lines run) c.loop-rest.invariant.stands c.run_line.ensures.stands r.2 r.3
     (subst (λ s. Appends (g.K.Sink.written c.args.sink.now) (g.K.Sink.written s) (out (world_of c.args.core.now.kept) r.0)) (sym a.0) r.4) a.1
 
@@ -90,7 +90,7 @@ returns-clause-all g c =
     let r = c.loop-rest.invariant.ran in
     record {
       ran = r.0;
-      runs = runs_to g.J.Log.faults g.J.Log.Keeps g.J.Log.generation g.J.Log.moment g.J.Log.opens_since g.J.Log.Quiet c.args.core.now c.loop-rest.core _ r.0 []
+      runs = runs_to g.J.Log c.args.core.now c.loop-rest.core _ r.0 []
           (r.1 ∙ ap (λ t. lines_of r.0 ++ lines_run t) (lines_empty c.loop-rest.rest.now (eqb-true _ _ (sym c.is_empty.ensures ∙ c.loop-rest-test.false)))) c.loop-rest.invariant.stands r.2 r.3;
       answers = r.4;
     }

@@ -7,4 +7,4 @@ pub returns-in-Err-clause-err : goal.returns-in-Err-clause-err
 returns-in-Err-clause-err g c = not_run c.args.sections.now c.args.board.kept c.args.board.kept c.requires.board refl
 
 pub returns-in-Err-clause-stored : goal.returns-in-Err-clause-stored
-returns-in-Err-clause-stored g c = steps_none g.J.Log.faults g.J.Log.Keeps g.J.Log.generation g.J.Log.moment g.J.Log.opens_since g.J.Log.Quiet c.args.board c.requires.board.1
+returns-in-Err-clause-stored g c = steps_none g.J.Log c.args.board c.requires.board.1

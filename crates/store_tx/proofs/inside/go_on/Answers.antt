@@ -10,7 +10,7 @@ returns-in_ok-answer-in_default g c =
     let d = dataset_of (g.St.Store.state c.args.store.now) in
     let x = c.args.stmt.now in
     let not = c.in_default in
-    let one = step_acts d c.args.branch c.args.tx.now x (goes_on x c.requires.goes_on not.not-Begin not.not-On not.not-LogOf not.not-Branch not.not-Graph not.not-Segments) in
+    let one = step_acts d c.args.branch c.args.tx.now x (goes_on x c.requires.goes_on not.not-Begin not.not-On not.not-LogOf not.not-Branch not.not-Graph not.not-Segments not.not-Checkpoint) in
     record {
       reply = c.in_ok-answer-in_default.ensures.reply ∙ ap (λ (o : Outcome (List Overlay)). o.reply) (sym one);
       tx = record { tx = c.in_ok-answer-in_default.ensures.tx.tx ∙ ap (λ (o : Outcome (List Overlay)). o.tx) (sym one); keeps = c.in_ok-answer-in_default.ensures.tx.keeps };

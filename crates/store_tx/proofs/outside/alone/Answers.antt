@@ -7,7 +7,8 @@ use Rattle.branch_tx.proofs.Acts.{is_done}
 use Rattle.line_needs.specs.Needs.{needs}
 use Rattle.store_tx.specs.Keeps.{tagged}
 use Rattle.store_tx.specs.Statements.{act_over}
-use Rattle.store_tx.specs.Stored.{IsNamedIf}
+use Rattle.store_tx.specs.declared.stored.LogCall.{LogCall}
+use Rattle.store_tx.specs.Stored.{IsNamedIf, call_if, entry_called}
 use Rattle.store_tx.proofs.Tagged.{tagged_new}
 use Rattle.store_tx.proofs.OwnLines.{own_told, own_stored, own_answered, own_none, done_is, not_done}
 use Rattle.store_tx.proofs.outside.alone.Goals as goal
@@ -35,8 +36,8 @@ returns g c =
     let other = not_done c.in_ok-told.told (ap is_done (sym c.reply.ensures) ∙ sym c.is_done.ensures ∙ c.if-is_done.false) in
     record {
       told = c.plain.ensures.told ∙ own_answered d b x c.in_ok-told.told c.requires.works reply other;
-      entry = c.plain.ensures.entry ∙ own_none d b x c.in_ok-told.told c.requires.works reply other;
-      named = subst IsNamedIf (sym c.plain.ensures.entry) tt;
+      call = c.plain.ensures.call ∙ ap call_if (own_none d b x c.in_ok-told.told c.requires.works reply other);
+      named = subst (λ (call : LogCall). IsNamedIf (entry_called call)) (sym c.plain.ensures.call) tt;
       stays = c.plain.ensures.moved;
     }
 
@@ -50,10 +51,10 @@ returns-then-is_done-clause-told g c =
     let reply = c.in_ok-told.ensures.reply ∙ ap (λ (t : Tx (List Overlay)). (act_over d b t x).reply) c.in_ok-tx.ensures.tx in
     c.in_ok-committed.ensures.told ∙ own_told d b x (tx_in c.work_twice.new.tx) c.in_ok-told.told (g.met.St.Store.counted s) c.requires.works now reply (done_is c.in_ok-told.told (ap is_done (sym c.reply.ensures) ∙ sym c.is_done.ensures ∙ c.if-is_done.true))
 
-pub returns-then-is_done-clause-entry : goal.returns-then-is_done-clause-entry
-returns-then-is_done-clause-entry g c =
+pub returns-then-is_done-clause-call : goal.returns-then-is_done-clause-call
+returns-then-is_done-clause-call g c =
     let d = dataset_of (g.St.Store.state c.args.store.now) in
     let b = c.args.branch in
     let x = c.args.stmt.now in
     let now = c.in_ok-told.ensures.tx.tx ∙ ap (λ (t : Tx (List Overlay)). (act_over d b t x).tx) c.in_ok-tx.ensures.tx in
-    c.in_ok-committed.ensures.entry ∙ own_stored d b x (tx_in c.work_twice.new.tx) c.requires.works now
+    c.in_ok-committed.ensures.call ∙ ap call_if (own_stored d b x (tx_in c.work_twice.new.tx) c.requires.works now)

@@ -104,7 +104,7 @@ invariant_of-self g c =
     let grown : PenGrown pen1 pen2 n (drop from grown2.steps) = subst (λ (ss : List Step). PenGrown pen1 pen2 n (drop from ss)) c.steps.ensures c.write_and_give.ensures.pen in (
       room_now named numbers o since note pen0 board out issued rf n k q pf pen1 taken fits grown2 more.0 more.1 now.stands pen2 from from_is grown,
       first_caught board grown2 k k1 c.enter-told.result caught ∙ c.self.invariant.1,
-      since_caught g.J.Log.faults g.J.Log.Keeps g.J.Log.generation g.J.Log.moment g.J.Log.opens_since g.J.Log.Quiet g.T.LogTag.log c.self.inside.board c.enter-told.new.self k k1 (agree named numbers o since note pen0 board out issued rf n k q pf pen1 taken fits) c.self.invariant.2 c.enter-told.result c.enter-told.ensures.ok c.enter-told.ensures.err,
+      since_caught g.J.Log g.T.LogTag.log c.self.inside.board c.enter-told.new.self k k1 (agree named numbers o since note pen0 board out issued rf n k q pf pen1 taken fits) c.self.invariant.2 c.enter-told.result c.enter-told.ensures.ok c.enter-told.ensures.err,
     )
 
 pub invariant_of-self-2 : goal.invariant_of-self-2
@@ -140,7 +140,7 @@ invariant_of-self-2 g c =
     let grown : PenGrown pen1 pen2 n (drop from grown2.steps) = subst (λ (ss : List Step). PenGrown pen1 pen2 n (drop from ss)) c.steps.ensures c.write_and_give.ensures.pen in (
       room_now named numbers o since note pen0 board out issued rf n k q pf pen1 taken fits grown2 more.0 more.1 now.stands pen2 from from_is grown,
       first_caught board grown2 k k1 c.enter-told.result caught ∙ c.self.invariant.1,
-      since_caught g.J.Log.faults g.J.Log.Keeps g.J.Log.generation g.J.Log.moment g.J.Log.opens_since g.J.Log.Quiet g.T.LogTag.log c.self.inside.board c.enter-told.new.self k k1 (agree named numbers o since note pen0 board out issued rf n k q pf pen1 taken fits) c.self.invariant.2 c.enter-told.result c.enter-told.ensures.ok c.enter-told.ensures.err,
+      since_caught g.J.Log g.T.LogTag.log c.self.inside.board c.enter-told.new.self k k1 (agree named numbers o since note pen0 board out issued rf n k q pf pen1 taken fits) c.self.invariant.2 c.enter-told.result c.enter-told.ensures.ok c.enter-told.ensures.err,
     )
 
 pub returns-in_err-pass-clause-stays : goal.returns-in_err-pass-clause-stays

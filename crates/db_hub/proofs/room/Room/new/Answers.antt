@@ -9,5 +9,5 @@ invariant_of-result g c = (
   subst (λ (out : List (ℕ × ℕ)). RoomFits g.T.Tag.note g.T.Tag.numbers g.T.Tag.opened g.T.Tag.since c.args.note c.args.pen c.args.board.kept out 0) (sym c.new.ensures.items)
       (room_new g.T.Tag.note g.T.Tag.numbers g.T.Tag.opened g.T.Tag.since c.args.note c.args.pen c.args.board.kept c.requires.note c.requires.pen c.requires.opened.0 c.requires.board.1 c.requires.board.0),
   c.requires.opened.1,
-  since_none g.J.Log.faults g.J.Log.Keeps g.J.Log.generation g.J.Log.moment g.J.Log.opens_since g.J.Log.Quiet g.T.LogTag.log c.args.board c.requires.board.1 c.requires.log,
+  since_none g.J.Log g.T.LogTag.log c.args.board c.requires.board.1 c.requires.log,
 )

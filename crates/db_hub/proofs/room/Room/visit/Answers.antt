@@ -134,7 +134,7 @@ invariant_of-self g c =
     let grown : PenGrown pen1 pen2 n (drop from grown2.steps) = subst (λ (ss : List Step). PenGrown pen1 pen2 n (drop from ss)) c.steps.ensures c.write_and_give.ensures.pen in (
       room_now named numbers o since note pen0 board out issued rf n k q pf pen1 taken fits grown2 more.0 more.1 now.stands pen2 from from_is grown,
       first_told board grown2 k k1 text c.visit-told.result told ∙ c.self.invariant.1,
-      since_told g.J.Log.faults g.J.Log.Keeps g.J.Log.generation g.J.Log.moment g.J.Log.opens_since g.J.Log.Quiet g.T.LogTag.log c.self.inside.board c.visit-told.new.self k k1 (agree named numbers o since note pen0 board out issued rf n k q pf pen1 taken fits) c.self.invariant.2 text c.visit-told.result c.visit-told.ensures.answered c.visit-told.ensures.err,
+      since_told g.J.Log g.T.LogTag.log c.self.inside.board c.visit-told.new.self k k1 (agree named numbers o since note pen0 board out issued rf n k q pf pen1 taken fits) c.self.invariant.2 text c.visit-told.result c.visit-told.ensures.answered c.visit-told.ensures.err,
     )
 
 pub invariant_of-self-2 : goal.invariant_of-self-2
@@ -172,7 +172,7 @@ invariant_of-self-2 g c =
     let grown : PenGrown pen1 pen2 n (drop from grown2.steps) = subst (λ (ss : List Step). PenGrown pen1 pen2 n (drop from ss)) c.steps.ensures c.write_and_give.ensures.pen in (
       room_now named numbers o since note pen0 board out issued rf n k q pf pen1 taken fits grown2 more.0 more.1 now.stands pen2 from from_is grown,
       first_told board grown2 k k1 text c.visit-told.result told ∙ c.self.invariant.1,
-      since_told g.J.Log.faults g.J.Log.Keeps g.J.Log.generation g.J.Log.moment g.J.Log.opens_since g.J.Log.Quiet g.T.LogTag.log c.self.inside.board c.visit-told.new.self k k1 (agree named numbers o since note pen0 board out issued rf n k q pf pen1 taken fits) c.self.invariant.2 text c.visit-told.result c.visit-told.ensures.answered c.visit-told.ensures.err,
+      since_told g.J.Log g.T.LogTag.log c.self.inside.board c.visit-told.new.self k k1 (agree named numbers o since note pen0 board out issued rf n k q pf pen1 taken fits) c.self.invariant.2 text c.visit-told.result c.visit-told.ensures.answered c.visit-told.ensures.err,
     )
 
 pub returns-in_err-pass-clause-stays : goal.returns-in_err-pass-clause-stays
@@ -426,4 +426,4 @@ returns-clause-answered g c =
     let pen1 : AtPen = c.take_in.new.pen in
     let taken = c.take_in.ensures.taken in
     let fits = c.take_in.ensures.fits in
-    subst (λ (p : AtRoom _ × AtSeat). IfOk c.visit-told.result (Ran g.J.Log.faults g.J.Log.Keeps g.J.Log.generation g.J.Log.moment g.J.Log.opens_since g.J.Log.Quiet (record p.0.board { kept = entered p.0.board.kept p.1.desk }) c.visit-told.new.self c.args.text.now)) (λ i. (c.self.view_is i, seat_is i)) c.visit-told.ensures.answered
+    subst (λ (p : AtRoom _ × AtSeat). IfOk c.visit-told.result (Ran g.J.Log (record p.0.board { kept = entered p.0.board.kept p.1.desk }) c.visit-told.new.self c.args.text.now)) (λ i. (c.self.view_is i, seat_is i)) c.visit-told.ensures.answered
