@@ -3,14 +3,14 @@ use Rattle.std.proofs.Common.{◌≡◌, ◌≢◌, ◌⊎◌, inl, inr, ℕ, ze
 use Rattle.std.specs.Prelude.{nat_le}
 use Rattle.std.specs.List.{All, range_with_len}
 use Rattle.std.proofs.Math.Nat.{zero-div}
-use Rattle.std.proofs.lemmas.Bool.{eq-eqb, ne_eqb, cases_eq, cases_lt, leb-true}
+use Rattle.std.proofs.lemmas.Bool.{eq-eqb, ne_eqb, cases_eq, cases_lt, leb-true, le-leb}
 use Rattle.std.proofs.lemmas.List.{get_or_past, append-nil}
 use Rattle.std.proofs.lemmas.List.Elements.{filter-append, All-cons}
 use Rattle.plain_bits.specs.Truth.{differ}
 use Rattle.commit_history.specs.Sparse.{is_flipped, flipped}
 use Rattle.image_text.specs.declared.image.Delta.{Delta}
 use Rattle.image_parts.specs.Whole.{word_bit, delta_bit}
-use Rattle.db_image.specs.Parts.{bits_of}
+use Rattle.db_image.specs.Parts.{bits_of, slots_between}
 
 pub clear_before : (d : Delta) (k : ℕ) → k < 64 * d.first → delta_bit d k ≡ false
 clear_before d k l = ap (λ q. q && word_bit (get_or d.words (k / 64 - d.first) 0) (k % 64)) (gt-leb d.first (k / 64) (omega (arith, l)))
@@ -22,7 +22,7 @@ clear_before d k l = ap (λ q. q && word_bit (get_or d.words (k / 64 - d.first) 
         at true e = absurd (let t = leb-true a b e in omega (arith, t, h))
         at false e = refl
 
-no_word_bit : (k : ℕ) → word_bit 0 k ≡ false
+pub no_word_bit : (k : ℕ) → word_bit 0 k ≡ false
 no_word_bit k = ap (λ n. n % 2 == 1) (zero-div (2 ^ k))
 
 and_false : (q : Bool) → (q && false) ≡ false
@@ -42,9 +42,16 @@ clear_words d k none =
     ∙ ap (λ q. nat_le d.first (k / 64) && q) (no_word_bit (k % 64))
     ∙ and_false (nat_le d.first (k / 64))
 
--- the slots from one up to another whose bits are set
-abbrev pub slots_between : (ℕ → Bool) → ℕ → ℕ → List ℕ
-slots_between p from slot = filter p (range_with_len from (slot - from))
+-- the bit of a slot is one of its word
+pub word_there : (d : Delta) (slot k w : ℕ) → k / 64 ≡ slot / 64 → d.first ≤ slot / 64 → w ≡ get_or d.words (slot / 64 - d.first) 0 → delta_bit d k ≡ word_bit w (k % 64)
+word_there d slot k w same le is =
+    (λ i. le-leb d.first (k / 64) (omega (arith, same, le)) i && word_bit (get_or d.words (k / 64 - d.first) 0) (k % 64))
+    ∙ ap (λ n. word_bit (get_or d.words (n - d.first) 0) (k % 64)) same
+    ∙ ap (λ n. word_bit n (k % 64)) (sym is)
+
+-- before the first word there is none
+pub no_word : (d : Delta) (slot k : ℕ) → k / 64 ≡ slot / 64 → slot / 64 < d.first → delta_bit d k ≡ word_bit 0 (k % 64)
+no_word d slot k same lt = clear_before d k (omega (arith, same, lt)) ∙ sym (no_word_bit (k % 64))
 
 range_more : (a n : ℕ) → range_with_len a (suc n) ≡ range_with_len a n ++ (a + n) ∷ []
 range_more a zero = let e : a ≡ a + 0 = omega arith in λ i. e i ∷ []
@@ -64,6 +71,22 @@ goes p from slot old new le e o =
     at : (q : Bool) → cond q (old ++ slot ∷ []) old ≡ old ++ cond q (slot ∷ []) []
     at true = refl
     at false = sym (append-nil old)
+
+skips_more : (p : ℕ → Bool) (from slot n : ℕ) → from ≤ slot → ((k : ℕ) → slot ≤ k → k < slot + n → p k ≡ false)
+    → slots_between p from slot ≡ slots_between p from (slot + n)
+skips_more p from slot zero le none = let e : slot ≡ slot + 0 = omega arith in ap (slots_between p from) e
+skips_more p from slot (suc n) le none =
+    let e : slot + n + 1 ≡ slot + suc n = omega arith in
+    skips_more p from slot n le (λ k a b. none k a (omega (arith, b)))
+    ∙ goes p from (slot + n) (slots_between p from (slot + n)) (slots_between p from (slot + n)) (omega (arith, le)) (sym (ap (λ b. cond b (slots_between p from (slot + n) ++ (slot + n) ∷ []) (slots_between p from (slot + n))) (none (slot + n) (omega arith) (omega arith)))) refl
+    ∙ ap (slots_between p from) e
+
+-- slots that are not set add none
+pub skips : (p : ℕ → Bool) (from slot next : ℕ) → from ≤ slot → slot ≤ next → ((k : ℕ) → slot ≤ k → k < next → p k ≡ false)
+    → slots_between p from slot ≡ slots_between p from next
+skips p from slot next le more none =
+    let e : slot + (next - slot) ≡ next = omega (arith, more) in
+    skips_more p from slot (next - slot) le (λ k a b. none k a (omega (arith, b, more))) ∙ ap (slots_between p from) e
 
 differ_false : (a : Bool) → differ a false ≡ a
 differ_false true = refl

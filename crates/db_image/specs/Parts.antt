@@ -1,5 +1,5 @@
 -- The parts of a layout that an image stands for.
-use Rattle.std.specs.Prelude.{ℕ, zero, suc, ◌-◌, ◌^◌, ◌<◌, Bool, List, [], ◌∷◌, ◌++◌, length, map, Option, Some, None}
+use Rattle.std.specs.Prelude.{ℕ, zero, suc, ◌-◌, ◌^◌, ◌<◌, Bool, List, [], ◌∷◌, ◌++◌, length, map, filter, Option, Some, None}
 use Rattle.std.specs.List.{All, range_with_len}
 use Rattle.segment.specs.Pages.{AreWide}
 use Rattle.std.proofs.Common.{get_or}
@@ -29,6 +29,10 @@ version_part v = record { branch = v.branch; second = v.second }
 -- the bits of a delta over so many records
 abbrev pub bits_of : ℕ → Delta → List Bool
 bits_of size d = map (delta_bit d) (range_with_len 0 size)
+
+-- the slots from one up to another for which a rule holds
+abbrev pub slots_between : (ℕ → Bool) → ℕ → ℕ → List ℕ
+slots_between p from slot = filter p (range_with_len from (slot - from))
 
 -- a row over so many records, as the layout has it
 abbrev pub row_part : ℕ → RowPart → RowLaid

@@ -1,28 +1,30 @@
 //! The deltas of a layout, from those of an image.
-ghost use Rattle.std.specs.Prelude.{◌≡◌, ℕ, ◌<◌, ◌≤◌, false, cond, [], ◌∷◌, ◌++◌, IfOk, OnOk};
+ghost use Rattle.std.specs.Prelude.{◌≡◌, ℕ, ◌<◌, ◌≤◌, ◌/◌, ◌%◌, false, cond, [], ◌∷◌, ◌++◌, IfOk, OnOk};
 ghost use Rattle.std.specs.List.{All};
 ghost use Rattle.commit_history.specs.Sparse.{is_flipped};
-ghost use Rattle.image_parts.specs.Whole.{delta_bit};
-ghost use Rattle.db_image.specs.Parts.{bits_of};
+ghost use Rattle.image_parts.specs.Whole.{delta_bit, word_bit};
+ghost use Rattle.db_image.specs.Parts.{bits_of, slots_between};
 
 use commit_history::Delta;
 use image_text::Delta as DeltaRead;
 use std::alloc::{AllocError, Global};
 
-// The bit of a slot in a delta.
-fn has_slot(delta: &DeltaRead, slot: u32) -> bool
-    ensures { result ≡ delta_bit delta.now slot }
+// The word of a slot.
+#[tactic(auto, using(crate::proofs::Slots::word_there, crate::proofs::Slots::no_word))]
+fn word_of(delta: &DeltaRead, slot: u32) -> u64
+    ensures { (k : ℕ) → k / 64 ≡ slot / 64
+        → delta_bit delta.now k ≡ word_bit result (k % 64) }
 {
     let at = slot / 64;
     if at < delta.first {
-        return false;
+        return 0;
     }
     let words = delta.words.as_slice();
     let place = (at - delta.first) as usize;
-    if place >= words.len() {
-        return false;
+    if place < words.len() {
+        return words[place];
     }
-    (words[place] >> (slot % 64)) % 2 == 1
+    0
 }
 
 // Before this slot no bit is set.
@@ -51,15 +53,52 @@ fn end_slot(delta: &DeltaRead, size: u32) -> u32
     size
 }
 
-// Puts a slot after the others, if its bit is set.
-fn put_slot(slots: &mut Vec<u32>, delta: &DeltaRead, slot: u32) -> Result<(), AllocError>
-    ensures { OnOk result (slots.new.items
-        ≡ cond (delta_bit delta.now slot) (slots.old.items ++ slot ∷ []) slots.old.items) }
+// The first slot of the next word, or the end.
+fn next_word(slot: u32, end: u32) -> u32
+    requires { slot < end }
+    ensures further { slot < result }
+    ensures within { result ≤ end }
+    ensures one_word { (k : ℕ) → slot ≤ k → k < result → k / 64 ≡ slot / 64 }
 {
-    if has_slot(delta, slot) {
+    let next = 64 * (slot as u64 / 64 + 1);
+    if next < end as u64 {
+        return next as u32;
+    }
+    end
+}
+
+fn has_bit(word: u64, slot: u32) -> bool
+    ensures { result ≡ word_bit word (slot % 64) }
+{
+    (word >> (slot % 64)) % 2 == 1
+}
+
+fn put_slot(slots: &mut Vec<u32>, slot: u32, is_set: bool) -> Result<(), AllocError>
+    ensures { OnOk result (slots.new.items
+        ≡ cond is_set (slots.old.items ++ slot ∷ []) slots.old.items) }
+{
+    if is_set {
         slots.push(slot)?;
     }
     Ok(())
+}
+
+// Puts a slot after the others, if its bit is set, or passes over a word that is 0. Tells the next
+// slot.
+fn put_next(slots: &mut Vec<u32>, delta: &DeltaRead, slot: u32, end: u32) -> Result<u32, AllocError>
+    requires { slot < end }
+    ensures further { IfOk result (λ next. slot < next) }
+    ensures within { IfOk result (λ next. next ≤ end) }
+    ensures put { IfOk result (λ next. (from : ℕ) → from ≤ slot
+        → slots.old.items ≡ slots_between (delta_bit delta.now) from slot
+        → slots.new.items ≡ slots_between (delta_bit delta.now) from next) }
+{
+    let word = word_of(delta, slot);
+    if word == 0 {
+        return Ok(next_word(slot, end));
+    }
+    put_slot(slots, slot, has_bit(word, slot))?;
+    Ok(slot + 1)
 }
 
 // The slots whose bits are set.
@@ -71,8 +110,9 @@ fn slots_in(alloc: Global, delta: &DeltaRead, size: u32) -> Result<Vec<u32>, All
     let mut slots = Vec::new(alloc);
     let from = first_slot(delta, size);
     let end = end_slot(delta, size);
-    for slot in from..end {
-        put_slot(&mut slots, delta, slot)?;
+    let mut slot = from;
+    'places: while slot < end {
+        slot = put_next(&mut slots, delta, slot, end)?;
     }
     Ok(slots)
 }

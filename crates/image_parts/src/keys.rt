@@ -137,6 +137,9 @@ impl Walk {
         ensures agrees { Agrees numbers.now self.new }
         ensures flips { Flips base size (word_at at word) self.old.bits.items self.new.bits.items }
     {
+        if word == 0 {
+            return;
+        }
         'bits: for k in 0..64u32 {
             let slot = 64 * at + k as usize;
             if slot < size && (word >> k) % 2 == 1 {
