@@ -1,0 +1,7 @@
+//! Tests of runs of scripts, on devices in memory that fail. Nothing here is called.
+#![tactic(auto)]
+
+#[cfg(test)]
+mod device_tests;
+#[cfg(test)]
+mod stop_tests;
