@@ -32,8 +32,8 @@ loop-row-init g c = record {
   );
 }
 
-pub run_stmt-requires-in-loop-row : goal.run_stmt-requires-in-loop-row
-run_stmt-requires-in-loop-row g c =
+pub run_insert-requires : goal.run_insert-requires
+run_insert-requires g c =
     let d = c.loop-row.invariant.done in
     let i = c.loop-row.row-index in
     let rows = c.args.rows.now in
@@ -62,7 +62,7 @@ returns-in-Some-clause-told g c =
     let parts : rows ≡ d.0 ++ row ∷ left = d.1 ∙ ap (λ (t : List Record). d.0 ++ t) next in
     let reads : ReadsAs (insert_row c.args.relation.now row) = insert_back c.args.relation.now c.requires.can.rows.columns row c.requires.can.named c.requires.can.rows.some c.requires.can.rows.few (all_at (IsRow c.requires.can.rows.columns) d.0 left row (subst (AllByRecursion (IsRow c.requires.can.rows.columns)) parts c.requires.can.rows.rows_are)) in
     let stop : stop_by (i + 1) c.in_ok-reply.reply ≡ Some c.in-Some.stop = ap (λ (n : ℕ). stop_by (n + 1) c.in_ok-reply.reply) (sym c.loop-row.invariant.number) ∙ sym c.stop_by.ensures ∙ c.in-Some.is in
-    tells_stop (i + 1) c.in_ok-reply.reply c.in-Some.stop _ stop (d.4 ∙ ap (λ (rs : List Record). told_from (world_of c.loop-row.core.kept) c.args.relation.now i rs) next ∙ told_stop g.J.Log c.args.core.now c.args.relation.now c.args.rows.now c.stands.ensures c.requires.can.fresh c.requires.some c.loop-row.core c.run_stmt-in-loop-row.new.core d.0 left row c.in_ok-reply.reply d.3 reads c.run_stmt-in-loop-row.ensures.stands c.in_ok-reply.ensures.ran i c.in-Some.stop stop)
+    tells_stop (i + 1) c.in_ok-reply.reply c.in-Some.stop _ stop (d.4 ∙ ap (λ (rs : List Record). told_from (world_of c.loop-row.core.kept) c.args.relation.now i rs) next ∙ told_stop g.J.Log c.args.core.now c.args.relation.now c.args.rows.now c.stands.ensures c.requires.can.fresh c.requires.some c.loop-row.core c.run_insert.new.core d.0 left row c.in_ok-reply.reply d.3 reads c.run_insert.ensures.stands c.in_ok-reply.ensures.ran i c.in-Some.stop stop)
 
 pub returns-in-Some-clause-first : goal.returns-in-Some-clause-first
 returns-in-Some-clause-first g c =
@@ -75,8 +75,8 @@ returns-in-Some-clause-first g c =
     let parts : rows ≡ d.0 ++ row ∷ left = d.1 ∙ ap (λ (t : List Record). d.0 ++ t) next in
     let reads : ReadsAs (insert_row c.args.relation.now row) = insert_back c.args.relation.now c.requires.can.rows.columns row c.requires.can.named c.requires.can.rows.some c.requires.can.rows.few (all_at (IsRow c.requires.can.rows.columns) d.0 left row (subst (AllByRecursion (IsRow c.requires.can.rows.columns)) parts c.requires.can.rows.rows_are)) in
     let parts2 : rows ≡ (d.0 ++ row ∷ []) ++ left = parts ∙ sym (append_assoc d.0 (row ∷ []) left) in
-    let ins = inserted_more g.J.Log c.args.core.now c.args.relation.now c.args.rows.now c.stands.ensures c.requires.can.fresh c.requires.some c.loop-row.core c.run_stmt-in-loop-row.new.core d.0 left row c.in_ok-reply.reply d.3 reads c.run_stmt-in-loop-row.ensures.stands c.in_ok-reply.ensures.ran in
-    first_some g.J.Log c.args.core.now c.args.relation.now c.args.rows.now c.stands.ensures c.requires.can.fresh c.requires.some c.run_stmt-in-loop-row.new.core (d.0 ++ row ∷ []) left parts2 ins
+    let ins = inserted_more g.J.Log c.args.core.now c.args.relation.now c.args.rows.now c.stands.ensures c.requires.can.fresh c.requires.some c.loop-row.core c.run_insert.new.core d.0 left row c.in_ok-reply.reply d.3 reads c.run_insert.ensures.stands c.in_ok-reply.ensures.ran in
+    first_some g.J.Log c.args.core.now c.args.relation.now c.args.rows.now c.stands.ensures c.requires.can.fresh c.requires.some c.run_insert.new.core (d.0 ++ row ∷ []) left parts2 ins
 
 pub returns-in-Some-clause-stops : goal.returns-in-Some-clause-stops
 returns-in-Some-clause-stops g c =
@@ -88,9 +88,9 @@ returns-in-Some-clause-stops g c =
     let next : drop i rows ≡ row ∷ left = next_row rows i row c.loop-row-test.true c.row-item.is in
     let parts : rows ≡ d.0 ++ row ∷ left = d.1 ∙ ap (λ (t : List Record). d.0 ++ t) next in
     let reads : ReadsAs (insert_row c.args.relation.now row) = insert_back c.args.relation.now c.requires.can.rows.columns row c.requires.can.named c.requires.can.rows.some c.requires.can.rows.few (all_at (IsRow c.requires.can.rows.columns) d.0 left row (subst (AllByRecursion (IsRow c.requires.can.rows.columns)) parts c.requires.can.rows.rows_are)) in
-    let ins = inserted_more g.J.Log c.args.core.now c.args.relation.now c.args.rows.now c.stands.ensures c.requires.can.fresh c.requires.some c.loop-row.core c.run_stmt-in-loop-row.new.core d.0 left row c.in_ok-reply.reply d.3 reads c.run_stmt-in-loop-row.ensures.stands c.in_ok-reply.ensures.ran in
+    let ins = inserted_more g.J.Log c.args.core.now c.args.relation.now c.args.rows.now c.stands.ensures c.requires.can.fresh c.requires.some c.loop-row.core c.run_insert.new.core d.0 left row c.in_ok-reply.reply d.3 reads c.run_insert.ensures.stands c.in_ok-reply.ensures.ran in
     let stop : stop_by (i + 1) c.in_ok-reply.reply ≡ Some c.in-Some.stop = ap (λ (n : ℕ). stop_by (n + 1) c.in_ok-reply.reply) (sym c.loop-row.invariant.number) ∙ sym c.stop_by.ensures ∙ c.in-Some.is in
-    stops_row g.J.Log c.args.core.now c.run_stmt-in-loop-row.new.core (i + 1) c.in_ok-reply.reply c.in-Some.stop stop ins.still ins.spared
+    stops_row g.J.Log c.args.core.now c.run_insert.new.core (i + 1) c.in_ok-reply.reply c.in-Some.stop stop ins.still ins.spared
 
 pub loop-row-preserved : goal.loop-row-preserved
 loop-row-preserved g c =
@@ -103,7 +103,7 @@ loop-row-preserved g c =
     let parts : rows ≡ d.0 ++ row ∷ left = d.1 ∙ ap (λ (t : List Record). d.0 ++ t) next in
     let reads : ReadsAs (insert_row c.args.relation.now row) = insert_back c.args.relation.now c.requires.can.rows.columns row c.requires.can.named c.requires.can.rows.some c.requires.can.rows.few (all_at (IsRow c.requires.can.rows.columns) d.0 left row (subst (AllByRecursion (IsRow c.requires.can.rows.columns)) parts c.requires.can.rows.rows_are)) in
     let parts2 : rows ≡ (d.0 ++ row ∷ []) ++ left = parts ∙ sym (append_assoc d.0 (row ∷ []) left) in
-    let ins = inserted_more g.J.Log c.args.core.now c.args.relation.now c.args.rows.now c.stands.ensures c.requires.can.fresh c.requires.some c.loop-row.core c.run_stmt-in-loop-row.new.core d.0 left row c.in_ok-reply.reply d.3 reads c.run_stmt-in-loop-row.ensures.stands c.in_ok-reply.ensures.ran in
+    let ins = inserted_more g.J.Log c.args.core.now c.args.relation.now c.args.rows.now c.stands.ensures c.requires.can.fresh c.requires.some c.loop-row.core c.run_insert.new.core d.0 left row c.in_ok-reply.reply d.3 reads c.run_insert.ensures.stands c.in_ok-reply.ensures.ran in
     let none : stop_by (i + 1) c.in_ok-reply.reply ≡ None = ap (λ (n : ℕ). stop_by (n + 1) c.in_ok-reply.reply) (sym c.loop-row.invariant.number) ∙ sym c.stop_by.ensures ∙ c.in-None.is in
     record {
       number = ap (λ (n : ℕ). n + 1) c.loop-row.invariant.number;
@@ -112,7 +112,7 @@ loop-row-preserved g c =
         parts2,
         length_push d.0 row ∙ ap (λ (n : ℕ). n + 1) d.2,
         ins,
-        d.4 ∙ ap (λ (rs : List Record). told_from (world_of c.loop-row.core.kept) c.args.relation.now i rs) next ∙ told_more g.J.Log c.args.core.now c.args.relation.now c.args.rows.now c.stands.ensures c.requires.can.fresh c.requires.some c.loop-row.core c.run_stmt-in-loop-row.new.core d.0 left row c.in_ok-reply.reply d.3 reads c.run_stmt-in-loop-row.ensures.stands c.in_ok-reply.ensures.ran i none,
+        d.4 ∙ ap (λ (rs : List Record). told_from (world_of c.loop-row.core.kept) c.args.relation.now i rs) next ∙ told_more g.J.Log c.args.core.now c.args.relation.now c.args.rows.now c.stands.ensures c.requires.can.fresh c.requires.some c.loop-row.core c.run_insert.new.core d.0 left row c.in_ok-reply.reply d.3 reads c.run_insert.ensures.stands c.in_ok-reply.ensures.ran i none,
       );
     }
 
