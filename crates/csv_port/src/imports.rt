@@ -12,7 +12,7 @@ use crate::stop::ImportStop;
 use crate::written::{push_behind, push_key};
 use db_core::Core;
 use db_store::Store;
-use db_value::{LineText, ListOf, Name, Record, Refusal, Reply, Schema};
+use db_value::{LineText, ListOf, Name, Record, Records, Refusal, Reply, Schema};
 use entry_codec::Log;
 use std::alloc::{AllocError, Global};
 use stmt_text::{Line, Stmt, write_line};
@@ -128,19 +128,19 @@ fn told_by(rows: u32, reply: &Reply) -> Result<Imported, ImportStop>
     }
 }
 
-// Inserts rows, of which there is one at least.
+// Inserts rows, of which there is one at least. They are let go before the commit, which takes the most memory.
 fn import_rows<St: Store, J: Log<St>>(
     alloc: Global,
     core: &mut Core<St, J>,
     relation: &Name,
-    rows: &[Record],
+    rows: Records,
 ) -> Result<Imported, ImportStop>
-    requires can { CanImport core.old.kept.steps relation.now rows.now }
-    requires some { 0 < length rows.now }
-    ensures told { Tells (told_of core.old.kept.now relation.now rows.now) result }
-    ensures first { RunsFirst J.Log core.old core.new (import_lines relation.now rows.now) }
+    requires can { CanImport core.old.kept.steps relation.now rows }
+    requires some { 0 < length rows }
+    ensures told { Tells (told_of core.old.kept.now relation.now rows) result }
+    ensures first { RunsFirst J.Log core.old core.new (import_lines relation.now rows) }
     ensures all { OnOk result
-        (RunsToEnd J.Log core.old core.new (import_lines relation.now rows.now)) }
+        (RunsToEnd J.Log core.old core.new (import_lines relation.now rows)) }
     ensures stops { IfErr result (StopsAs J.faults core.old core.new) }
 {
     core.stands();
@@ -148,7 +148,7 @@ fn import_rows<St: Store, J: Log<St>>(
     run_stmt(alloc, core, Stmt::Begin { room: Some(room) })?;
     let mut text = Vec::new(alloc);
     let mut number: u64 = 0;
-    for row in rows {
+    for row in rows.as_slice() {
         number += 1;
         let reply = run_insert(alloc, core, &mut text, relation, row)?;
         match stop_by(number, &reply) {
@@ -156,6 +156,7 @@ fn import_rows<St: Store, J: Log<St>>(
             None => {}
         }
     }
+    drop(rows);
     let reply = run_stmt(alloc, core, Stmt::Commit)?;
     told_by(number as u32, &reply)
 }
@@ -202,7 +203,7 @@ pub fn import<St: Store, J: Log<St>>(
                     position: None,
                 });
             }
-            import_rows(alloc, core, relation, rows.as_slice())
+            import_rows(alloc, core, relation, rows)
         }
     }
 }
