@@ -8,3 +8,5 @@ pub mod OpenLemmas
 pub mod RanLemmas
 pub mod RunLemmas
 pub mod TextLemmas
+pub mod KeyLemmas
+pub mod InsertLemmas

@@ -40,14 +40,14 @@ own_free ns (r ∷ rs) h =
     let free : blocks importer ns r ≡ false = ap (λ (s : ℕ). not (s == importer) && conflicts ns r.need) h.0 in
     ap (λ (q : Bool). cond q (Some (lesser (r.need.lock, r.session) (holder importer ns rs))) (holder importer ns rs)) free ∙ own_free ns rs h.1
 
-own_tagged : (ns : List Need) (rows : List Row) → AllOwn rows → AllOwn (tagged importer ns rows)
+pub own_tagged : (ns : List Need) (rows : List Row) → AllOwn rows → AllOwn (tagged importer ns rows)
 own_tagged [] rows h = h
 own_tagged (n ∷ ns) rows h = (refl, own_tagged ns rows h)
 
 -- ---- a line after which the transaction is open
 
 module _ (w : World) (x : Stmt) (own : AllOwn w.rows) (stays : fate w (heard importer x) ≡ Stays) where
-  stays_world : world_with w x ≡ next_by w importer x (w.desks importer) Stays
+  pub stays_world : world_with w x ≡ next_by w importer x (w.desks importer) Stays
   stays_world = ap (next_by w importer x (w.desks importer)) stays
 
   pub stays_alone : IsAlone (world_with w x)
@@ -70,7 +70,7 @@ pub begun_state : (s : State) → (world_with (opening s) begin_all).state ≡ s
 begun_state s = stays_state (opening s) begin_all tt refl
 
 module _ (w : World) (x : Stmt) (alone : IsAlone w) where
-  free_fate : fate w (heard importer x) ≡ fate_of false None false (is_end x)
+  pub free_fate : fate w (heard importer x) ≡ fate_of false None false (is_end x)
   free_fate = λ i. fate_of (alone.skips i) (own_free (needs_of (dataset_of w.state) (w.desks importer) x) w.rows alone.own i) false (ends (alone.goes i) x)
 
   -- a line that isn't an end

@@ -89,6 +89,10 @@ lines_parts relation rows done rest some parts =
 pub next_row : (rows : List Record) (i : ℕ) (row : Record) → i < length rows → row ≡ slice_index_or rows i row → drop i rows ≡ row ∷ drop (i + 1) rows
 next_row rows i row h e = drop-cons rows i row h ∙ ap (λ (x : Record). x ∷ drop (suc i) rows) (sym e) ∙ ap (λ (n : ℕ). row ∷ drop n rows) (sym (add-one i))
 
+-- the same in a list that is read
+pub row_here : (list rows : List Record) (i : ℕ) (row : Record) → list ≡ rows → i < length list → row ≡ slice_index_or list i row → drop i rows ≡ row ∷ drop (i + 1) rows
+row_here list rows i row same h e = subst (λ (xs : List Record). drop i xs ≡ row ∷ drop (i + 1) xs) same (next_row list i row h e)
+
 -- no row is left
 pub done_all : (rows done : List Record) (i : ℕ) → rows ≡ done ++ drop i rows → length rows ≤ i → done ≡ rows
 done_all rows done i e h = sym (e ∙ ap (λ (t : List Record). done ++ t) (drop_of_length-le rows h) ∙ append-nil done)

@@ -1,8 +1,10 @@
 -- An import of a text, by its relation and its rows.
-use Rattle.std.proofs.Common.{◌≡◌, ◌∙◌, ◌<◌, ◌≤◌, ◌&&◌, ◌∷◌, [], List, ℕ, zero, suc, true, Some, None, length, get_or, refl, sym, ap, subst, arith, nat_lt}
+use Rattle.std.proofs.Common.{◌≡◌, ◌∙◌, ◌<◌, ◌≤◌, ◌&&◌, ◌∷◌, ◌++◌, [], List, ℕ, zero, suc, true, Some, None, length, map, codes, get_or, refl, sym, ap, subst, append_assoc, arith, nat_lt}
 use Rattle.std.specs.Prelude.{Ok, Err, nat_le}
-use Rattle.std.specs.List.{list_all}
+use Rattle.std.specs.List.{flat_map, list_all}
+use Rattle.std.specs.Fmt.{decimal, signed_decimal}
 use Rattle.std.proofs.lemmas.Bool.{and_parts, leb-true, ltb-true}
+use Rattle.db_value.specs.Value.{Value}
 use Rattle.db_value.specs.Relations.{columns_at, has_columns, is_counted, no_relation}
 use Rattle.db_value.specs.declared.schema.Relation.{Relation}
 use Rattle.db_value.specs.declared.record.Record.{Record}
@@ -13,6 +15,10 @@ use Rattle.db_core.proofs.Hearing.{hears_none, runs_to}
 use Rattle.db_core.proofs.Storing.{stores_none}
 use Rattle.csv_port.specs.declared.stop.ImportStop.{ImportStop}
 use Rattle.csv_port.specs.declared.stop.ImportStop.TheVariants.{BadRow, DiskFault, Full, KeyThere, Memory, NoRelation}
+use Rattle.std.proofs.lemmas.Fmt.{decimal-digits_value}
+use Rattle.stmt_text.specs.Spelling.{behind_spaces}
+use Rattle.stmt_text.proofs.NumberLemmas.{own}
+use Rattle.csv_port.specs.Lines.{insert_row, text_by}
 use Rattle.csv_port.specs.Rows.{GivesRows, rows_in}
 use Rattle.csv_port.specs.Laws.{AreRowsOfSome}
 use Rattle.csv_port.specs.Import.{count_named, import_told, lines_told, told_in, lines_in, told_read, lines_read, Tells}
@@ -81,3 +87,22 @@ module _ {L S V P Q : Type 0} (g : Ghosts L S V P Q) where
   pub none_to_run : (old : Logged L) (all : List (List ℕ)) → all ≡ [] → Stands old.kept → RunsToEnd g old old all
   none_to_run old all none stands = subst (λ (ls : List (List ℕ)). RunsToEnd g old old ls) (sym none)
       (runs_to g old old [] [] [] refl stands (hears_none old.kept) (stores_none g (world_of old.kept) old.log), tt)
+
+-- ---- the text of an insert
+
+words_of : (vs : List Value) → flat_map (λ v. 32 ∷ signed_decimal v) vs ≡ behind_spaces (map signed_decimal vs)
+words_of [] = refl
+words_of (v ∷ vs) = ap (λ (xs : List ℕ). (32 ∷ signed_decimal v) ++ xs) (words_of vs)
+
+one_digit : 49 ∷ [] ≡ decimal 1
+one_digit = sym (decimal-digits_value own (49 ∷ []) refl (omega arith) (λ e. refl) (omega arith))
+
+-- its parts, one behind another
+pub spelled : (relation : List ℕ) (row : Record) → (((([] ++ codes "1 insert ") ++ relation) ++ 32 ∷ []) ++ decimal row.key) ++ flat_map (λ v. 32 ∷ signed_decimal v) row.fields ≡ text_by (insert_row relation row)
+spelled relation row =
+    let tail : List ℕ = flat_map (λ v. 32 ∷ signed_decimal v) row.fields in
+    append_assoc ((codes "1 insert " ++ relation) ++ 32 ∷ []) (decimal row.key) tail
+    ∙ append_assoc (codes "1 insert " ++ relation) (32 ∷ []) (decimal row.key ++ tail)
+    ∙ append_assoc (codes "1 insert ") relation (32 ∷ (decimal row.key ++ tail))
+    ∙ ap (λ (xs : List ℕ). codes "1 insert " ++ relation ++ 32 ∷ (decimal row.key ++ xs)) (words_of row.fields)
+    ∙ ap (λ (one : List ℕ). one ++ behind_spaces (codes "insert" ∷ relation ∷ decimal row.key ∷ map signed_decimal row.fields)) one_digit

@@ -2,16 +2,17 @@
 ghost use Rattle.std.specs.Prelude.{◌≡◌, ◌≤◌, ◌<◌, [], true, Ok, IfOk, IfErr, IfSome, OnOk, OnErr, length};
 ghost use Rattle.db_value.specs.Text.{is_name};
 ghost use Rattle.db_core.specs.Kept.{Stands};
-ghost use Rattle.csv_port.specs.Lines.{import_lines, ReadsAs};
+ghost use Rattle.csv_port.specs.Lines.{import_lines, insert_row, text_by, ReadsAs};
 ghost use Rattle.csv_port.specs.Import.{count_named, import_told, lines_told, stop_by, told_by, told_of, Tells};
 ghost use Rattle.csv_port.specs.Ran.{RanStmt, RunsToEnd, RunsFirst, StopsAs};
 ghost use Rattle.csv_port.specs.Laws.{CanImport};
 
 use crate::rows::{MOST_ROWS, read_rows};
 use crate::stop::ImportStop;
+use crate::written::{push_behind, push_key};
 use db_core::Core;
 use db_store::Store;
-use db_value::{Name, Record, Refusal, Reply, Schema};
+use db_value::{LineText, ListOf, Name, Record, Records, Refusal, Reply, Schema};
 use entry_codec::Log;
 use std::alloc::{AllocError, Global};
 use stmt_text::{Line, Stmt, write_line};
@@ -49,6 +50,50 @@ fn run_stmt<St: Store, J: Log<St>>(
     Ok(reply)
 }
 
+// Writes the text of the line that inserts a row, in place of another text.
+fn insert_text(mut text: Vec<u8>, relation: &Name, row: &Record) -> Result<LineText, AllocError>
+    ensures { IfOk result (λ t. t ≡ text_by (insert_row relation.now row.now)) }
+{
+    text.clear();
+    text.extend_from_slice(b"1 insert ")?;
+    text.extend_from_slice(relation.as_bytes())?;
+    text.push(b' ')?;
+    push_key(&mut text, row.key)?;
+    push_behind(&mut text, b' ', row.fields.as_slice())?;
+    Ok(ListOf::of(text))
+}
+
+// Inserts a row. The text is of no matter but for its memory, which the next row gets again.
+fn run_insert<St: Store, J: Log<St>>(
+    alloc: Global,
+    core: &mut Core<St, J>,
+    text: &mut Vec<u8>,
+    relation: &Name,
+    row: &Record,
+) -> Result<Reply, AllocError>
+    requires { ReadsAs (insert_row relation.now row.now) }
+    ensures ran { IfOk result
+        (λ r. RanStmt J.Log core.old core.new (insert_row relation.now row.now) r) }
+    ensures err { OnErr result (core.new ≡ core.old) }
+    ensures stands { Stands core.new.kept }
+{
+    core.stands();
+    let line = Line {
+        session: IMPORTER,
+        stmt: Stmt::Insert {
+            relation: *relation,
+            key: row.key,
+            fields: row.fields,
+        },
+    };
+    let own = std::mem::replace(text, Vec::new(alloc));
+    let spelled = insert_text(own, relation, row)?;
+    let reply = core.answer(&spelled, &line)?;
+    core.stands();
+    *text = spelled.into_vec();
+    Ok(reply)
+}
+
 // Why the import stops at a row, by the reply to its insert.
 fn stop_by(row: u64, reply: &Reply) -> Option<ImportStop>
     ensures { result ≡ stop_by row reply.now }
@@ -83,38 +128,35 @@ fn told_by(rows: u32, reply: &Reply) -> Result<Imported, ImportStop>
     }
 }
 
-// Inserts rows, of which there is one at least.
+// Inserts rows, of which there is one at least. They are let go before the commit, which takes the most memory.
 fn import_rows<St: Store, J: Log<St>>(
     alloc: Global,
     core: &mut Core<St, J>,
     relation: &Name,
-    rows: &[Record],
+    rows: Records,
 ) -> Result<Imported, ImportStop>
-    requires can { CanImport core.old.kept.steps relation.now rows.now }
-    requires some { 0 < length rows.now }
-    ensures told { Tells (told_of core.old.kept.now relation.now rows.now) result }
-    ensures first { RunsFirst J.Log core.old core.new (import_lines relation.now rows.now) }
+    requires can { CanImport core.old.kept.steps relation.now rows }
+    requires some { 0 < length rows }
+    ensures told { Tells (told_of core.old.kept.now relation.now rows) result }
+    ensures first { RunsFirst J.Log core.old core.new (import_lines relation.now rows) }
     ensures all { OnOk result
-        (RunsToEnd J.Log core.old core.new (import_lines relation.now rows.now)) }
+        (RunsToEnd J.Log core.old core.new (import_lines relation.now rows)) }
     ensures stops { IfErr result (StopsAs J.faults core.old core.new) }
 {
     core.stands();
     let room = MOST_ROWS as u32;
     run_stmt(alloc, core, Stmt::Begin { room: Some(room) })?;
+    let mut text = Vec::new(alloc);
     let mut number: u64 = 0;
-    for row in rows {
+    for row in rows.as_slice() {
         number += 1;
-        let insert = Stmt::Insert {
-            relation: *relation,
-            key: row.key,
-            fields: row.fields,
-        };
-        let reply = run_stmt(alloc, core, insert)?;
+        let reply = run_insert(alloc, core, &mut text, relation, row)?;
         match stop_by(number, &reply) {
             Some(stop) => return Err(stop),
             None => {}
         }
     }
+    drop(rows);
     let reply = run_stmt(alloc, core, Stmt::Commit)?;
     told_by(number as u32, &reply)
 }
@@ -161,7 +203,7 @@ pub fn import<St: Store, J: Log<St>>(
                     position: None,
                 });
             }
-            import_rows(alloc, core, relation, rows.as_slice())
+            import_rows(alloc, core, relation, rows)
         }
     }
 }

@@ -1,9 +1,9 @@
 //! Rows as text.
-ghost use Rattle.std.specs.Prelude.{◌≡◌, ◌<◌, ◌++◌, length, IfOk, OnOk};
+ghost use Rattle.std.specs.Prelude.{◌≡◌, ◌<◌, ◌++◌, ◌∷◌, length, IfOk, OnOk};
 ghost use Rattle.std.specs.List.{flat_map};
 ghost use Rattle.std.specs.Fmt.{decimal, signed_decimal};
 ghost use Rattle.db_store.specs.Table.{relation_at, rows_of};
-ghost use Rattle.csv_port.specs.Written.{next_text, row_text, rows_text};
+ghost use Rattle.csv_port.specs.Written.{row_text, rows_text};
 
 use db_store::{View, list_all};
 use db_value::{ListOf, Record, Records, Steps};
@@ -15,7 +15,7 @@ use std::sync::ledger::{Blank, Ledger};
 /// The bytes of a text of CSV.
 pub type CsvBytes = ListOf<u8>;
 
-fn push_key(out: &mut Vec<u8>, key: u64) -> Result<(), AllocError>
+pub(crate) fn push_key(out: &mut Vec<u8>, key: u64) -> Result<(), AllocError>
     ensures { OnOk result (out.new.items ≡ out.old.items ++ decimal key) }
 {
     let mut digits = Buffer::new();
@@ -29,11 +29,13 @@ fn push_value(out: &mut Vec<u8>, value: i64) -> Result<(), AllocError>
     out.extend_from_slice(digits.format(value).as_bytes())
 }
 
-fn push_values(out: &mut Vec<u8>, values: &[i64]) -> Result<(), AllocError>
-    ensures { OnOk result (out.new.items ≡ out.old.items ++ flat_map next_text values.now) }
+// Values, each behind a byte.
+pub(crate) fn push_behind(out: &mut Vec<u8>, mark: u8, values: &[i64]) -> Result<(), AllocError>
+    ensures { OnOk result (out.new.items
+        ≡ out.old.items ++ flat_map (λ v. mark ∷ signed_decimal v) values.now) }
 {
     for value in values {
-        out.extend_from_slice(b",")?;
+        out.push(mark)?;
         push_value(out, *value)?;
     }
     Ok(())
@@ -43,8 +45,9 @@ fn push_row(out: &mut Vec<u8>, row: &Record) -> Result<(), AllocError>
     ensures { OnOk result (out.new.items ≡ out.old.items ++ row_text row.now) }
 {
     push_key(out, row.key)?;
-    push_values(out, row.fields.as_slice())?;
-    out.extend_from_slice(b"\n")
+    push_behind(out, b',', row.fields.as_slice())?;
+    out.push(b'\n')?;
+    Ok(())
 }
 
 fn push_rows(out: &mut Vec<u8>, rows: &[Record]) -> Result<(), AllocError>

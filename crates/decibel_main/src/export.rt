@@ -84,6 +84,16 @@ fn export_rows<St: Store, K: Sink>(
     }
 }
 
+/// More than a list of all rows that a version can have takes at once.
+const LARGE: usize = 24 << 20;
+
+// Takes memory in one large piece and gives it back, untouched. The C library maps pieces that are large anew, each page of which is a
+// fault, and unmaps them; but a piece no larger than one that was given back it keeps. So the memory in which files were opened serves
+// again for the rows. If there is no such piece, nothing is lost.
+fn keep_large(alloc: Global) {
+    let _piece: Result<Vec<u8>, AllocError> = Vec::with_capacity(alloc, LARGE);
+}
+
 /// Writes the rows of a relation in a version of two files. It writes nothing to them.
 pub fn export_files<K: Sink, D: Disk + Drop>(
     alloc: Global,
@@ -100,6 +110,7 @@ pub fn export_files<K: Sink, D: Disk + Drop>(
     ensures causes { (result.status ≡ Status.DiskFault → RoseInOne D.Disk disks result.disks)
         × (result.status ≡ Status.WriteFault → Faulted K.faults sink.old sink.new) }
 {
+    keep_large(alloc);
     match reopen(alloc, disks) {
         Err((stop, disks)) => Finish {
             status: status_of(stop),

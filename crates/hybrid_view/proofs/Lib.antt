@@ -10,3 +10,4 @@ mod Examples
 pub mod EmptyLemmas
 pub mod SpotLemmas
 pub mod WalkLemmas
+pub mod AnewLemmas

@@ -5,7 +5,7 @@ ghost use Rattle.hybrid_view.specs.Struck.{touched_place, touched_places};
 ghost use Rattle.hybrid_view.specs.RowPlaces.{AllNext};
 ghost use Rattle.std.specs.FinMap as finite;
 ghost use Rattle.db_store.specs.Parts.{part_at, slot_at};
-ghost use Rattle.hybrid_view.specs.Live.{EachOf, Piece, empty_lived, has_live, begun_pieces, contents_in, parts_in, piece_at, IsLived, live_pieces, place_of};
+ghost use Rattle.hybrid_view.specs.Live.{EachOf, Piece, Places, empty_lived, has_live, begun_pieces, contents_in, parts_in, piece_at, IsLived, live_pieces, place_of};
 ghost use Rattle.hybrid_view.specs.Spots.{lived_of};
 ghost use Rattle.db_store.specs.LaidOut.{times};
 ghost use Rattle.key_index.specs.Places.{with_changes};
@@ -17,6 +17,10 @@ use db_value::{Change, Records};
 use key_index::{KeyIndex, SpotChanges};
 use std::alloc::{AllocError, Global};
 use std::marker::Model;
+
+/// So many keys that are put into an empty relation at once get no index before the next commit or branch: one segment
+/// has them all, and is searched by key.
+const MANY_KEYS: usize = 1024;
 
 /// The parts of a relation by ascending segment, and the index from its keys to segments and slots. Without
 /// an index a key is looked for in each part.
@@ -149,6 +153,21 @@ impl LiveRelation {
         }
     }
 
+    // The same without an index, which is made when something is put behind them.
+    fn unindexed(parts: Vec<LivePart>, count: u32) -> LiveRelation
+        requires { (places : Places)
+            × IsLived (record { pieces = parts.items; places = places; count = count }) }
+        ensures { (places : Places)
+            → IsLived (record { pieces = parts.items; places = places; count = count })
+            → result ≡ record { pieces = parts.items; places = places; count = count } }
+    {
+        LiveRelation {
+            parts,
+            index: None,
+            count,
+        }
+    }
+
     // Its index, or one that is made anew.
     fn index_of(&self, alloc: Global) -> Result<KeyIndex, AllocError>
         ensures { IfOk result (λ index. index ≡ self.now.places) }
@@ -257,6 +276,9 @@ impl LiveRelation {
         ensures count { IfOk result (λ l. l.count ≡ count) }
     {
         let parts = self.parts_after(alloc, places, head, rows)?;
+        if self.count == 0 && spots.as_slice().len() >= MANY_KEYS {
+            return Ok(LiveRelation::unindexed(parts, count));
+        }
         let index = self.index_with(alloc, spots)?;
         Ok(LiveRelation::of(parts, index, count))
     }

@@ -25,7 +25,7 @@ returns-then-is_empty-clause-all g c =
 pub import_rows-requires-clause-can : goal.import_rows-requires-clause-can
 import_rows-requires-clause-can g c = record {
   fresh = c.requires.fresh;
-  rows = subst AreRowsOfSome (sym c.as_slice-in-Ok.ensures) (are_rows c.in-Some.columns c.args.text.now c.in-Ok.rows c.in-Some.ensures.within.0 c.in-Some.ensures.within.1 c.in-Ok.ensures);
+  rows = are_rows c.in-Some.columns c.args.text.now c.in-Ok.rows c.in-Some.ensures.within.0 c.in-Some.ensures.within.1 c.in-Ok.ensures;
   named = c.requires.named;
 }
 
