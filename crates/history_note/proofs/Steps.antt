@@ -7,15 +7,18 @@ use prog.Atomic.{either}
 use Rattle.atomic_table.specs.Table.{State, Me, step, keeps, Allows, Splits, Joins, opening}
 use Rattle.atomic_table.proofs.Lists.{at_set, set_again, exchanged}
 use Rattle.db_value.specs.declared.step.Step.{Step}
+use Rattle.std.specs.declared.snapshot.Snapshot.{Snapshot}
+use Rattle.history_note.specs.declared.said.Said.{Said}
+use Rattle.history_note.specs.declared.said.Said.TheVariants.{Written, Left}
 use Rattle.history_note.specs.declared.view.NotedLine.{NotedLine}
 use Rattle.history_note.specs.declared.view.PenView.{PenView}
 use Rattle.history_note.specs.declared.view.PassView.{PassView}
 use Rattle.history_note.specs.declared.view.View.{View}
 use Rattle.history_note.specs.declared.view.View.TheVariants.{Spent, OfPen, OfPass}
-use Rattle.history_note.specs.Places.{place_if, places, owed_to, IsIssued}
-use Rattle.history_note.specs.Views.{first_pen, says_number, says_session, notes, issued, writes, noted_line, takes, lets_go, handed, noting_view, issued_view, handing_by, handed_by, handing_view, handed_view, taking_view}
-use Rattle.history_note.specs.Rule.{Fits, IsCarried, CarriedFits, IsNotCarried, IsPen, IsOut, SeatFits, KeptAs, Kept, Tells, looked, said_number, said_session, wrote}
-use Rattle.history_note.proofs.Counting.{owed_without_same, owed_without_other, noted_more, noted_last, all_issued_more, all_owed_more, all_issued_last, all_owed_without, no_places, no_debts, owed_after_is, all_owed_after, not_carried_after, rest_longer, prefix_longer, carried_write, completed_is}
+use Rattle.history_note.specs.Places.{place_if, places, owed_to, without, kept_for, IsIssued}
+use Rattle.history_note.specs.Views.{first_pen, says_number, says_session, notes, issued, writes, noted_line, leaves_by, leaves, takes, lets_go, handed, noting_view, issued_view, handing_by, handed_by, handing_view, handed_view, taking_view}
+use Rattle.history_note.specs.Rule.{Fits, IsCarried, CarriedFits, IsNotCarried, IsNext, IsPen, IsOut, SeatFits, KeptAs, Kept, Tells, looked, said_number, said_session, wrote, left_line}
+use Rattle.history_note.proofs.Counting.{owed_without_same, owed_without_other, noted_more, noted_last, all_issued_more, all_owed_more, all_issued_last, all_owed_without, no_places, no_debts, owed_after_is, all_owed_after, not_carried_after, rest_longer, prefix_longer, carried_write, completed_is, kept_none, kept_more_other, all_kept_more, all_kept_last, all_kept_without, left_move, left_kept, left_write}
 
 module _ {V : Type 0} where
   -- one view replaced
@@ -49,17 +52,33 @@ same_word x n = exchanged n x x (λ m. m ≡ n) (λ e. sym e) (λ ne. refl)
 word_after : (words : List ℕ) (n m : ℕ) (f : ℕ → ℕ) → words ≡ n ∷ [] → f n ≡ m → slice_set words 0 (f (slice_index words 0)) ≡ m ∷ []
 word_after words n m f e h = ap (λ ws. slice_set ws 0 (f (slice_index ws 0))) e ∙ ap (λ (x : ℕ). x ∷ []) h
 
+written_or : Said → Snapshot Step → Snapshot Step
+written_or (Written s) d = s
+written_or (Left t) d = d
+
+same_written : (s u : Snapshot Step) → Written s ≡ Written u → s ≡ u
+unfolding written_or
+same_written s u e = ap (λ (x : Said). written_or x s) e
+
+left_or : Said → Snapshot (List ℕ) → Snapshot (List ℕ)
+left_or (Left t) d = t
+left_or (Written s) d = d
+
+same_left : (t u : Snapshot (List ℕ)) → Left t ≡ Left u → t ≡ u
+unfolding left_or
+same_left t u e = ap (λ (x : Said). left_or x t) e
+
 module _ {St : Type 0} where
   -- what fits goes on to fit after more numbers were noted
-  carried_more : (opening : St) (noted more : List (ℕ × ℕ)) (lines : List NotedLine) (owed : List (ℕ × ℕ)) (c : Option (PassView St)) → CarriedFits opening noted lines owed c → CarriedFits opening (noted ++ more) lines owed c
-  carried_more opening noted more lines owed None h = tt
-  carried_more opening noted more lines owed (Some c) h = record { opening_is = h.opening_is; is_noted = noted_more noted more c.number c.session h.is_noted; rest = h.rest; written = h.written; prefix = h.prefix; mine_is = h.mine_is; rest_is = h.rest_is }
+  carried_more : (opening : St) (noted more : List (ℕ × ℕ)) (lines : List NotedLine) (owed : List (ℕ × ℕ)) (kept_then : Option (List ℕ)) (c : Option (PassView St)) → CarriedFits opening noted lines owed kept_then c → CarriedFits opening (noted ++ more) lines owed kept_then c
+  carried_more opening noted more lines owed kept_then None h = tt
+  carried_more opening noted more lines owed kept_then (Some c) h = record { opening_is = h.opening_is; is_noted = noted_more noted more c.number c.session h.is_noted; rest = h.rest; written = h.written; prefix = h.prefix; mine_is = h.mine_is; rest_is = h.rest_is; left_fits = h.left_fits }
 
-  fits_more : (opening : St) (noted more : List (ℕ × ℕ)) (lines : List NotedLine) (owed : List (ℕ × ℕ)) (q : PassView St) → Fits opening noted lines owed q → Fits opening (noted ++ more) lines owed q
-  fits_more opening noted more lines owed q h = record { opening_is = h.opening_is; is_noted = noted_more noted more q.number q.session h.is_noted; mine_is = h.mine_is; rest = h.rest; prefix = h.prefix; rest_is = h.rest_is }
+  fits_more : (opening : St) (noted more : List (ℕ × ℕ)) (lines : List NotedLine) (owed : List (ℕ × ℕ)) (kept : List (ℕ × List ℕ)) (q : PassView St) → Fits opening noted lines owed kept q → Fits opening (noted ++ more) lines owed kept q
+  fits_more opening noted more lines owed kept q h = record { opening_is = h.opening_is; is_noted = noted_more noted more q.number q.session h.is_noted; mine_is = h.mine_is; rest = h.rest; prefix = h.prefix; rest_is = h.rest_is; left_fits = h.left_fits }
 
   -- the seat that steps is the pen's
-  pub at_pen : (o : St) (s : State Step (View St)) (id : ℕ) (p : PenView St) → Kept o s → get_elem? s.views id ≡ some (OfPen p) → KeptAs o s id p
+  pub at_pen : (o : St) (s : State Said (View St)) (id : ℕ) (p : PenView St) → Kept o s → get_elem? s.views id ≡ some (OfPen p) → KeptAs o s id p
   at_pen o s id p k at = let f = k.2.each id (OfPen p) at in subst (λ (x : ℕ × PenView St). KeptAs o s x.0 x.1) (λ i. (sym f.0 i, sym f.1 i)) k.2
 
   -- another seat than the pen's, after the pen's view was replaced
@@ -70,7 +89,7 @@ module _ {St : Type 0} where
   moved seat holder holder' p p' j (OfPass q) ne f h = f q h.0 h.1
 
   -- the pen's view replaced
-  pub set_pen : (o : St) (s : State Step (View St)) (id : ℕ) (p p' : PenView St) (words : List ℕ) (homes : List (ListOption Step)) → KeptAs o s id p → words ≡ length p'.lines ∷ [] → p'.opening ≡ p.opening → IsPen p'
+  pub set_pen : (o : St) (s : State Said (View St)) (id : ℕ) (p p' : PenView St) (words : List ℕ) (homes : List (ListOption Said)) → KeptAs o s id p → words ≡ length p'.lines ∷ [] → p'.opening ≡ p.opening → IsPen p'
       → ((q : PassView St) → IsOut p q → IsOut p' q) → KeptAs o (record { words = words; homes = homes; views = set s.views id (OfPen p') }) id p'
   set_pen o s id p p' words homes k w op is f = record {
     holder = k.holder;
@@ -81,7 +100,7 @@ module _ {St : Type 0} where
   }
 
   -- the pen's view replaced, and a pass added
-  pub add_pass : (o : St) (s : State Step (View St)) (id : ℕ) (p p' : PenView St) (r : PassView St) → KeptAs o s id p → p'.lines ≡ p.lines → p'.opening ≡ p.opening → IsPen p' → IsOut p' r
+  pub add_pass : (o : St) (s : State Said (View St)) (id : ℕ) (p p' : PenView St) (r : PassView St) → KeptAs o s id p → p'.lines ≡ p.lines → p'.opening ≡ p.opening → IsPen p' → IsOut p' r
       → ((q : PassView St) → IsOut p q → (q.number ≢ r.number) × IsOut p' q)
       → KeptAs o (record { words = s.words; homes = s.homes; views = set s.views id (OfPen p') ++ OfPass r ∷ [] }) id p'
   add_pass o s id p p' r k same op is new f =
@@ -107,19 +126,19 @@ module _ {St : Type 0} where
       let l : length p.lines ≡ length q.seen + length h.1.fits.rest = ap length h.1.fits.prefix ∙ length-append q.seen h.1.fits.rest in
       (omega arith, h.1.fits.mine_is)
 
-  pub tells : (o : St) (s : State Step (View St)) (id : ℕ) (v : View St) → Kept o s → get_elem? s.views id ≡ some v → Tells (slice_index s.words 0) v
+  pub tells : (o : St) (s : State Said (View St)) (id : ℕ) (v : View St) → Kept o s → get_elem? s.views id ≡ some v → Tells (slice_index s.words 0) v
   tells o s id v k at = tells_of k.0 k.2.holder k.1 id (slice_index s.words 0) v (ap (λ ws. slice_index ws 0) k.2.word) k.2.pen_is (k.2.each id v at)
 
   -- a new note
   pub begins : (o : St) → Kept o (opening (0 ∷ []) [] (OfPen (first_pen o)))
-  begins o = (0, first_pen o, record { holder = λ n. 0; word = refl; opening_is = refl; pen_is = record { lines_issued = tt; owed_issued = tt; carried_fits = tt }; each = one })
+  begins o = (0, first_pen o, record { holder = λ n. 0; word = refl; opening_is = refl; pen_is = record { lines_issued = tt; owed_issued = tt; kept_issued = tt; carried_fits = tt }; each = one })
     where
       one : (by : ℕ) (v : View St) → get_elem? (OfPen (first_pen o) ∷ []) by ≡ some v → SeatFits 0 (λ n. 0) (first_pen o) by v
       one zero v e = subst (λ w. SeatFits 0 (λ n. 0) (first_pen o) 0 w) (some-injective (OfPen (first_pen o)) v e) (refl, refl)
       one (suc by) v e = absurd (some-ne-none v (sym e))
 
   -- load
-  pub looks : (o : St) (slots id : ℕ) (me : Me Step (View St)) → Allows (Kept o) slots id me 0 (λ n. n) (looked (step slots 0 0 0 none) me)
+  pub looks : (o : St) (slots id : ℕ) (me : Me Said (View St)) → Allows (Kept o) slots id me 0 (λ n. n) (looked (step slots 0 0 0 none) me)
   looks o slots id me s k len at bound = (
     me.0,
     keeps,
@@ -139,7 +158,7 @@ module _ {St : Type 0} where
   )
 
   -- the pen says a number
-  says_number_base : (o : St) (slots id : ℕ) (p : PenView St) (c : List (ℕ × Step)) (x : ℕ) → Allows (Kept o) slots id (OfPen p, c) 0 (λ n. either (eqb n x) x n) (said_number (step slots 0 x x none) (OfPen p, c))
+  says_number_base : (o : St) (slots id : ℕ) (p : PenView St) (c : List (ℕ × Said)) (x : ℕ) → Allows (Kept o) slots id (OfPen p, c) 0 (λ n. either (eqb n x) x n) (said_number (step slots 0 x x none) (OfPen p, c))
   says_number_base o slots id p c x s k len at bound =
       let k' = at_pen o s id p k at in
       let i = k'.pen_is in (
@@ -150,17 +169,17 @@ module _ {St : Type 0} where
           id,
           says_number x p,
           set_pen o s id p (says_number x p) (slice_set s.words 0 (either (eqb (slice_index s.words 0) x) x (slice_index s.words 0))) s.homes k' (word_after s.words (length p.lines) (length p.lines) (λ n. either (eqb n x) x n) k'.word (same_word x (length p.lines))) refl
-              record { lines_issued = i.lines_issued; owed_issued = i.owed_issued; carried_fits = i.carried_fits }
+              record { lines_issued = i.lines_issued; owed_issued = i.owed_issued; kept_issued = i.kept_issued; carried_fits = i.carried_fits }
               (λ q f. record { fits = f.fits; not_carried = f.not_carried }),
         ),
         (refl, tells o s id (OfPen p) k at),
       )
 
-  pub says_number_at : (o : St) (slots id : ℕ) (me : Me Step (View St)) (p : PenView St) (x : ℕ) → me.0 ≡ OfPen p → Allows (Kept o) slots id me 0 (λ n. either (eqb n x) x n) (said_number (step slots 0 x x none) me)
+  pub says_number_at : (o : St) (slots id : ℕ) (me : Me Said (View St)) (p : PenView St) (x : ℕ) → me.0 ≡ OfPen p → Allows (Kept o) slots id me 0 (λ n. either (eqb n x) x n) (said_number (step slots 0 x x none) me)
   says_number_at o slots id me p x e = subst (λ v. Allows (Kept o) slots id (v, me.1) 0 (λ n. either (eqb n x) x n) (said_number (step slots 0 x x none) (v, me.1))) (sym e) (says_number_base o slots id p me.1 x)
 
   -- the pen says a session
-  says_session_base : (o : St) (slots id : ℕ) (p : PenView St) (c : List (ℕ × Step)) (x : ℕ) → Allows (Kept o) slots id (OfPen p, c) 0 (λ n. either (eqb n x) x n) (said_session (step slots 0 x x none) (OfPen p, c))
+  says_session_base : (o : St) (slots id : ℕ) (p : PenView St) (c : List (ℕ × Said)) (x : ℕ) → Allows (Kept o) slots id (OfPen p, c) 0 (λ n. either (eqb n x) x n) (said_session (step slots 0 x x none) (OfPen p, c))
   says_session_base o slots id p c x s k len at bound =
       let k' = at_pen o s id p k at in
       let i = k'.pen_is in (
@@ -171,18 +190,18 @@ module _ {St : Type 0} where
           id,
           says_session x p,
           set_pen o s id p (says_session x p) (slice_set s.words 0 (either (eqb (slice_index s.words 0) x) x (slice_index s.words 0))) s.homes k' (word_after s.words (length p.lines) (length p.lines) (λ n. either (eqb n x) x n) k'.word (same_word x (length p.lines))) refl
-              record { lines_issued = i.lines_issued; owed_issued = i.owed_issued; carried_fits = i.carried_fits }
+              record { lines_issued = i.lines_issued; owed_issued = i.owed_issued; kept_issued = i.kept_issued; carried_fits = i.carried_fits }
               (λ q f. record { fits = f.fits; not_carried = f.not_carried }),
         ),
         (refl, tells o s id (OfPen p) k at),
       )
 
-  pub says_session_at : (o : St) (slots id : ℕ) (me : Me Step (View St)) (p : PenView St) (x : ℕ) → me.0 ≡ OfPen p → Allows (Kept o) slots id me 0 (λ n. either (eqb n x) x n) (said_session (step slots 0 x x none) me)
+  pub says_session_at : (o : St) (slots id : ℕ) (me : Me Said (View St)) (p : PenView St) (x : ℕ) → me.0 ≡ OfPen p → Allows (Kept o) slots id me 0 (λ n. either (eqb n x) x n) (said_session (step slots 0 x x none) me)
   says_session_at o slots id me p x e = subst (λ v. Allows (Kept o) slots id (v, me.1) 0 (λ n. either (eqb n x) x n) (said_session (step slots 0 x x none) (v, me.1))) (sym e) (says_session_base o slots id p me.1 x)
 
   -- a line is written
-  write_fits : (t : Step) (p : PenView St) (q : PassView St) → IsOut p q → IsOut (writes t p) q
-  write_fits t p q h =
+  write_fits : (t : Step) (p : PenView St) → IsNext p.kept p.carried p.said_number t.line → (q : PassView St) → IsOut p q → IsOut (writes t p) q
+  write_fits t p may q h =
       let f = h.fits in
       record {
         fits = record {
@@ -192,6 +211,7 @@ module _ {St : Type 0} where
           rest = f.rest ++ noted_line p.said_number t ∷ [];
           prefix = prefix_longer (noted_line p.said_number t) q.seen f.rest p.lines f.prefix;
           rest_is = rest_longer q.number p.said_number t q.seen f.rest p.lines f.prefix ∙ ap (λ x. x ++ (place_if q.number p.said_number (length p.lines) ++ [])) f.rest_is ∙ sym (owed_after_is q.number p.said_number (length p.lines) p.carried p.owed h.not_carried);
+          left_fits = left_write q.number p.said_number t p.lines p.kept p.owed p.carried q.left h.not_carried may f.left_fits;
         };
         not_carried = not_carried_after q.number p.said_number (length p.lines) p.carried h.not_carried;
       }
@@ -200,34 +220,35 @@ module _ {St : Type 0} where
   write_pen t p issued i = record {
     lines_issued = all_issued_last p.noted p.lines (noted_line p.said_number t) i.lines_issued issued;
     owed_issued = all_owed_after p.noted p.said_number (length p.lines) p.carried p.owed issued i.owed_issued;
-    carried_fits = carried_write p.opening p.noted p.owed p.lines p.said_number t p.carried i.carried_fits;
+    kept_issued = all_kept_without p.noted p.kept p.said_number i.kept_issued;
+    carried_fits = carried_write p.opening p.noted p.owed p.kept_then p.lines p.said_number t p.carried i.carried_fits;
   }
 
-  write_base : (o : St) (slots id : ℕ) (p : PenView St) (c : List (ℕ × Step)) (t : Step) (old : ℕ) → IsIssued p.noted p.said_number → old ≡ length p.lines
-      → Allows (Kept o) slots id (OfPen p, c) 0 (λ n. either (eqb n old) (old + 1) n) (wrote (step slots 0 old (old + 1) (some t)) (OfPen p, c))
-  write_base o slots id p c t old issued is s k len at bound =
+  write_base : (o : St) (slots id : ℕ) (p : PenView St) (c : List (ℕ × Said)) (t : Snapshot Step) (old : ℕ) → IsIssued p.noted p.said_number → IsNext p.kept p.carried p.said_number t.value.line → old ≡ length p.lines
+      → Allows (Kept o) slots id (OfPen p, c) 0 (λ n. either (eqb n old) (old + 1) n) (wrote (step slots 0 old (old + 1) (some (Written t))) (OfPen p, c))
+  write_base o slots id p c t old issued may is s k len at bound =
       let k' = at_pen o s id p k at in
-      let longer : length (writes t p).lines ≡ length p.lines + 1 = length-append p.lines (noted_line p.said_number t ∷ []) in
-      let w : either (eqb (length p.lines) old) (old + 1) (length p.lines) ≡ length (writes t p).lines = exchanged (length p.lines) old (old + 1) (λ m. m ≡ length (writes t p).lines) (λ e. omega arith) (λ ne. absurd (ne (sym is))) in (
-        OfPen (writes t p),
+      let longer : length (writes t.value p).lines ≡ length p.lines + 1 = length-append p.lines (noted_line p.said_number t.value ∷ []) in
+      let w : either (eqb (length p.lines) old) (old + 1) (length p.lines) ≡ length (writes t.value p).lines = exchanged (length p.lines) old (old + 1) (λ m. m ≡ length (writes t.value p).lines) (λ e. omega arith) (λ ne. absurd (ne (sym is))) in (
+        OfPen (writes t.value p),
         keeps,
         tt,
         (
           id,
-          writes t p,
-          set_pen o s id p (writes t p) (slice_set s.words 0 (either (eqb (slice_index s.words 0) old) (old + 1) (slice_index s.words 0))) s.homes k' (word_after s.words (length p.lines) (length (writes t p).lines) (λ n. either (eqb n old) (old + 1) n) k'.word w) refl
-              (write_pen t p issued k'.pen_is)
-              (write_fits t p),
+          writes t.value p,
+          set_pen o s id p (writes t.value p) (slice_set s.words 0 (either (eqb (slice_index s.words 0) old) (old + 1) (slice_index s.words 0))) s.homes k' (word_after s.words (length p.lines) (length (writes t.value p).lines) (λ n. either (eqb n old) (old + 1) n) k'.word w) refl
+              (write_pen t.value p issued k'.pen_is)
+              (write_fits t.value p may),
         ),
-        (λ u e. ap (λ (x : Step). (OfPen (writes x p), c)) (some-injective t u e)),
+        (λ u e. ap (λ (x : Snapshot Step). (OfPen (writes x.value p), c)) (same_written t u (some-injective (Written t) (Written u) e))),
       )
 
-  pub write_at : (o : St) (slots id : ℕ) (me : Me Step (View St)) (p : PenView St) (t : Step) (old : ℕ) → me.0 ≡ OfPen p → IsIssued p.noted p.said_number → old ≡ length p.lines
-      → Allows (Kept o) slots id me 0 (λ n. either (eqb n old) (old + 1) n) (wrote (step slots 0 old (old + 1) (some t)) me)
-  write_at o slots id me p t old e issued is = subst (λ v. Allows (Kept o) slots id (v, me.1) 0 (λ n. either (eqb n old) (old + 1) n) (wrote (step slots 0 old (old + 1) (some t)) (v, me.1))) (sym e) (write_base o slots id p me.1 t old issued is)
+  pub write_at : (o : St) (slots id : ℕ) (me : Me Said (View St)) (p : PenView St) (t : Snapshot Step) (old : ℕ) → me.0 ≡ OfPen p → IsIssued p.noted p.said_number → IsNext p.kept p.carried p.said_number t.value.line → old ≡ length p.lines
+      → Allows (Kept o) slots id me 0 (λ n. either (eqb n old) (old + 1) n) (wrote (step slots 0 old (old + 1) (some (Written t))) me)
+  write_at o slots id me p t old e issued may is = subst (λ v. Allows (Kept o) slots id (v, me.1) 0 (λ n. either (eqb n old) (old + 1) n) (wrote (step slots 0 old (old + 1) (some (Written t))) (v, me.1))) (sym e) (write_base o slots id p me.1 t old issued may is)
 
   -- a pass is issued
-  not_the_carried : (p : PenView St) (c : Option (PassView St)) → (IsIssued p.noted p.said_number → ⊥) → CarriedFits p.opening p.noted p.lines p.owed c → IsNotCarried p.said_number c
+  not_the_carried : (p : PenView St) (c : Option (PassView St)) → (IsIssued p.noted p.said_number → ⊥) → CarriedFits p.opening p.noted p.lines p.owed p.kept_then c → IsNotCarried p.said_number c
   not_the_carried p None new h = tt
   not_the_carried p (Some c) new h = λ e. new (subst (IsIssued p.noted) (sym e) (c.session, h.is_noted))
 
@@ -235,7 +256,8 @@ module _ {St : Type 0} where
   note_pen p i = record {
     lines_issued = all_issued_more p.noted ((p.said_number, p.said_session) ∷ []) p.lines i.lines_issued;
     owed_issued = all_owed_more p.noted ((p.said_number, p.said_session) ∷ []) p.owed i.owed_issued;
-    carried_fits = carried_more p.opening p.noted ((p.said_number, p.said_session) ∷ []) p.lines p.owed p.carried i.carried_fits;
+    kept_issued = all_kept_more p.noted ((p.said_number, p.said_session) ∷ []) p.kept i.kept_issued;
+    carried_fits = carried_more p.opening p.noted ((p.said_number, p.said_session) ∷ []) p.lines p.owed p.kept_then p.carried i.carried_fits;
   }
 
   issue_base : (o : St) (id : ℕ) (p : PenView St) → (IsIssued p.noted p.said_number → ⊥) → Splits (Kept o) id (OfPen p) (OfPen (notes p)) (OfPass (issued p))
@@ -253,12 +275,13 @@ module _ {St : Type 0} where
                 rest = [];
                 prefix = sym (append-nil p.lines);
                 rest_is = sym (no_debts p.noted p.said_number p.owed new i.owed_issued);
+                left_fits = (kept_none p.noted p.said_number p.kept new i.kept_issued, no_debts p.noted p.said_number p.owed new i.owed_issued);
               };
               not_carried = not_the_carried p p.carried new i.carried_fits;
             }
             (λ q f. (
               (λ e. new (subst (IsIssued p.noted) e (q.session, f.fits.is_noted))),
-              record { fits = fits_more p.opening p.noted ((p.said_number, p.said_session) ∷ []) p.lines p.owed q f.fits; not_carried = f.not_carried },
+              record { fits = fits_more p.opening p.noted ((p.said_number, p.said_session) ∷ []) p.lines p.owed p.kept q f.fits; not_carried = f.not_carried },
             )),
       )
 
@@ -270,19 +293,20 @@ module _ {St : Type 0} where
   hand_base o id p c has s k at =
       let k' = at_pen o s id p k at in
       let i = k'.pen_is in
-      let fits : IsCarried p.opening p.noted p.lines p.owed c = subst (CarriedFits p.opening p.noted p.lines p.owed) has i.carried_fits in (
+      let fits : IsCarried p.opening p.noted p.lines p.owed p.kept_then c = subst (CarriedFits p.opening p.noted p.lines p.owed p.kept_then) has i.carried_fits in (
         id,
         lets_go c p,
         add_pass o s id p (lets_go c p) (handed c p) k' refl refl
-            record { lines_issued = i.lines_issued; owed_issued = all_owed_without p.noted p.owed c.number i.owed_issued; carried_fits = tt }
+            record { lines_issued = i.lines_issued; owed_issued = all_owed_without p.noted p.owed c.number i.owed_issued; kept_issued = i.kept_issued; carried_fits = tt }
             record {
               fits = record {
                 opening_is = refl;
                 is_noted = fits.is_noted;
-                mine_is = completed_is p.opening p.noted p.owed p.lines c fits;
+                mine_is = completed_is p.opening p.noted p.owed p.kept_then p.lines c fits;
                 rest = [];
                 prefix = sym (append-nil p.lines);
                 rest_is = sym (owed_without_same c.number p.owed);
+                left_fits = left_kept p.lines c.number (kept_for c.number p.kept) (owed_to c.number (without c.number p.owed)) (owed_without_same c.number p.owed);
               };
               not_carried = tt;
             }
@@ -297,6 +321,7 @@ module _ {St : Type 0} where
                   rest = f.fits.rest;
                   prefix = f.fits.prefix;
                   rest_is = f.fits.rest_is ∙ sym (owed_without_other q.number c.number p.owed other);
+                  left_fits = left_move p.lines q.number q.left (kept_for q.number p.kept) (kept_for q.number p.kept) (owed_to q.number p.owed) (owed_to q.number (without c.number p.owed)) refl (owed_without_other q.number c.number p.owed other) f.fits.left_fits;
                 };
                 not_carried = tt;
               },
@@ -324,6 +349,7 @@ module _ {St : Type 0} where
           pen_is = record {
             lines_issued = i.lines_issued;
             owed_issued = i.owed_issued;
+            kept_issued = i.kept_issued;
             carried_fits = record {
               opening_is = f.opening_is;
               is_noted = f.is_noted;
@@ -332,6 +358,7 @@ module _ {St : Type 0} where
               prefix = f.prefix;
               mine_is = f.mine_is ∙ sym (append-nil (places q.number q.seen));
               rest_is = f.rest_is ∙ sym (append-nil (owed_to q.number p.owed));
+              left_fits = f.left_fits;
             };
           };
           each = each_set (SeatFits id k'.holder (takes q p)) (set s.views id w) other Spent
@@ -349,3 +376,52 @@ module _ {St : Type 0} where
 
   pub take_at : (o : St) (id other : ℕ) (v w : View St) (p : PenView St) (q : PassView St) → v ≡ OfPen p → w ≡ OfPass q → Joins (Kept o) id v other w (taking_view v w) Spent
   take_at o id other v w p q e h = subst (λ (x : View St × View St). Joins (Kept o) id x.0 other x.1 (taking_view x.0 x.1) Spent) (λ i. (sym e i, sym h i)) (take_base o id other p q)
+
+  -- a line is left with the pen
+  leave_fits : (p : PenView St) (c : PassView St) (t : List ℕ) → p.carried ≡ Some c → (q : PassView St) → IsOut p q → IsOut (leaves_by (Some c) t p) q
+  leave_fits p c t has q h =
+      let f = h.fits in
+      let other : q.number ≢ c.number = subst (IsNotCarried q.number) has h.not_carried in
+      record {
+        fits = record {
+          opening_is = f.opening_is;
+          is_noted = f.is_noted;
+          mine_is = f.mine_is;
+          rest = f.rest;
+          prefix = f.prefix;
+          rest_is = f.rest_is;
+          left_fits = left_move p.lines q.number q.left (kept_for q.number p.kept) (kept_for q.number (p.kept ++ (c.number, t) ∷ [])) (owed_to q.number p.owed) (owed_to q.number p.owed) (kept_more_other q.number c.number t p.kept other) refl f.left_fits;
+        };
+        not_carried = h.not_carried;
+      }
+
+  pub leave_pen : (p : PenView St) (c : PassView St) (t : List ℕ) → p.carried ≡ Some c → IsPen p → IsPen (leaves_by (Some c) t p)
+  leave_pen p c t has i =
+      let fits : IsCarried p.opening p.noted p.lines p.owed p.kept_then c = subst (CarriedFits p.opening p.noted p.lines p.owed p.kept_then) has i.carried_fits in
+      record {
+        lines_issued = i.lines_issued;
+        owed_issued = i.owed_issued;
+        kept_issued = all_kept_last p.noted p.kept (c.number, t) i.kept_issued (c.session, fits.is_noted);
+        carried_fits = i.carried_fits;
+      }
+
+  leave_base : (o : St) (slots id : ℕ) (p : PenView St) (b : List (ℕ × Said)) (c : PassView St) (t : Snapshot (List ℕ)) (x : ℕ) → p.carried ≡ Some c → Allows (Kept o) slots id (OfPen p, b) 0 (λ n. either (eqb n x) x n) (left_line (step slots 0 x x (some (Left t))) (OfPen p, b))
+  leave_base o slots id p b c t x has s k len at bound =
+      let k' = at_pen o s id p k at in
+      let p' : PenView St = leaves_by (Some c) t.value p in
+      let same : leaves t.value p ≡ p' = ap (λ y. leaves_by y t.value p) has in (
+        OfPen p',
+        keeps,
+        tt,
+        (
+          id,
+          p',
+          set_pen o s id p p' (slice_set s.words 0 (either (eqb (slice_index s.words 0) x) x (slice_index s.words 0))) s.homes k' (word_after s.words (length p.lines) (length p.lines) (λ n. either (eqb n x) x n) k'.word (same_word x (length p.lines))) refl
+              (leave_pen p c t.value has k'.pen_is)
+              (leave_fits p c t.value has),
+        ),
+        (λ u e. ap (λ (y : PenView St). (OfPen y, b)) (sym same) ∙ ap (λ (y : Snapshot (List ℕ)). (OfPen (leaves y.value p), b)) (same_left t u (some-injective (Left t) (Left u) e))),
+      )
+
+  pub leave_at : (o : St) (slots id : ℕ) (me : Me Said (View St)) (p : PenView St) (c : PassView St) (t : Snapshot (List ℕ)) (x : ℕ) → me.0 ≡ OfPen p → p.carried ≡ Some c → Allows (Kept o) slots id me 0 (λ n. either (eqb n x) x n) (left_line (step slots 0 x x (some (Left t))) me)
+  leave_at o slots id me p c t x e has = subst (λ v. Allows (Kept o) slots id (v, me.1) 0 (λ n. either (eqb n x) x n) (left_line (step slots 0 x x (some (Left t))) (v, me.1))) (sym e) (leave_base o slots id p me.1 c t x has)

@@ -1,12 +1,12 @@
 // The rule of the note, and what its steps tell.
+use crate::said::Said;
 use crate::view::View;
 use atomic_table::{Join, Play, Split, TableRule};
-use db_value::Step;
 
 /// The rule of every note.
 pub struct Law;
 
-impl<St> TableRule<Step, View<St>, St> for Law {
+impl<St> TableRule<Said, View<St>, St> for Law {
     ghost use Rattle.history_note.specs.declared.view.View.TheVariants.{OfPen};
     ghost use Rattle.history_note.specs.Views.{first_pen};
     ghost use Rattle.history_note.specs.Rule.{Kept};
@@ -19,7 +19,7 @@ impl<St> TableRule<Step, View<St>, St> for Law {
 /// A pen or a pass loads the word.
 pub struct Look;
 
-impl<St> Play<Step, View<St>> for Look {
+impl<St> Play<Said, View<St>> for Look {
     ghost use Rattle.history_note.specs.Rule.{looked};
 
     ghost then = { looked };
@@ -28,7 +28,7 @@ impl<St> Play<Step, View<St>> for Look {
 /// The pen says a number, and changes nothing else.
 pub struct SayNumber;
 
-impl<St> Play<Step, View<St>> for SayNumber {
+impl<St> Play<Said, View<St>> for SayNumber {
     ghost use Rattle.history_note.specs.Rule.{said_number};
 
     ghost then = { said_number };
@@ -37,7 +37,7 @@ impl<St> Play<Step, View<St>> for SayNumber {
 /// The pen says a session, and changes nothing else.
 pub struct SaySession;
 
-impl<St> Play<Step, View<St>> for SaySession {
+impl<St> Play<Said, View<St>> for SaySession {
     ghost use Rattle.history_note.specs.Rule.{said_session};
 
     ghost then = { said_session };
@@ -46,10 +46,19 @@ impl<St> Play<Step, View<St>> for SaySession {
 /// The pen writes a line with the number that it said.
 pub struct WriteLine;
 
-impl<St> Play<Step, View<St>> for WriteLine {
+impl<St> Play<Said, View<St>> for WriteLine {
     ghost use Rattle.history_note.specs.Rule.{wrote};
 
     ghost then = { wrote };
+}
+
+/// The pen keeps a line for the number of the pass that it carries.
+pub struct LeaveLine;
+
+impl<St> Play<Said, View<St>> for LeaveLine {
+    ghost use Rattle.history_note.specs.Rule.{left_line};
+
+    ghost then = { left_line };
 }
 
 /// The pen issues a pass with the number and the session that it said.

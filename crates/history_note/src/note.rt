@@ -1,22 +1,24 @@
 // The note, its pen and its passes.
-ghost use Rattle.std.specs.Prelude.{◌≡◌, ◌≤◌, ◌<◌, ◌^◌, ◌-◌, length, true, false, IfOk, OnOk, OnErr};
+ghost use Rattle.std.specs.Prelude.{◌≡◌, ◌≤◌, ◌<◌, ◌^◌, ◌-◌, length, true, false, None, IfOk, OnOk, OnErr};
 ghost use Rattle.history_note.specs.Places.{IsIssued, places};
 ghost use Rattle.history_note.specs.Views.{says};
 ghost use Rattle.history_note.specs.Rule.{PenIs, with_pen};
-ghost use Rattle.history_note.specs.Shown.{is_carrying, new_pen, noting, issued_pass, carrying, writing, handing, FitsPen, IsHanded, IsPenAt};
+ghost use Rattle.history_note.specs.Shown.{is_carrying, carried_line, new_pen, noting, issued_pass, carrying, MayWrite, writing, leaving, handing, FitsPen, IsHanded, IsPenAt};
 
-use crate::law::{HandOut, Issue, Law, Look, SayNumber, SaySession, TakeIn, WriteLine};
+use crate::law::{HandOut, Issue, Law, LeaveLine, Look, SayNumber, SaySession, TakeIn, WriteLine};
+use crate::said::Said;
 use crate::view::View;
 use atomic_table::{Seat, Shared, Table};
 use db_store::Store;
-use db_value::Step;
+use db_value::{LineText, Step};
 use std::alloc::{AllocError, Global};
 use std::marker::Model;
+use std::snapshot::Snapshot;
 
 /// A note is one word that threads share, the length of a list. The list itself stands in proofs alone.
 #[derive(Drop)]
 pub struct Note<St: Store> {
-    table: Table<Step, View<St>, St, Law, Global>,
+    table: Table<Said, View<St>, St, Law, Global>,
 }
 
 impl<St: Store> Model for Note<St> {
@@ -39,7 +41,7 @@ impl<St: Store> Model for Note<St> {
 /// list if it has one.
 #[derive(Drop)]
 pub struct Pen<St: Store> {
-    seat: Seat<Step, View<St>>,
+    seat: Seat<Said, View<St>>,
     carries: bool,
 }
 
@@ -61,10 +63,10 @@ impl<St: Store> Model for Pen<St> {
 }
 
 /// A pass is a token of no bytes that a session's thread holds. Its holder has seen a beginning of the note's list, and knows which of
-/// the lines there were entered with the pass.
+/// the lines there were entered with the pass, and which line it left to be written later.
 #[derive(Drop)]
 pub struct Pass<St: Store> {
-    seat: Seat<Step, View<St>>,
+    seat: Seat<Said, View<St>>,
 }
 
 impl<St: Store> Model for Pass<St> {
@@ -141,21 +143,38 @@ impl<St: Store> Note<St> {
     }
 
     /// Adds a line to the end of the list, entered with this number. It is the carried pass's own if that has the number. Otherwise the
-    /// pen owes it to the number, until the number's pass is handed out.
+    /// pen owes it to the number, until the number's pass is handed out. A line that is kept for the number has to be this one, and is
+    /// kept no longer.
     pub fn write(&self, pen: &mut Pen<St>, number: u32, step: &Step)
         requires note { pen.old.note ≡ self.now.note }
         requires issued { IsIssued pen.old.noted number }
+        requires line { MayWrite number step.now.line pen.old }
         requires room { length pen.old.lines < 2 ^ 64 - 1 }
         ensures written { pen.new ≡ writing number step.now pen.old }
     {
         let shared = &self.table.shared;
         say(shared, &mut pen.seat, u64::from(number), 0);
         let count = shared.load::<Look>(&mut pen.seat, 0);
-        shared.compare_exchange_with::<WriteLine>(&mut pen.seat, 0, count, count + 1, step);
+        let said = Said::Written(Snapshot::of(step));
+        shared.compare_exchange_with::<WriteLine>(&mut pen.seat, 0, count, count + 1, &said);
     }
 
-    /// Hands out the carried pass, which has now seen the whole list and knows all of its own lines there. If there is no memory for
-    /// it, the pen still carries it.
+    /// Leaves a line with the pen, which keeps it for the carried pass's number until a line is written with that number. No line is
+    /// added to the list.
+    pub fn leave(&self, pen: &mut Pen<St>, line: &LineText)
+        requires note { pen.old.note ≡ self.now.note }
+        requires carries { is_carrying pen.old ≡ true }
+        requires free { carried_line pen.old ≡ None }
+        ensures left { pen.new ≡ leaving line.now pen.old }
+    {
+        let said = Said::Left(Snapshot::of(line));
+        self.table
+            .shared
+            .compare_exchange_with::<LeaveLine>(&mut pen.seat, 0, 0, 0, &said);
+    }
+
+    /// Hands out the carried pass, which has now seen the whole list, knows all of its own lines there, and has left the line that the
+    /// pen keeps for its number. If there is no memory for it, the pen still carries it.
     pub fn hand_out(&self, pen: &mut Pen<St>) -> Result<Pass<St>, AllocError>
         requires note { pen.old.note ≡ self.now.note }
         requires carries { is_carrying pen.old ≡ true }
@@ -193,8 +212,8 @@ impl<St: Store> Pen<St> {
 // The pen says a number and a session, which a later step then takes. A step that changes a seat's view from itself alone has no
 // argument but the word's value, so the pen puts a number there in place of itself.
 fn say<St: Store>(
-    shared: &Shared<Step, View<St>, St, Law>,
-    seat: &mut Seat<Step, View<St>>,
+    shared: &Shared<Said, View<St>, St, Law>,
+    seat: &mut Seat<Said, View<St>>,
     number: u64,
     session: u64,
 )
