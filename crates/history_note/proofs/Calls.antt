@@ -19,7 +19,7 @@ use Rattle.history_note.specs.declared.view.View.TheVariants.{Spent, OfPen, OfPa
 use Rattle.history_note.specs.Places.{places, owed_to, kept_for, IsIssued}
 use Rattle.history_note.specs.Views.{says, says_number, writes, leaves_by, leaves, carried_after, owed_after, handing_by, handed_by, noting_view, issued_view, handing_view, handed_view, taking_view}
 use Rattle.history_note.specs.Rule.{Fits, IsCarried, CarriedFits, IsNext, IsPen, PenIs, IsPass, PassIs, Kept, Tells, with_pen, said_number, said_session, wrote, left_line}
-use Rattle.history_note.specs.Shown.{AtNote, AtPen, AtPass, is_carrying, pen_at, pass_at, shown_pass, shown_carried, noting, issued_pass, carrying, MayWrite, writing, leaving_by, leaving, handing, handing_one, handed_pass, FitsPen, IsHanded, IsPenAt}
+use Rattle.history_note.specs.Shown.{AtNote, AtPen, AtPass, is_carrying, pen_at, pass_at, shown_pass, shown_carried, noting, issued_pass, carrying, MayEnter, writing, leaving_by, leaving, handing, handing_one, handed_pass, FitsPen, IsHanded, IsPenAt}
 use Rattle.history_note.proofs.Counting.{no_places, completed_is, all_owed_without}
 use Rattle.history_note.proofs.Steps.{says_number_at, says_session_at, write_at, write_pen, note_pen, issue_at, hand_at, take_at, leave_at, leave_pen}
 
@@ -187,10 +187,10 @@ module _ {St : Type 0} where
   next_shown f kept None n t h = h
   next_shown f kept (Some c) n t h = h
 
-  pub write_allowed : (f : St → State) (z : TableId) (o : St) (slots id : ℕ) (v : View St) (me : Me Said (View St)) (x y old : ℕ) (t : Snapshot Step) → PenIs v → IsIssued (pen_at f z v).noted x → MayWrite x t.value.line (pen_at f z v) → me.0 ≡ with_pen (says x y) v → Tells old me.0
+  pub write_allowed : (f : St → State) (z : TableId) (o : St) (slots id : ℕ) (v : View St) (me : Me Said (View St)) (x y old : ℕ) (t : Snapshot Step) → PenIs v → IsIssued (pen_at f z v).noted x → MayEnter x t.value.line (pen_at f z v) → me.0 ≡ with_pen (says x y) v → Tells old me.0
       → Allows (Kept o) slots id me 0 (λ n. either (eqb n old) (old + 1) n) (wrote (step slots 0 old (old + 1) (some (Written t))) me)
   write_allowed f z o slots id v me x y old t = by_pen
-      (λ u. IsIssued (pen_at f z u).noted x → MayWrite x t.value.line (pen_at f z u) → me.0 ≡ with_pen (says x y) u → Tells old me.0 → Allows (Kept o) slots id me 0 (λ n. either (eqb n old) (old + 1) n) (wrote (step slots 0 old (old + 1) (some (Written t))) me))
+      (λ u. IsIssued (pen_at f z u).noted x → MayEnter x t.value.line (pen_at f z u) → me.0 ≡ with_pen (says x y) u → Tells old me.0 → Allows (Kept o) slots id me 0 (λ n. either (eqb n old) (old + 1) n) (wrote (step slots 0 old (old + 1) (some (Written t))) me))
       (λ p h i may e told. write_at o slots id me (says x y p) t old e i (next_shown f p.kept p.carried x t.value.line may) (subst (λ u. Tells old u) e told).0)
       v
 

@@ -78,8 +78,8 @@ abbrev pub carrying : AtPass → AtPen → AtPen
 carrying q p = record p { carried = Some (known q) }
 
 -- a line with a number may be written: it is the one that is kept for the number, or the number is the carried pass's and none is kept for it
-abbrev pub MayWrite : ℕ → List ℕ → AtPen → Type 0
-MayWrite n t p = IsNext p.kept p.carried n t
+abbrev pub MayEnter : ℕ → List ℕ → AtPen → Type 0
+MayEnter n t p = IsNext p.kept p.carried n t
 
 -- the pen after it wrote a line with a number
 abbrev pub writing : ℕ → Step → AtPen → AtPen

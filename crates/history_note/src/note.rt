@@ -3,7 +3,7 @@ ghost use Rattle.std.specs.Prelude.{◌≡◌, ◌≤◌, ◌<◌, ◌^◌, ◌-
 ghost use Rattle.history_note.specs.Places.{IsIssued, places};
 ghost use Rattle.history_note.specs.Views.{says};
 ghost use Rattle.history_note.specs.Rule.{PenIs, with_pen};
-ghost use Rattle.history_note.specs.Shown.{is_carrying, carried_line, new_pen, noting, issued_pass, carrying, MayWrite, writing, leaving, handing, FitsPen, IsHanded, IsPenAt};
+ghost use Rattle.history_note.specs.Shown.{is_carrying, carried_line, new_pen, noting, issued_pass, carrying, MayEnter, writing, leaving, handing, FitsPen, IsHanded, IsPenAt};
 
 use crate::law::{HandOut, Issue, Law, LeaveLine, Look, SayNumber, SaySession, TakeIn, WriteLine};
 use crate::said::Said;
@@ -148,7 +148,7 @@ impl<St: Store> Note<St> {
     pub fn write(&self, pen: &mut Pen<St>, number: u32, step: &Step)
         requires note { pen.old.note ≡ self.now.note }
         requires issued { IsIssued pen.old.noted number }
-        requires line { MayWrite number step.now.line pen.old }
+        requires line { MayEnter number step.now.line pen.old }
         requires room { length pen.old.lines < 2 ^ 64 - 1 }
         ensures written { pen.new ≡ writing number step.now pen.old }
     {
