@@ -33,6 +33,7 @@ room_new named numbers o since note pen b n p opened none stands = subst (λ (x 
   opening_is = opened;
   steps_are = none;
   owes_nothing = refl;
+  keeps_nothing = refl;
   stands = stands;
   lines_noted = tt;
   below = λ m s a. absurd a;
@@ -76,6 +77,7 @@ module _ (named : TableId) (numbers : List (ℕ × ℕ)) (o : State) (since : �
     opening_is = rf.opening_is;
     steps_are = rf.steps_are;
     owes_nothing = rf.owes_nothing;
+    keeps_nothing = rf.keeps_nothing;
     stands = rf.stands;
     lines_noted = noted_still pen0.noted ((issued, session) ∷ []) pen0.lines rf.lines_noted;
     below = below_more;
@@ -101,6 +103,7 @@ module _ (named : TableId) (numbers : List (ℕ × ℕ)) (o : State) (since : �
     number_is = refl;
     session_is = refl;
     mine_is = sym (no_places pen0.noted issued 0 pen0.lines not_issued (all_issued pen0.noted pen0.lines rf.lines_noted));
+    left_none = refl;
     since_is = (let e = at in omega (arith, e));
     agree = agrees_at board (new_desk session (dataset_of o).schema) o (steps_of pen0.lines) (desk_agrees others) rf.opening_is rf.steps_are;
   })

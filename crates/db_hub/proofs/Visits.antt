@@ -121,6 +121,9 @@ module _ (named : TableId) (numbers : List (ℕ × ℕ)) (o : State) (since : �
   pub owes_still : pen1.owed ≡ []
   owes_still = ap (λ (p : AtPen). p.owed) taken ∙ rf.owes_nothing
 
+  pub keeps_still : pen1.kept ≡ []
+  keeps_still = ap (λ (p : AtPen). p.kept) taken ∙ rf.keeps_nothing
+
   pub carries_it : (c : PassView State) × (pen1.carried ≡ Some c) × (c.number ≡ n)
   carries_it = (known q, ap (λ (p : AtPen). p.carried) taken, pf.number_is)
 
@@ -158,6 +161,7 @@ module _ (named : TableId) (numbers : List (ℕ × ℕ)) (o : State) (since : �
         opening_is = opening_now;
         steps_are = steps_now;
         owes_nothing = grown.owed;
+        keeps_nothing = grown.kept;
         stands = stands;
         lines_noted = subst (λ (p : List (ℕ × ℕ) × List NotedLine). AllNoted p.0 p.1) (λ j. (sym noted_now j, sym lines_now j))
             (noted_both pen0.noted pen0.lines (lines_of n more) rf.lines_noted (noted_lines pen0.noted n k.session more (rf.out_fits.known n k.session i) g.own));
@@ -196,6 +200,7 @@ module _ (named : TableId) (numbers : List (ℕ × ℕ)) (o : State) (since : �
           number_is = given.number ∙ pf.number_is;
           session_is = given.session ∙ pf.session_is ∙ sym same;
           mine_is = given.mine_is;
+          left_none = given.left;
           since_is = since_now;
           agree = agrees_at c k1 o (steps_of p2.seen) now opening_now (steps_now ∙ ap steps_of (sym whole_now));
         }

@@ -1,11 +1,12 @@
 -- Steps that are written to the note, and what lies under the lock.
-use Rattle.std.specs.Prelude.{◌≡◌, ◌<◌, ◌≤◌, ◌+◌, ◌^◌, ◌-◌, ℕ, true, List, [], ◌∷◌, ◌++◌, length, Option, Some}
+use Rattle.std.specs.Prelude.{◌≡◌, ◌<◌, ◌≤◌, ◌+◌, ◌^◌, ◌-◌, ℕ, true, List, [], ◌∷◌, ◌++◌, length, Option, Some, None}
 use Rattle.atomic_table.specs.Seated.{TableId}
 use Rattle.db_value.specs.declared.step.Step.{Step}
 use Rattle.db_store.specs.State.{State, dataset_of}
 use Rattle.history_note.specs.declared.view.PassView.{PassView}
 use Rattle.history_note.specs.Shown.{AtNote, AtPen, AtPass, writing, noting}
 use Rattle.history_note.specs.Places.{places, places_from, IsNoted, IsIssued}
+use Rattle.history_note.specs.Rule.{IsTheCarried}
 use Rattle.entry_codec.specs.declared.log.Log.{Ghosts}
 use Rattle.db_core.specs.Kept.{Kept, Logged, Stands, saids}
 use Rattle.db_core.specs.Runs.{StoresSteps}
@@ -22,7 +23,7 @@ pub record AtRoom (J : Type 0) : Type 0 where
   pub issued : ℕ
 
 -- Note and pen are those that are named, the pen's list is the list of the board's steps, each entered with a number that
--- was noted for its session, and the board stands. Each number that was noted is named with its session, and its seat is out.
+-- was noted for its session, and the board stands. The pen owes nothing, and keeps no line for later. Each number that was noted is named with its session, and its seat is out.
 pub record RoomFits (named : TableId) (numbers : List (ℕ × ℕ)) (opened : State) (since : ℕ → ℕ) (note : AtNote) (pen : AtPen) (board : Kept) (out : List (ℕ × ℕ)) (issued : ℕ) : Type 0 where
   pub note_is : note.note ≡ named
   pub pen_is : pen.note ≡ named
@@ -30,6 +31,7 @@ pub record RoomFits (named : TableId) (numbers : List (ℕ × ℕ)) (opened : St
   pub opening_is : board.opening ≡ opened
   pub steps_are : board.steps ≡ steps_of pen.lines
   pub owes_nothing : pen.owed ≡ []
+  pub keeps_nothing : pen.kept ≡ []
   pub stands : Stands board
   pub lines_noted : AllNoted pen.noted pen.lines
   pub below : (n s : ℕ) → IsNoted pen.noted n s → n < issued
@@ -46,12 +48,18 @@ abbrev pub written_all : ℕ → List Step → AtPen → AtPen
 written_all n [] p = p
 written_all n (s ∷ ss) p = written_all n ss (writing n s p)
 
--- The steps from a place on may be written with the number and its pass handed out: the pen carries that pass and owes nothing, and its list is as long as
--- the steps before the place.
+-- the pen carries the number's pass, and keeps no line for later
+pub record CarriesOwn (pen : AtPen) (number : ℕ) : Type 0 where
+  pub keeps_nothing : pen.kept ≡ []
+  pub carried : IsTheCarried number pen.carried
+
+-- The steps from a place on may be written with the number and its pass handed out: the pen carries that pass, owes nothing and keeps nothing, and its list
+-- is as long as the steps before the place.
 pub record MayWrite (pen : AtPen) (number : ℕ) (steps : List Step) (from : ℕ) : Type 0 where
   pub issued : IsIssued pen.noted number
   pub carried : (c : PassView State) × (pen.carried ≡ Some c) × (c.number ≡ number)
   pub owes_nothing : pen.owed ≡ []
+  pub keeps_nothing : pen.kept ≡ []
   pub within : from ≤ length steps
   pub at : length pen.lines ≡ from
 
@@ -62,6 +70,7 @@ pub record PenGrown (old new : AtPen) (n : ℕ) (steps : List Step) : Type 0 whe
   pub noted : new.noted ≡ old.noted
   pub lines : new.lines ≡ old.lines ++ lines_of n steps
   pub owed : new.owed ≡ []
+  pub kept : new.kept ≡ []
 
 -- and what is handed out then
 pub record PassGrown (pen : AtPen) (c : PassView State) (p : AtPass) (steps : List Step) : Type 0 where
@@ -72,6 +81,7 @@ pub record PassGrown (pen : AtPen) (c : PassView State) (p : AtPass) (steps : Li
   pub seen : p.seen ≡ pen.lines ++ lines_of c.number steps
   pub mine : p.mine ≡ c.mine ++ places_from c.number (length pen.lines) (lines_of c.number steps)
   pub mine_is : p.mine ≡ places p.number p.seen
+  pub left : p.left ≡ None
 
 -- a room for a board on which nothing was run
 abbrev pub new_room : {J : Type 0} → Logged J → AtPen → AtRoom J

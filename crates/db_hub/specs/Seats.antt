@@ -27,13 +27,14 @@ abbrev pub seat_at : ℕ → Option AtPass → AtDesk → AtSeat
 seat_at n None k = record { there = false; number = n; seen = []; mine = []; desk = k }
 seat_at n (Some p) k = record { there = true; number = n; seen = p.seen; mine = p.mine; desk = k }
 
--- a pass of the note, issued for the desk's session under this number; with a board on which just its lines were run, the desk agrees
+-- a pass of the note, issued for the desk's session under this number, that left no line to be written later; with a board on which just its lines were run, the desk agrees
 pub record PassFits (note : TableId) (opened : State) (since : ℕ → ℕ) (n : ℕ) (k : AtDesk) (p : AtPass) : Type 0 where
   pub note_is : p.note ≡ note
   pub opening_is : p.opening ≡ opened
   pub number_is : p.number ≡ n
   pub session_is : p.session ≡ k.session
   pub mine_is : p.mine ≡ places p.number p.seen
+  pub left_none : p.left ≡ None
   pub since_is : since n ≤ length p.seen
   pub agree : Agrees (kept_at opened (steps_of p.seen)) k
 

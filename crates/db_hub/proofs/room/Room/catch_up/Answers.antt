@@ -7,7 +7,7 @@ use Rattle.db_core.specs.Kept.{Kept}
 use Rattle.db_core.specs.Desk.{AtDesk, entered}
 use Rattle.db_hub.specs.Seats.{AtSeat, seat_at, PassFits, PassFitsIf, SeatCaughtUp, SeatFailed}
 use Rattle.db_hub.specs.Rooms.{AtRoom, RoomStays, PenGrown, PassGrown}
-use Rattle.db_hub.proofs.Visits.{caught_by, same_caught, first_caught, on_ok, noted_now, grows_caught, caught_now, failed_caught, agree, issued_now, as_many, owes_still, carries_it, room_for, room_now, whole_now, pass_now}
+use Rattle.db_hub.proofs.Visits.{caught_by, same_caught, first_caught, on_ok, noted_now, grows_caught, caught_now, failed_caught, agree, issued_now, as_many, owes_still, keeps_still, carries_it, room_for, room_now, whole_now, pass_now}
 use Rattle.db_hub.proofs.Storing.{since_caught}
 use Rattle.db_hub.proofs.room.Room.catch_up.Goals as goal
 
@@ -67,6 +67,7 @@ write_and_give-requires-clause-ready g c =
       issued = issued_now named numbers o since note pen0 board out issued rf n k q pf pen1 taken fits;
       carried = carries_it named numbers o since note pen0 board out issued rf n k q pf pen1 taken fits;
       owes_nothing = owes_still named numbers o since note pen0 board out issued rf n k q pf pen1 taken fits;
+      keeps_nothing = keeps_still named numbers o since note pen0 board out issued rf n k q pf pen1 taken fits;
       within = subst (λ (m : ℕ). m ≤ length c.steps.result.now) (sym from_is) (subst (λ (ss : List Step). length board.steps ≤ length ss) (sym c.steps.ensures) (room_for named numbers o since note pen0 board out issued rf n k q pf pen1 taken fits grown2 more.0 more.1 now.stands));
       at = as_many named numbers o since note pen0 board out issued rf n k q pf pen1 taken fits ∙ sym from_is;
     }
