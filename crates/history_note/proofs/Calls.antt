@@ -7,9 +7,6 @@ use prog.Atomic.{either}
 use Rattle.atomic_table.specs.Seated.{TableId}
 use Rattle.atomic_table.specs.Table.{Me, step, Allows, Splits, Joins}
 use Rattle.db_value.specs.declared.step.Step.{Step}
-use Rattle.std.specs.declared.snapshot.Snapshot.{Snapshot}
-use Rattle.history_note.specs.declared.said.Said.{Said}
-use Rattle.history_note.specs.declared.said.Said.TheVariants.{Written, Left}
 use Rattle.db_store.specs.State.{State}
 use Rattle.history_note.specs.declared.view.NotedLine.{NotedLine}
 use Rattle.history_note.specs.declared.view.PenView.{PenView}
@@ -18,7 +15,7 @@ use Rattle.history_note.specs.declared.view.View.{View}
 use Rattle.history_note.specs.declared.view.View.TheVariants.{Spent, OfPen, OfPass}
 use Rattle.history_note.specs.Places.{places, owed_to, kept_for, IsIssued}
 use Rattle.history_note.specs.Views.{says, says_number, writes, leaves_by, leaves, carried_after, owed_after, handing_by, handed_by, noting_view, issued_view, handing_view, handed_view, taking_view}
-use Rattle.history_note.specs.Rule.{Fits, IsCarried, CarriedFits, IsNext, IsPen, PenIs, IsPass, PassIs, Kept, Tells, with_pen, said_number, said_session, wrote, left_line}
+use Rattle.history_note.specs.Rule.{Fits, IsCarried, CarriedFits, IsNext, IsPen, PenIs, Carries, IsPass, PassIs, Kept, Tells, with_pen, said_number, said_session, wrote, left_line}
 use Rattle.history_note.specs.Shown.{AtNote, AtPen, AtPass, is_carrying, pen_at, pass_at, shown_pass, shown_carried, noting, issued_pass, carrying, MayEnter, writing, leaving_by, leaving, handing, handing_one, handed_pass, FitsPen, IsHanded, IsPenAt}
 use Rattle.history_note.proofs.Counting.{no_places, completed_is, all_owed_without}
 use Rattle.history_note.proofs.Steps.{says_number_at, says_session_at, write_at, write_pen, note_pen, issue_at, hand_at, take_at, leave_at, leave_pen}
@@ -117,12 +114,12 @@ module _ {St : Type 0} where
   carries_same f z z' (OfPass q) = refl
 
   -- say
-  pub numbers : (o : St) (slots id : ℕ) (me : Me Said (View St)) (x : ℕ) → PenIs me.0 → Allows (Kept o) slots id me 0 (λ n. either (eqb n x) x n) (said_number (step slots 0 x x none) me)
+  pub numbers : (o : St) (slots id : ℕ) (me : Me Step (View St)) (x : ℕ) → PenIs me.0 → Allows (Kept o) slots id me 0 (λ n. either (eqb n x) x n) (said_number (step slots 0 x x none) me)
   numbers o slots id me x = by_pen (λ v. Allows (Kept o) slots id (v, me.1) 0 (λ n. either (eqb n x) x n) (said_number (step slots 0 x x none) (v, me.1)))
       (λ p h. says_number_at o slots id (OfPen p, me.1) p x refl)
       me.0
 
-  pub sessions : (o : St) (slots id : ℕ) (me : Me Said (View St)) (x : ℕ) → PenIs me.0 → Allows (Kept o) slots id me 0 (λ n. either (eqb n x) x n) (said_session (step slots 0 x x none) me)
+  pub sessions : (o : St) (slots id : ℕ) (me : Me Step (View St)) (x : ℕ) → PenIs me.0 → Allows (Kept o) slots id me 0 (λ n. either (eqb n x) x n) (said_session (step slots 0 x x none) me)
   sessions o slots id me x = by_pen (λ v. Allows (Kept o) slots id (v, me.1) 0 (λ n. either (eqb n x) x n) (said_session (step slots 0 x x none) (v, me.1)))
       (λ p h. says_session_at o slots id (OfPen p, me.1) p x refl)
       me.0
@@ -187,11 +184,11 @@ module _ {St : Type 0} where
   next_shown f kept None n t h = h
   next_shown f kept (Some c) n t h = h
 
-  pub write_allowed : (f : St → State) (z : TableId) (o : St) (slots id : ℕ) (v : View St) (me : Me Said (View St)) (x y old : ℕ) (t : Snapshot Step) → PenIs v → IsIssued (pen_at f z v).noted x → MayEnter x t.value.line (pen_at f z v) → me.0 ≡ with_pen (says x y) v → Tells old me.0
-      → Allows (Kept o) slots id me 0 (λ n. either (eqb n old) (old + 1) n) (wrote (step slots 0 old (old + 1) (some (Written t))) me)
+  pub write_allowed : (f : St → State) (z : TableId) (o : St) (slots id : ℕ) (v : View St) (me : Me Step (View St)) (x y old : ℕ) (t : Step) → PenIs v → IsIssued (pen_at f z v).noted x → MayEnter x t.line (pen_at f z v) → me.0 ≡ with_pen (says x y) v → Tells old me.0
+      → Allows (Kept o) slots id me 0 (λ n. either (eqb n old) (old + 1) n) (wrote (step slots 0 old (old + 1) (some t)) me)
   write_allowed f z o slots id v me x y old t = by_pen
-      (λ u. IsIssued (pen_at f z u).noted x → MayEnter x t.value.line (pen_at f z u) → me.0 ≡ with_pen (says x y) u → Tells old me.0 → Allows (Kept o) slots id me 0 (λ n. either (eqb n old) (old + 1) n) (wrote (step slots 0 old (old + 1) (some (Written t))) me))
-      (λ p h i may e told. write_at o slots id me (says x y p) t old e i (next_shown f p.kept p.carried x t.value.line may) (subst (λ u. Tells old u) e told).0)
+      (λ u. IsIssued (pen_at f z u).noted x → MayEnter x t.line (pen_at f z u) → me.0 ≡ with_pen (says x y) u → Tells old me.0 → Allows (Kept o) slots id me 0 (λ n. either (eqb n old) (old + 1) n) (wrote (step slots 0 old (old + 1) (some t)) me))
+      (λ p h i may e told. write_at o slots id me (says x y p) t old e i (next_shown f p.kept p.carried x t.line may) (subst (λ u. Tells old u) e told).0)
       v
 
   pub write_pen_at : (f : St → State) (z : TableId) (v : View St) (x y : ℕ) (t : Step) → PenIs v → pen_at f z (with_pen (writes t) (with_pen (says x y) v)) ≡ writing x t (pen_at f z v)
@@ -218,10 +215,27 @@ module _ {St : Type 0} where
       v
 
   -- leave
-  pub leave_allowed : (f : St → State) (z : TableId) (o : St) (slots id : ℕ) (me : Me Said (View St)) (t : Snapshot (List ℕ)) (x : ℕ) → PenIs me.0 → is_carrying (pen_at f z me.0) ≡ true → Allows (Kept o) slots id me 0 (λ n. either (eqb n x) x n) (left_line (step slots 0 x x (some (Left t))) me)
-  leave_allowed f z o slots id me t x = by_pen (λ u. is_carrying (pen_at f z u) ≡ true → Allows (Kept o) slots id (u, me.1) 0 (λ n. either (eqb n x) x n) (left_line (step slots 0 x x (some (Left t))) (u, me.1)))
-      (λ p h k. let c = carried_some f p.carried k in leave_at o slots id (OfPen p, me.1) p c.0 t x refl c.1)
+  -- what holds of a pen's view that carries a pass holds of a view that does
+  by_carrying : (F : View St → Type 0) → ((p : PenView St) → IsPen p → is_some p.carried ≡ true → F (OfPen p)) → (v : View St) → Carries v → F v
+  by_carrying F f (OfPen p) h = f p h.0 h.1
+  by_carrying F f Spent h = absurd h
+  by_carrying F f (OfPass q) h = absurd h
+
+  there : (c : Option (PassView St)) → is_some c ≡ true → (x : PassView St) × (c ≡ Some x)
+  there (Some x) e = (x, refl)
+  there None e = absurd (true≢false (sym e))
+
+  pub leave_allowed : (o : St) (slots id : ℕ) (me : Me Step (View St)) (t : List ℕ) (x : ℕ) → Carries me.0 → Allows (Kept o) slots id me 0 (λ n. either (eqb n x) x n) (left_line t (step slots 0 x x none) me)
+  leave_allowed o slots id me t x = by_carrying (λ u. Allows (Kept o) slots id (u, me.1) 0 (λ n. either (eqb n x) x n) (left_line t (step slots 0 x x none) (u, me.1)))
+      (λ p h k. let c = there p.carried k in leave_at o slots id (OfPen p, me.1) p c.0 t x refl c.1)
       me.0
+
+  shown_there : (f : St → State) (c : Option (PassView St)) → is_some (shown_carried f c) ≡ true → is_some c ≡ true
+  shown_there f (Some c) e = refl
+  shown_there f None e = absurd (true≢false (sym e))
+
+  pub carries_shown : (f : St → State) (z : TableId) (v : View St) → PenIs v → is_carrying (pen_at f z v) ≡ true → Carries v
+  carries_shown f z v = by_pen (λ u. is_carrying (pen_at f z u) ≡ true → Carries u) (λ p h k. (h, shown_there f p.carried k)) v
 
   leaves_shown : (f : St → State) (z : TableId) (t : List ℕ) (p : PenView St) (x : Option (PassView St)) → pen_at f z (OfPen (leaves_by x t p)) ≡ leaving_by (shown_carried f x) t (pen_at f z (OfPen p))
   leaves_shown f z t p (Some c) = refl

@@ -7,9 +7,6 @@ use prog.Atomic.{either}
 use Rattle.atomic_table.specs.Table.{State, Me, step, keeps, Allows, Splits, Joins, opening}
 use Rattle.atomic_table.proofs.Lists.{at_set, set_again, exchanged}
 use Rattle.db_value.specs.declared.step.Step.{Step}
-use Rattle.std.specs.declared.snapshot.Snapshot.{Snapshot}
-use Rattle.history_note.specs.declared.said.Said.{Said}
-use Rattle.history_note.specs.declared.said.Said.TheVariants.{Written, Left}
 use Rattle.history_note.specs.declared.view.NotedLine.{NotedLine}
 use Rattle.history_note.specs.declared.view.PenView.{PenView}
 use Rattle.history_note.specs.declared.view.PassView.{PassView}
@@ -52,22 +49,6 @@ same_word x n = exchanged n x x (λ m. m ≡ n) (λ e. sym e) (λ ne. refl)
 word_after : (words : List ℕ) (n m : ℕ) (f : ℕ → ℕ) → words ≡ n ∷ [] → f n ≡ m → slice_set words 0 (f (slice_index words 0)) ≡ m ∷ []
 word_after words n m f e h = ap (λ ws. slice_set ws 0 (f (slice_index ws 0))) e ∙ ap (λ (x : ℕ). x ∷ []) h
 
-written_or : Said → Snapshot Step → Snapshot Step
-written_or (Written s) d = s
-written_or (Left t) d = d
-
-same_written : (s u : Snapshot Step) → Written s ≡ Written u → s ≡ u
-unfolding written_or
-same_written s u e = ap (λ (x : Said). written_or x s) e
-
-left_or : Said → Snapshot (List ℕ) → Snapshot (List ℕ)
-left_or (Left t) d = t
-left_or (Written s) d = d
-
-same_left : (t u : Snapshot (List ℕ)) → Left t ≡ Left u → t ≡ u
-unfolding left_or
-same_left t u e = ap (λ (x : Said). left_or x t) e
-
 module _ {St : Type 0} where
   -- what fits goes on to fit after more numbers were noted
   carried_more : (opening : St) (noted more : List (ℕ × ℕ)) (lines : List NotedLine) (owed : List (ℕ × ℕ)) (kept_then : Option (List ℕ)) (c : Option (PassView St)) → CarriedFits opening noted lines owed kept_then c → CarriedFits opening (noted ++ more) lines owed kept_then c
@@ -78,7 +59,7 @@ module _ {St : Type 0} where
   fits_more opening noted more lines owed kept q h = record { opening_is = h.opening_is; is_noted = noted_more noted more q.number q.session h.is_noted; mine_is = h.mine_is; rest = h.rest; prefix = h.prefix; rest_is = h.rest_is; left_fits = h.left_fits }
 
   -- the seat that steps is the pen's
-  pub at_pen : (o : St) (s : State Said (View St)) (id : ℕ) (p : PenView St) → Kept o s → get_elem? s.views id ≡ some (OfPen p) → KeptAs o s id p
+  pub at_pen : (o : St) (s : State Step (View St)) (id : ℕ) (p : PenView St) → Kept o s → get_elem? s.views id ≡ some (OfPen p) → KeptAs o s id p
   at_pen o s id p k at = let f = k.2.each id (OfPen p) at in subst (λ (x : ℕ × PenView St). KeptAs o s x.0 x.1) (λ i. (sym f.0 i, sym f.1 i)) k.2
 
   -- another seat than the pen's, after the pen's view was replaced
@@ -89,7 +70,7 @@ module _ {St : Type 0} where
   moved seat holder holder' p p' j (OfPass q) ne f h = f q h.0 h.1
 
   -- the pen's view replaced
-  pub set_pen : (o : St) (s : State Said (View St)) (id : ℕ) (p p' : PenView St) (words : List ℕ) (homes : List (ListOption Said)) → KeptAs o s id p → words ≡ length p'.lines ∷ [] → p'.opening ≡ p.opening → IsPen p'
+  pub set_pen : (o : St) (s : State Step (View St)) (id : ℕ) (p p' : PenView St) (words : List ℕ) (homes : List (ListOption Step)) → KeptAs o s id p → words ≡ length p'.lines ∷ [] → p'.opening ≡ p.opening → IsPen p'
       → ((q : PassView St) → IsOut p q → IsOut p' q) → KeptAs o (record { words = words; homes = homes; views = set s.views id (OfPen p') }) id p'
   set_pen o s id p p' words homes k w op is f = record {
     holder = k.holder;
@@ -100,7 +81,7 @@ module _ {St : Type 0} where
   }
 
   -- the pen's view replaced, and a pass added
-  pub add_pass : (o : St) (s : State Said (View St)) (id : ℕ) (p p' : PenView St) (r : PassView St) → KeptAs o s id p → p'.lines ≡ p.lines → p'.opening ≡ p.opening → IsPen p' → IsOut p' r
+  pub add_pass : (o : St) (s : State Step (View St)) (id : ℕ) (p p' : PenView St) (r : PassView St) → KeptAs o s id p → p'.lines ≡ p.lines → p'.opening ≡ p.opening → IsPen p' → IsOut p' r
       → ((q : PassView St) → IsOut p q → (q.number ≢ r.number) × IsOut p' q)
       → KeptAs o (record { words = s.words; homes = s.homes; views = set s.views id (OfPen p') ++ OfPass r ∷ [] }) id p'
   add_pass o s id p p' r k same op is new f =
@@ -126,7 +107,7 @@ module _ {St : Type 0} where
       let l : length p.lines ≡ length q.seen + length h.1.fits.rest = ap length h.1.fits.prefix ∙ length-append q.seen h.1.fits.rest in
       (omega arith, h.1.fits.mine_is)
 
-  pub tells : (o : St) (s : State Said (View St)) (id : ℕ) (v : View St) → Kept o s → get_elem? s.views id ≡ some v → Tells (slice_index s.words 0) v
+  pub tells : (o : St) (s : State Step (View St)) (id : ℕ) (v : View St) → Kept o s → get_elem? s.views id ≡ some v → Tells (slice_index s.words 0) v
   tells o s id v k at = tells_of k.0 k.2.holder k.1 id (slice_index s.words 0) v (ap (λ ws. slice_index ws 0) k.2.word) k.2.pen_is (k.2.each id v at)
 
   -- a new note
@@ -138,7 +119,7 @@ module _ {St : Type 0} where
       one (suc by) v e = absurd (some-ne-none v (sym e))
 
   -- load
-  pub looks : (o : St) (slots id : ℕ) (me : Me Said (View St)) → Allows (Kept o) slots id me 0 (λ n. n) (looked (step slots 0 0 0 none) me)
+  pub looks : (o : St) (slots id : ℕ) (me : Me Step (View St)) → Allows (Kept o) slots id me 0 (λ n. n) (looked (step slots 0 0 0 none) me)
   looks o slots id me s k len at bound = (
     me.0,
     keeps,
@@ -158,7 +139,7 @@ module _ {St : Type 0} where
   )
 
   -- the pen says a number
-  says_number_base : (o : St) (slots id : ℕ) (p : PenView St) (c : List (ℕ × Said)) (x : ℕ) → Allows (Kept o) slots id (OfPen p, c) 0 (λ n. either (eqb n x) x n) (said_number (step slots 0 x x none) (OfPen p, c))
+  says_number_base : (o : St) (slots id : ℕ) (p : PenView St) (c : List (ℕ × Step)) (x : ℕ) → Allows (Kept o) slots id (OfPen p, c) 0 (λ n. either (eqb n x) x n) (said_number (step slots 0 x x none) (OfPen p, c))
   says_number_base o slots id p c x s k len at bound =
       let k' = at_pen o s id p k at in
       let i = k'.pen_is in (
@@ -175,11 +156,11 @@ module _ {St : Type 0} where
         (refl, tells o s id (OfPen p) k at),
       )
 
-  pub says_number_at : (o : St) (slots id : ℕ) (me : Me Said (View St)) (p : PenView St) (x : ℕ) → me.0 ≡ OfPen p → Allows (Kept o) slots id me 0 (λ n. either (eqb n x) x n) (said_number (step slots 0 x x none) me)
+  pub says_number_at : (o : St) (slots id : ℕ) (me : Me Step (View St)) (p : PenView St) (x : ℕ) → me.0 ≡ OfPen p → Allows (Kept o) slots id me 0 (λ n. either (eqb n x) x n) (said_number (step slots 0 x x none) me)
   says_number_at o slots id me p x e = subst (λ v. Allows (Kept o) slots id (v, me.1) 0 (λ n. either (eqb n x) x n) (said_number (step slots 0 x x none) (v, me.1))) (sym e) (says_number_base o slots id p me.1 x)
 
   -- the pen says a session
-  says_session_base : (o : St) (slots id : ℕ) (p : PenView St) (c : List (ℕ × Said)) (x : ℕ) → Allows (Kept o) slots id (OfPen p, c) 0 (λ n. either (eqb n x) x n) (said_session (step slots 0 x x none) (OfPen p, c))
+  says_session_base : (o : St) (slots id : ℕ) (p : PenView St) (c : List (ℕ × Step)) (x : ℕ) → Allows (Kept o) slots id (OfPen p, c) 0 (λ n. either (eqb n x) x n) (said_session (step slots 0 x x none) (OfPen p, c))
   says_session_base o slots id p c x s k len at bound =
       let k' = at_pen o s id p k at in
       let i = k'.pen_is in (
@@ -196,7 +177,7 @@ module _ {St : Type 0} where
         (refl, tells o s id (OfPen p) k at),
       )
 
-  pub says_session_at : (o : St) (slots id : ℕ) (me : Me Said (View St)) (p : PenView St) (x : ℕ) → me.0 ≡ OfPen p → Allows (Kept o) slots id me 0 (λ n. either (eqb n x) x n) (said_session (step slots 0 x x none) me)
+  pub says_session_at : (o : St) (slots id : ℕ) (me : Me Step (View St)) (p : PenView St) (x : ℕ) → me.0 ≡ OfPen p → Allows (Kept o) slots id me 0 (λ n. either (eqb n x) x n) (said_session (step slots 0 x x none) me)
   says_session_at o slots id me p x e = subst (λ v. Allows (Kept o) slots id (v, me.1) 0 (λ n. either (eqb n x) x n) (said_session (step slots 0 x x none) (v, me.1))) (sym e) (says_session_base o slots id p me.1 x)
 
   -- a line is written
@@ -224,28 +205,28 @@ module _ {St : Type 0} where
     carried_fits = carried_write p.opening p.noted p.owed p.kept_then p.lines p.said_number t p.carried i.carried_fits;
   }
 
-  write_base : (o : St) (slots id : ℕ) (p : PenView St) (c : List (ℕ × Said)) (t : Snapshot Step) (old : ℕ) → IsIssued p.noted p.said_number → IsNext p.kept p.carried p.said_number t.value.line → old ≡ length p.lines
-      → Allows (Kept o) slots id (OfPen p, c) 0 (λ n. either (eqb n old) (old + 1) n) (wrote (step slots 0 old (old + 1) (some (Written t))) (OfPen p, c))
+  write_base : (o : St) (slots id : ℕ) (p : PenView St) (c : List (ℕ × Step)) (t : Step) (old : ℕ) → IsIssued p.noted p.said_number → IsNext p.kept p.carried p.said_number t.line → old ≡ length p.lines
+      → Allows (Kept o) slots id (OfPen p, c) 0 (λ n. either (eqb n old) (old + 1) n) (wrote (step slots 0 old (old + 1) (some t)) (OfPen p, c))
   write_base o slots id p c t old issued may is s k len at bound =
       let k' = at_pen o s id p k at in
-      let longer : length (writes t.value p).lines ≡ length p.lines + 1 = length-append p.lines (noted_line p.said_number t.value ∷ []) in
-      let w : either (eqb (length p.lines) old) (old + 1) (length p.lines) ≡ length (writes t.value p).lines = exchanged (length p.lines) old (old + 1) (λ m. m ≡ length (writes t.value p).lines) (λ e. omega arith) (λ ne. absurd (ne (sym is))) in (
-        OfPen (writes t.value p),
+      let longer : length (writes t p).lines ≡ length p.lines + 1 = length-append p.lines (noted_line p.said_number t ∷ []) in
+      let w : either (eqb (length p.lines) old) (old + 1) (length p.lines) ≡ length (writes t p).lines = exchanged (length p.lines) old (old + 1) (λ m. m ≡ length (writes t p).lines) (λ e. omega arith) (λ ne. absurd (ne (sym is))) in (
+        OfPen (writes t p),
         keeps,
         tt,
         (
           id,
-          writes t.value p,
-          set_pen o s id p (writes t.value p) (slice_set s.words 0 (either (eqb (slice_index s.words 0) old) (old + 1) (slice_index s.words 0))) s.homes k' (word_after s.words (length p.lines) (length (writes t.value p).lines) (λ n. either (eqb n old) (old + 1) n) k'.word w) refl
-              (write_pen t.value p issued k'.pen_is)
-              (write_fits t.value p may),
+          writes t p,
+          set_pen o s id p (writes t p) (slice_set s.words 0 (either (eqb (slice_index s.words 0) old) (old + 1) (slice_index s.words 0))) s.homes k' (word_after s.words (length p.lines) (length (writes t p).lines) (λ n. either (eqb n old) (old + 1) n) k'.word w) refl
+              (write_pen t p issued k'.pen_is)
+              (write_fits t p may),
         ),
-        (λ u e. ap (λ (x : Snapshot Step). (OfPen (writes x.value p), c)) (same_written t u (some-injective (Written t) (Written u) e))),
+        (λ u e. ap (λ (x : Step). (OfPen (writes x p), c)) (some-injective t u e)),
       )
 
-  pub write_at : (o : St) (slots id : ℕ) (me : Me Said (View St)) (p : PenView St) (t : Snapshot Step) (old : ℕ) → me.0 ≡ OfPen p → IsIssued p.noted p.said_number → IsNext p.kept p.carried p.said_number t.value.line → old ≡ length p.lines
-      → Allows (Kept o) slots id me 0 (λ n. either (eqb n old) (old + 1) n) (wrote (step slots 0 old (old + 1) (some (Written t))) me)
-  write_at o slots id me p t old e issued may is = subst (λ v. Allows (Kept o) slots id (v, me.1) 0 (λ n. either (eqb n old) (old + 1) n) (wrote (step slots 0 old (old + 1) (some (Written t))) (v, me.1))) (sym e) (write_base o slots id p me.1 t old issued may is)
+  pub write_at : (o : St) (slots id : ℕ) (me : Me Step (View St)) (p : PenView St) (t : Step) (old : ℕ) → me.0 ≡ OfPen p → IsIssued p.noted p.said_number → IsNext p.kept p.carried p.said_number t.line → old ≡ length p.lines
+      → Allows (Kept o) slots id me 0 (λ n. either (eqb n old) (old + 1) n) (wrote (step slots 0 old (old + 1) (some t)) me)
+  write_at o slots id me p t old e issued may is = subst (λ v. Allows (Kept o) slots id (v, me.1) 0 (λ n. either (eqb n old) (old + 1) n) (wrote (step slots 0 old (old + 1) (some t)) (v, me.1))) (sym e) (write_base o slots id p me.1 t old issued may is)
 
   -- a pass is issued
   not_the_carried : (p : PenView St) (c : Option (PassView St)) → (IsIssued p.noted p.said_number → ⊥) → CarriedFits p.opening p.noted p.lines p.owed p.kept_then c → IsNotCarried p.said_number c
@@ -405,11 +386,11 @@ module _ {St : Type 0} where
         carried_fits = i.carried_fits;
       }
 
-  leave_base : (o : St) (slots id : ℕ) (p : PenView St) (b : List (ℕ × Said)) (c : PassView St) (t : Snapshot (List ℕ)) (x : ℕ) → p.carried ≡ Some c → Allows (Kept o) slots id (OfPen p, b) 0 (λ n. either (eqb n x) x n) (left_line (step slots 0 x x (some (Left t))) (OfPen p, b))
+  leave_base : (o : St) (slots id : ℕ) (p : PenView St) (b : List (ℕ × Step)) (c : PassView St) (t : List ℕ) (x : ℕ) → p.carried ≡ Some c → Allows (Kept o) slots id (OfPen p, b) 0 (λ n. either (eqb n x) x n) (left_line t (step slots 0 x x none) (OfPen p, b))
   leave_base o slots id p b c t x has s k len at bound =
       let k' = at_pen o s id p k at in
-      let p' : PenView St = leaves_by (Some c) t.value p in
-      let same : leaves t.value p ≡ p' = ap (λ y. leaves_by y t.value p) has in (
+      let p' : PenView St = leaves_by (Some c) t p in
+      let same : leaves t p ≡ p' = ap (λ y. leaves_by y t p) has in (
         OfPen p',
         keeps,
         tt,
@@ -417,11 +398,11 @@ module _ {St : Type 0} where
           id,
           p',
           set_pen o s id p p' (slice_set s.words 0 (either (eqb (slice_index s.words 0) x) x (slice_index s.words 0))) s.homes k' (word_after s.words (length p.lines) (length p.lines) (λ n. either (eqb n x) x n) k'.word (same_word x (length p.lines))) refl
-              (leave_pen p c t.value has k'.pen_is)
-              (leave_fits p c t.value has),
+              (leave_pen p c t has k'.pen_is)
+              (leave_fits p c t has),
         ),
-        (λ u e. ap (λ (y : PenView St). (OfPen y, b)) (sym same) ∙ ap (λ (y : Snapshot (List ℕ)). (OfPen (leaves y.value p), b)) (same_left t u (some-injective (Left t) (Left u) e))),
+        ap (λ (y : PenView St). (OfPen y, b)) (sym same),
       )
 
-  pub leave_at : (o : St) (slots id : ℕ) (me : Me Said (View St)) (p : PenView St) (c : PassView St) (t : Snapshot (List ℕ)) (x : ℕ) → me.0 ≡ OfPen p → p.carried ≡ Some c → Allows (Kept o) slots id me 0 (λ n. either (eqb n x) x n) (left_line (step slots 0 x x (some (Left t))) me)
-  leave_at o slots id me p c t x e has = subst (λ v. Allows (Kept o) slots id (v, me.1) 0 (λ n. either (eqb n x) x n) (left_line (step slots 0 x x (some (Left t))) (v, me.1))) (sym e) (leave_base o slots id p me.1 c t x has)
+  pub leave_at : (o : St) (slots id : ℕ) (me : Me Step (View St)) (p : PenView St) (c : PassView St) (t : List ℕ) (x : ℕ) → me.0 ≡ OfPen p → p.carried ≡ Some c → Allows (Kept o) slots id me 0 (λ n. either (eqb n x) x n) (left_line t (step slots 0 x x none) me)
+  leave_at o slots id me p c t x e has = subst (λ v. Allows (Kept o) slots id (v, me.1) 0 (λ n. either (eqb n x) x n) (left_line t (step slots 0 x x none) (v, me.1))) (sym e) (leave_base o slots id p me.1 c t x has)

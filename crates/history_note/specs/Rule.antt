@@ -1,12 +1,9 @@
 -- The rule of the note: what its word, its pen and the passes that are out have to do with each other, and what a step tells.
-use Rattle.std.specs.Prelude.{◌≡◌, ◌≢◌, ◌⊎◌, ℕ, ◌≤◌, List, [], ◌∷◌, ◌++◌, length, Option, Some, None}
+use Rattle.std.specs.Prelude.{◌≡◌, ◌≢◌, ◌⊎◌, ℕ, ◌≤◌, List, [], ◌∷◌, ◌++◌, length, Option, Some, None, is_some, true}
 use mathlib.Core.Option.{some}
 use lib.ListN.{get_elem?}
 use Rattle.atomic_table.specs.Table.{State, Me, Step as TableStep}
 use Rattle.db_value.specs.declared.step.Step.{Step}
-use Rattle.std.specs.declared.snapshot.Snapshot.{Snapshot}
-use Rattle.history_note.specs.declared.said.Said.{Said}
-use Rattle.history_note.specs.declared.said.Said.TheVariants.{Written, Left}
 use Rattle.history_note.specs.declared.view.NotedLine.{NotedLine}
 use Rattle.history_note.specs.declared.view.PassView.{PassView}
 use Rattle.history_note.specs.declared.view.PenView.{PenView}
@@ -85,6 +82,12 @@ module _ {St : Type 0} where
   PenIs Spent = ⊥
   PenIs (OfPass q) = ⊥
 
+  -- the view is that of a pen that carries a pass
+  abbrev pub Carries : View St → Type 0
+  Carries (OfPen p) = IsPen p × (is_some p.carried ≡ true)
+  Carries Spent = ⊥
+  Carries (OfPass q) = ⊥
+
   -- of a pass alone
   abbrev pub IsPass : PassView St → Type 0
   IsPass q = q.mine ≡ places q.number q.seen
@@ -107,7 +110,7 @@ module _ {St : Type 0} where
   SeatFits seat holder p by (OfPass q) = (by ≡ holder q.number) × IsOut p q
 
   -- of all: which seat is the pen's, what the pen knows, which seat holds a number's pass, and that the word is the length of the list
-  pub record KeptAs (opening : St) (s : State Said (View St)) (seat : ℕ) (p : PenView St) : Type 0 where
+  pub record KeptAs (opening : St) (s : State Step (View St)) (seat : ℕ) (p : PenView St) : Type 0 where
     pub holder : ℕ → ℕ
     pub word : s.words ≡ length p.lines ∷ []
     pub opening_is : p.opening ≡ opening
@@ -115,7 +118,7 @@ module _ {St : Type 0} where
     pub each : (by : ℕ) (v : View St) → get_elem? s.views by ≡ some v → SeatFits seat holder p by v
 
   -- the rule
-  abbrev pub Kept : St → State Said (View St) → Type 0
+  abbrev pub Kept : St → State Step (View St) → Type 0
   Kept opening s = (seat : ℕ) × (p : PenView St) × KeptAs opening s seat p
 
   -- what a look at the word tells a pen and a pass
@@ -125,7 +128,7 @@ module _ {St : Type 0} where
   Tells n (OfPass q) = (length q.seen ≤ n) × IsPass q
 
   -- a look changes nothing
-  abbrev pub looked : TableStep Said → Me Said (View St) → ℕ → Me Said (View St) → Type 0
+  abbrev pub looked : TableStep Step → Me Step (View St) → ℕ → Me Step (View St) → Type 0
   looked st m n m' = (m' ≡ m) × Tells n m.0
 
   abbrev pub with_pen : (PenView St → PenView St) → View St → View St
@@ -134,17 +137,17 @@ module _ {St : Type 0} where
   with_pen f (OfPass q) = OfPass q
 
   -- the pen says a number
-  abbrev pub said_number : TableStep Said → Me Said (View St) → ℕ → Me Said (View St) → Type 0
+  abbrev pub said_number : TableStep Step → Me Step (View St) → ℕ → Me Step (View St) → Type 0
   said_number st m n m' = (m' ≡ (with_pen (says_number st.first) m.0, m.1)) × Tells n m.0
 
   -- the pen says a session
-  abbrev pub said_session : TableStep Said → Me Said (View St) → ℕ → Me Said (View St) → Type 0
+  abbrev pub said_session : TableStep Step → Me Step (View St) → ℕ → Me Step (View St) → Type 0
   said_session st m n m' = (m' ≡ (with_pen (says_session st.first) m.0, m.1)) × Tells n m.0
 
   -- the pen writes a line
-  abbrev pub wrote : TableStep Said → Me Said (View St) → ℕ → Me Said (View St) → Type 0
-  wrote st m n m' = (s : Snapshot Step) → st.said ≡ some (Written s) → m' ≡ (with_pen (writes s.value) m.0, m.1)
+  abbrev pub wrote : TableStep Step → Me Step (View St) → ℕ → Me Step (View St) → Type 0
+  wrote st m n m' = (s : Step) → st.said ≡ some s → m' ≡ (with_pen (writes s) m.0, m.1)
 
   -- a line is left with the pen
-  abbrev pub left_line : TableStep Said → Me Said (View St) → ℕ → Me Said (View St) → Type 0
-  left_line st m n m' = (t : Snapshot (List ℕ)) → st.said ≡ some (Left t) → m' ≡ (with_pen (leaves t.value) m.0, m.1)
+  abbrev pub left_line : List ℕ → TableStep Step → Me Step (View St) → ℕ → Me Step (View St) → Type 0
+  left_line t st m n m' = m' ≡ (with_pen (leaves t) m.0, m.1)

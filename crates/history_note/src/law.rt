@@ -1,12 +1,13 @@
 // The rule of the note, and what its steps tell.
-use crate::said::Said;
 use crate::view::View;
 use atomic_table::{Join, Play, Split, TableRule};
+use db_value::Step;
+use std::marker::{Brand, PhantomData};
 
 /// The rule of every note.
 pub struct Law;
 
-impl<St> TableRule<Said, View<St>, St> for Law {
+impl<St> TableRule<Step, View<St>, St> for Law {
     ghost use Rattle.history_note.specs.declared.view.View.TheVariants.{OfPen};
     ghost use Rattle.history_note.specs.Views.{first_pen};
     ghost use Rattle.history_note.specs.Rule.{Kept};
@@ -19,7 +20,7 @@ impl<St> TableRule<Said, View<St>, St> for Law {
 /// A pen or a pass loads the word.
 pub struct Look;
 
-impl<St> Play<Said, View<St>> for Look {
+impl<St> Play<Step, View<St>> for Look {
     ghost use Rattle.history_note.specs.Rule.{looked};
 
     ghost then = { looked };
@@ -28,7 +29,7 @@ impl<St> Play<Said, View<St>> for Look {
 /// The pen says a number, and changes nothing else.
 pub struct SayNumber;
 
-impl<St> Play<Said, View<St>> for SayNumber {
+impl<St> Play<Step, View<St>> for SayNumber {
     ghost use Rattle.history_note.specs.Rule.{said_number};
 
     ghost then = { said_number };
@@ -37,7 +38,7 @@ impl<St> Play<Said, View<St>> for SayNumber {
 /// The pen says a session, and changes nothing else.
 pub struct SaySession;
 
-impl<St> Play<Said, View<St>> for SaySession {
+impl<St> Play<Step, View<St>> for SaySession {
     ghost use Rattle.history_note.specs.Rule.{said_session};
 
     ghost then = { said_session };
@@ -46,19 +47,34 @@ impl<St> Play<Said, View<St>> for SaySession {
 /// The pen writes a line with the number that it said.
 pub struct WriteLine;
 
-impl<St> Play<Said, View<St>> for WriteLine {
+impl<St> Play<Step, View<St>> for WriteLine {
     ghost use Rattle.history_note.specs.Rule.{wrote};
 
     ghost then = { wrote };
 }
 
-/// The pen keeps a line for the number of the pass that it carries.
-pub struct LeaveLine;
+/// The line that a step leaves. A step that takes no line of its own has it from the type, and each call picks it.
+pub trait Leaving {
+    ghost use Rattle.std.specs.Prelude.{ℕ, List};
 
-impl<St> Play<Said, View<St>> for LeaveLine {
+    ghost line: { List ℕ };
+}
+
+impl Leaving for Brand {
+    ghost use Rattle.std.specs.Prelude.{[]};
+
+    ghost line = { [] };
+}
+
+/// The pen keeps a line for the number of the pass that it carries.
+pub struct LeaveLine<L: Leaving> {
+    of: PhantomData<L>,
+}
+
+impl<St, L: Leaving> Play<Step, View<St>> for LeaveLine<L> {
     ghost use Rattle.history_note.specs.Rule.{left_line};
 
-    ghost then = { left_line };
+    ghost then = { left_line L.line };
 }
 
 /// The pen issues a pass with the number and the session that it said.

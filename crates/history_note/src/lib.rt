@@ -13,13 +13,11 @@
 //! | `specs/Rule.antt` | the rule that all steps keep, and what a step tells |
 //! | `src/note.rt` | the note, its pen and its passes |
 //! | `src/view.rt` | what a pen and a pass know |
-//! | `src/said.rt` | what a step tells of a line |
 //! | `src/law.rt` | the kinds of step |
 #![tactic(auto)]
 
 mod law;
 mod note;
-mod said;
 mod view;
 
 pub use note::{Note, Pass, Pen};

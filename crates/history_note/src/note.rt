@@ -1,24 +1,24 @@
 // The note, its pen and its passes.
 ghost use Rattle.std.specs.Prelude.{◌≡◌, ◌≤◌, ◌<◌, ◌^◌, ◌-◌, length, true, false, None, IfOk, OnOk, OnErr};
 ghost use Rattle.history_note.specs.Places.{IsIssued, places};
-ghost use Rattle.history_note.specs.Views.{says};
-ghost use Rattle.history_note.specs.Rule.{PenIs, with_pen};
+ghost use Rattle.history_note.specs.Views.{says, leaves};
+ghost use Rattle.history_note.specs.Rule.{Carries, PenIs, with_pen};
 ghost use Rattle.history_note.specs.Shown.{is_carrying, carried_line, new_pen, noting, issued_pass, carrying, MayEnter, writing, leaving, handing, FitsPen, IsHanded, IsPenAt};
 
-use crate::law::{HandOut, Issue, Law, LeaveLine, Look, SayNumber, SaySession, TakeIn, WriteLine};
-use crate::said::Said;
+use crate::law::{
+    HandOut, Issue, Law, LeaveLine, Leaving, Look, SayNumber, SaySession, TakeIn, WriteLine,
+};
 use crate::view::View;
 use atomic_table::{Seat, Shared, Table};
 use db_store::Store;
 use db_value::{LineText, Step};
 use std::alloc::{AllocError, Global};
-use std::marker::Model;
-use std::snapshot::Snapshot;
+use std::marker::{Brand, Model};
 
 /// A note is one word that threads share, the length of a list. The list itself stands in proofs alone.
 #[derive(Drop)]
 pub struct Note<St: Store> {
-    table: Table<Said, View<St>, St, Law, Global>,
+    table: Table<Step, View<St>, St, Law, Global>,
 }
 
 impl<St: Store> Model for Note<St> {
@@ -41,7 +41,7 @@ impl<St: Store> Model for Note<St> {
 /// list if it has one.
 #[derive(Drop)]
 pub struct Pen<St: Store> {
-    seat: Seat<Said, View<St>>,
+    seat: Seat<Step, View<St>>,
     carries: bool,
 }
 
@@ -66,7 +66,7 @@ impl<St: Store> Model for Pen<St> {
 /// the lines there were entered with the pass, and which line it left to be written later.
 #[derive(Drop)]
 pub struct Pass<St: Store> {
-    seat: Seat<Said, View<St>>,
+    seat: Seat<Step, View<St>>,
 }
 
 impl<St: Store> Model for Pass<St> {
@@ -155,8 +155,7 @@ impl<St: Store> Note<St> {
         let shared = &self.table.shared;
         say(shared, &mut pen.seat, u64::from(number), 0);
         let count = shared.load::<Look>(&mut pen.seat, 0);
-        let said = Said::Written(Snapshot::of(step));
-        shared.compare_exchange_with::<WriteLine>(&mut pen.seat, 0, count, count + 1, &said);
+        shared.compare_exchange_with::<WriteLine>(&mut pen.seat, 0, count, count + 1, step);
     }
 
     /// Leaves a line with the pen, which keeps it for the carried pass's number until a line is written with that number. No line is
@@ -167,10 +166,7 @@ impl<St: Store> Note<St> {
         requires free { carried_line pen.old ≡ None }
         ensures left { pen.new ≡ leaving line.now pen.old }
     {
-        let said = Said::Left(Snapshot::of(line));
-        self.table
-            .shared
-            .compare_exchange_with::<LeaveLine>(&mut pen.seat, 0, 0, 0, &said);
+        leave_line::<St, Brand>(&self.table.shared, &mut pen.seat, line);
     }
 
     /// Hands out the carried pass, which has now seen the whole list, knows all of its own lines there, and has left the line that the
@@ -212,8 +208,8 @@ impl<St: Store> Pen<St> {
 // The pen says a number and a session, which a later step then takes. A step that changes a seat's view from itself alone has no
 // argument but the word's value, so the pen puts a number there in place of itself.
 fn say<St: Store>(
-    shared: &Shared<Said, View<St>, St, Law>,
-    seat: &mut Seat<Said, View<St>>,
+    shared: &Shared<Step, View<St>, St, Law>,
+    seat: &mut Seat<Step, View<St>>,
     number: u64,
     session: u64,
 )
@@ -225,4 +221,21 @@ fn say<St: Store>(
 {
     shared.compare_exchange::<SayNumber>(seat, 0, number, number);
     shared.compare_exchange::<SaySession>(seat, 0, session, session);
+}
+
+// The pen keeps a line, which L names, for the number of the pass that it carries. The word is as before.
+fn leave_line<St: Store, L: Leaving>(
+    shared: &Shared<Step, View<St>, St, Law>,
+    seat: &mut Seat<Step, View<St>>,
+    line: &LineText,
+)
+    requires table { (seat.old.table_id ≡ shared.now.table_id)
+        × (shared.now.table_id.words ≡ 1) }
+    requires pen { Carries seat.old.me.0 }
+    requires line { line.now ≡ L.line }
+    ensures same { (seat.new.table_id ≡ seat.old.table_id) × (seat.new.id ≡ seat.old.id) }
+    ensures left { seat.new.me ≡ (with_pen (leaves line.now) seat.old.me.0, seat.old.me.1) }
+{
+    let _ = line;
+    shared.compare_exchange::<LeaveLine<L>>(seat, 0, 0, 0);
 }
