@@ -79,8 +79,7 @@ impl<St: Store, J: Log<St>, T: LogTag<J>> Hub<St, J, T> {
         ensures stands { Stands result.board.kept
             × (result.board.kept.steps ≡ steps_of result.pen.lines) }
         ensures noted { AllNoted T.numbers result.pen.lines }
-        ensures owed { result.pen.owed ≡ [] }
-        ensures kept { result.pen.kept ≡ [] }
+        ensures owed { (result.pen.owed ≡ []) × (result.pen.kept ≡ []) }
     {
         let Hub { lock } = self;
         let Room {
