@@ -1,4 +1,5 @@
 -- Whose lines were entered with which numbers.
+use Rattle.std.specs.Prelude.{◌≢◌}
 use Rattle.std.proofs.Common.{◌≡◌, ◌⊎◌, ⊎_elim, inl, inr, ℕ, zero, suc, ◌+◌, ◌≤◌, List, [], ◌∷◌, ◌++◌, length, drop, refl, sym, ap, ◌∙◌, subst, arith}
 use Rattle.db_value.specs.declared.step.Step.{Step}
 use Rattle.history_note.specs.declared.view.NotedLine.{NotedLine}
@@ -7,7 +8,7 @@ use Rattle.history_note.proofs.Counting.{place_same, noted_more, noted_last}
 use Rattle.db_core.specs.Kept.{saids}
 use Rattle.db_core.specs.Desk.{AllOf, AllOthers}
 use Rattle.db_hub.specs.Entered.{steps_of, lines_of}
-use Rattle.db_hub.specs.Own.{session_of, AllBy, AllNoted, AllOwn, OutFits}
+use Rattle.db_hub.specs.Own.{session_of, AllBy, AllNoted, AllOwn, AllOnce, OutFits}
 
 -- ---- steps of one session
 
@@ -88,12 +89,28 @@ others_between s n since seen rest lines e l a none = none_own s n (length seen)
 
 -- ---- the seats that are out
 
+-- a session has one of them at most
+pub single : (out : List (ℕ × ℕ)) → AllOnce out → (s n m : ℕ) → IsNoted out n s → IsNoted out m s → n ≡ m
+single [] a s n m i j = absurd i
+single (x ∷ xs) a s n m (inl e) (inl f) = sym e.0 ∙ f.0
+single (x ∷ xs) a s n m (inl e) (inr j) = absurd ((a.0 m s j).1 (sym e.1))
+single (x ∷ xs) a s n m (inr i) (inl f) = absurd ((a.0 n s i).1 (sym f.1))
+single (x ∷ xs) a s n m (inr i) (inr j) = single xs a.1 s n m i j
+
+-- and a number one session
+pub one_session : (out : List (ℕ × ℕ)) → AllOnce out → (n s t : ℕ) → IsNoted out n s → IsNoted out n t → s ≡ t
+one_session [] a n s t i j = absurd i
+one_session (x ∷ xs) a n s t (inl e) (inl f) = sym e.1 ∙ f.1
+one_session (x ∷ xs) a n s t (inl e) (inr j) = absurd ((a.0 n t j).0 (sym e.0))
+one_session (x ∷ xs) a n s t (inr i) (inl f) = absurd ((a.0 n s i).0 (sym f.0))
+one_session (x ∷ xs) a n s t (inr i) (inr j) = one_session xs a.1 n s t i j
+
 -- a seat writes lines of its session
 pub out_writes : (since : ℕ → ℕ) (noted : List (ℕ × ℕ)) (lines : List NotedLine) (out : List (ℕ × ℕ)) (s n : ℕ) (ss : List Step) → OutFits since noted lines out → IsNoted out n s → AllBy s ss → OutFits since noted (lines ++ lines_of n ss) out
 out_writes since noted lines out s n ss f i a = record {
-  single = f.single;
+  once = f.once;
   known = f.known;
-  own = λ m t j. own_more t m (since m) lines (lines_of n ss) (f.own m t j) (own_lines s n t m ss a (λ (e : s ≡ t). f.single t n m (subst (IsNoted out n) e i) j));
+  own = λ m t j. own_more t m (since m) lines (lines_of n ss) (f.own m t j) (own_lines s n t m ss a (λ (e : s ≡ t). single out f.once t n m (subst (IsNoted out n) e i) j));
 }
 
 one_noted : (n s m t : ℕ) → IsNoted ((n, s) ∷ []) m t → (n ≡ m) × (s ≡ t)
@@ -105,27 +122,35 @@ either_noted [] n s m t i = inr (one_noted n s m t i)
 either_noted (x ∷ xs) n s m t (inl e) = inl (inl e)
 either_noted (x ∷ xs) n s m t (inr i) = ⊎_elim (λ (a : IsNoted xs m t). inl (inr a)) (λ (b : (n ≡ m) × (s ≡ t)). inr b) (either_noted xs n s m t i)
 
-drop_all : (xs : List NotedLine) → drop (length xs) xs ≡ []
-drop_all [] = refl
-drop_all (x ∷ xs) = drop_all xs
+-- where no line is of the session, each that is has any number
+pub own_none : (s n : ℕ) (ls : List NotedLine) → AllOthers s (saids (steps_of ls)) → AllOwn s n ls
+own_none s n [] a = tt
+own_none s n (l ∷ ls) a = (λ e. absurd (a.0 e), own_none s n ls a.1)
 
 -- a number is noted, whether or not its seat is given
 pub out_still : (since : ℕ → ℕ) (noted more : List (ℕ × ℕ)) (lines : List NotedLine) (out : List (ℕ × ℕ)) → OutFits since noted lines out → OutFits since (noted ++ more) lines out
-out_still since noted more lines out f = record { single = f.single; known = λ n s i. noted_more noted more n s (f.known n s i); own = f.own }
+out_still since noted more lines out f = record { once = f.once; known = λ n s i. noted_more noted more n s (f.known n s i); own = f.own }
 
--- a seat is given
-pub out_gives : (since : ℕ → ℕ) (noted : List (ℕ × ℕ)) (lines : List NotedLine) (out : List (ℕ × ℕ)) (n s : ℕ) → OutFits since noted lines out → ((m : ℕ) → IsNoted out m s → ⊥) → since n ≡ length lines → OutFits since (noted ++ (n, s) ∷ []) lines (out ++ (n, s) ∷ [])
-out_gives since noted lines out n s f free at = record {
-  single = λ t m k i j. ⊎_elim
-      (λ (a : IsNoted out m t). ⊎_elim (λ (b : IsNoted out k t). f.single t m k a b) (λ (b : (n ≡ k) × (s ≡ t)). absurd (free m (subst (IsNoted out m) (sym b.1) a))) (either_noted out n s k t j))
-      (λ (a : (n ≡ m) × (s ≡ t)). ⊎_elim (λ (b : IsNoted out k t). absurd (free k (subst (IsNoted out k) (sym a.1) b))) (λ (b : (n ≡ k) × (s ≡ t)). sym a.0 ∙ b.0) (either_noted out n s k t j))
-      (either_noted out n s m t i);
+once_more : (out : List (ℕ × ℕ)) (n s : ℕ) → AllOnce out → ((m t : ℕ) → IsNoted out m t → (m ≢ n) × (t ≢ s)) → AllOnce (out ++ (n, s) ∷ [])
+once_more [] n s a f = (λ m t i. absurd i, tt)
+once_more (x ∷ xs) n s a f = (
+  λ m t i. ⊎_elim
+      (λ (b : IsNoted xs m t). a.0 m t b)
+      (λ (b : (n ≡ m) × (s ≡ t)). (λ e. (f x.0 x.1 (inl (refl, refl))).0 (sym e ∙ sym b.0), λ e. (f x.0 x.1 (inl (refl, refl))).1 (sym e ∙ sym b.1)))
+      (either_noted xs n s m t i),
+  once_more xs n s a.1 (λ m t i. f m t (inr i)),
+)
+
+-- a seat is given, under a number that isn't out
+pub out_gives : (since : ℕ → ℕ) (noted : List (ℕ × ℕ)) (lines : List NotedLine) (out : List (ℕ × ℕ)) (n s : ℕ) → OutFits since noted lines out → ((m : ℕ) → IsNoted out m s → ⊥) → ((m t : ℕ) → IsNoted out m t → m ≢ n) → AllOthers s (saids (steps_of (drop (since n) lines))) → OutFits since (noted ++ (n, s) ∷ []) lines (out ++ (n, s) ∷ [])
+out_gives since noted lines out n s f free new at = record {
+  once = once_more out n s f.once (λ m t i. (new m t i, λ e. free m (subst (IsNoted out m) e i)));
   known = λ m t i. ⊎_elim
       (λ (a : IsNoted out m t). noted_more noted ((n, s) ∷ []) m t (f.known m t a))
       (λ (a : (n ≡ m) × (s ≡ t)). subst (λ (p : ℕ × ℕ). IsNoted (noted ++ (n, s) ∷ []) p.0 p.1) (λ i. (a.0 i, a.1 i)) (noted_last noted n s))
       (either_noted out n s m t i);
   own = λ m t i. ⊎_elim
       (λ (a : IsNoted out m t). f.own m t a)
-      (λ (a : (n ≡ m) × (s ≡ t)). subst (λ (p : ℕ × ℕ). AllOwn p.1 p.0 (drop (since p.0) lines)) (λ i. (a.0 i, a.1 i)) (subst (AllOwn s n) (sym (ap (λ (k : ℕ). drop k lines) at ∙ drop_all lines)) tt))
+      (λ (a : (n ≡ m) × (s ≡ t)). subst (λ (p : ℕ × ℕ). AllOwn p.1 p.0 (drop (since p.0) lines)) (λ i. (a.0 i, a.1 i)) (own_none s n (drop (since n) lines) at))
       (either_noted out n s m t i);
 }

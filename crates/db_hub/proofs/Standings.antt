@@ -12,7 +12,7 @@ use Rattle.db_core.specs.Sits.{IsOpenFor, Sits}
 use Rattle.atomic_table.specs.Seated.{TableId}
 use Rattle.history_note.specs.Shown.{AtPass}
 use Rattle.history_note.specs.Places.{places}
-use Rattle.db_hub.specs.Seats.{PassFits, SeatCaughtUp, SeatClosed, AtSeat, seat_at, with_desk, SeatFits, IsPassOf}
+use Rattle.db_hub.specs.Seats.{PassFits, SeatCaughtUp, SeatClosed, SeatStays, AtSeat, seat_at, with_desk, SeatFits, IsPassOf}
 use Rattle.db_value.specs.declared.step.Step.{Step}
 use Rattle.db_store.specs.State.{State, dataset_of}
 use Rattle.db_store.specs.Sound.{IsSound}
@@ -65,6 +65,9 @@ pub pass_of : (named : TableId) (o : State) (numbers : List (ℕ × ℕ)) (since
 pass_of named o numbers since n None k s h e = tt
 pass_of named o numbers since n (Some p) k s h e = subst (λ (x : AtSeat). IsPassOf named o since x p) e (refl, h.1)
 
+pub pass_is : (named : TableId) (o : State) (numbers : List (ℕ × ℕ)) (since : ℕ → ℕ) (n : ℕ) (pass : Option AtPass) (k : AtDesk) (s : AtSeat) (p : AtPass) → SeatFits named o numbers since n pass k → seat_at n pass k ≡ s → pass ≡ Some p → IsPassOf named o since s p
+pass_is named o numbers since n pass k s p h e is = subst (λ (r : Option AtPass). IfSome r (IsPassOf named o since s)) is (pass_of named o numbers since n pass k s h e)
+
 pub pass_lost : (n : ℕ) (pass : Option AtPass) (k : AtDesk) (s : AtSeat) → seat_at n pass k ≡ s → pass ≡ None → s.there ≡ false
 pass_lost n pass k s e none = sym (ap (λ (x : AtSeat). x.there) e) ∙ ap (λ (p : Option AtPass). (seat_at n p k).there) none
 
@@ -102,12 +105,28 @@ closed_by named o since old s p u shut h =
       note_is = f.note_is;
       opening_is = f.opening_is;
       number = f.number_is ∙ u.number;
-      session = f.session_is ∙ u.session;
+      session = f.session_is ∙ ap (λ (m : AtDesk). m.session) u.desk;
       front = u.front;
       begins = u.begins;
       seen = sym (ap (λ (x : AtSeat). x.seen) e) ∙ u.seen;
       mine = sym (ap (λ (x : AtSeat). x.mine) e) ∙ u.mine;
       mine_was = u.mine_was;
       mine_is = sym (ap (λ (x : AtSeat). x.mine) e) ∙ u.mine_is ∙ ap (λ (x : AtSeat). places old.number x.seen) e;
-      idle = idle_now named o since s.number s.desk p old.desk.session f u.none u.session (ap is_some u.open_tx ∙ shut);
+      idle = idle_now named o since s.number s.desk p old.desk.session f (ap (λ (m : AtDesk). m.waiting) u.desk) (ap (λ (m : AtDesk). m.session) u.desk) (ap (λ (m : AtDesk). is_some m.open_tx) u.desk ∙ shut);
     }
+
+-- a seat that caught up said nothing more
+pub stays_by : (old s : AtSeat) → SeatCaughtUp old s → SeatStays old s
+stays_by old s u = record {
+  front = u.front;
+  begins = u.begins;
+  lines = old.desk.waiting;
+  split = ap (λ (m : AtDesk). old.desk.waiting ++ m.waiting) u.desk ∙ append-nil old.desk.waiting;
+  seen = u.seen;
+  mine = u.mine;
+  mine_was = u.mine_was;
+  mine_is = u.mine_is;
+  there = u.there;
+  number = u.number;
+  session = ap (λ (m : AtDesk). m.session) u.desk;
+}

@@ -1,5 +1,5 @@
 -- A visit: what is known when the pass was taken in, and what comes of it.
-use Rattle.std.proofs.Common.{◌≡◌, ⊎_elim, inr, ℕ, ◌≤◌, ◌<◌, Bool, false, List, [], ◌∷◌, ◌++◌, length, drop, Some, refl, sym, ap, ◌∙◌, subst, arith, length-append, append_assoc, append-nil}
+use Rattle.std.proofs.Common.{◌≡◌, ⊎_elim, inr, ℕ, ◌≤◌, ◌<◌, Bool, true, false, List, [], ◌∷◌, ◌++◌, length, drop, Some, refl, sym, ap, ◌∙◌, subst, arith, length-append, append_assoc, append-nil}
 use Rattle.std.proofs.Math.Seq.{drop-append_seam}
 use Rattle.std.specs.Prelude.{Result, Ok, Err, IfOk, OnOk, OnErr}
 use Rattle.atomic_table.specs.Seated.{TableId}
@@ -23,9 +23,11 @@ use Rattle.db_core.specs.Desk.{AtDesk, Agrees, AllOthers, IsLeft, entered, clear
 use Rattle.db_hub.specs.Entered.{steps_of, lines_of, IsFront, world_after, is_open_after}
 use Rattle.db_hub.specs.Own.{AllBy, AllNoted, OutFits}
 use Rattle.db_hub.specs.Seats.{seat_at, PassFits, SeatVisited, SeatCaughtUp, SeatStays, SeatFailed}
-use Rattle.db_hub.specs.Rooms.{RoomFits, PenGrown, PassGrown}
+use Rattle.db_hub.specs.Desks.{DesksFit}
+use Rattle.db_hub.specs.Rooms.{RoomFits, AllOutIf, PenGrown, PassGrown}
 use Rattle.db_hub.proofs.Counted.{steps_append, steps_lines, length_steps}
 use Rattle.db_hub.proofs.Owners.{by_own, by_both, noted_both, noted_lines, others_between, out_writes}
+use Rattle.db_hub.proofs.Leaving.{desks_on}
 use Rattle.db_hub.proofs.Standings.{agrees_at, agrees_now, sits_open}
 
 -- the board's steps grew by these, all of the session
@@ -92,12 +94,13 @@ pub on_ok : {A E : Type 0} (r : Result A E) (X : Type 0) → X → OnOk r X
 on_ok (Ok y) X x = x
 on_ok (Err e) X x = tt
 
-module _ (named : TableId) (numbers : List (ℕ × ℕ)) (o : State) (since : ℕ → ℕ) (note : AtNote) (pen0 : AtPen) (board : Kept) (out : List (ℕ × ℕ)) (issued : ℕ) (rf : RoomFits named numbers o since note pen0 board out issued) (n : ℕ) (k : AtDesk) (q : AtPass)
-    (pf : PassFits named o since n k q) (pen1 : AtPen) (taken : pen1 ≡ carrying q pen0) (fits : FitsPen pen0 q) where
-  -- its seat is out
-  i : IsNoted out n k.session
-  i = rf.all_out n k.session (subst (λ (p : ℕ × ℕ). IsNoted pen0.noted p.0 p.1) (λ j. (pf.number_is j, pf.session_is j)) fits.is_noted)
+-- a seat that may visit is out
+pub is_out : (stays : Bool) (noted out : List (ℕ × ℕ)) (n s : ℕ) → (stays ≡ false → IsNoted out n s) → AllOutIf stays noted out → IsNoted noted n s → IsNoted out n s
+is_out true noted out n s may all i = all refl n s i
+is_out false noted out n s may all i = may refl
 
+module _ (named : TableId) (numbers : List (ℕ × ℕ)) (o : State) (since : ℕ → ℕ) (note : AtNote) (pen0 : AtPen) (board : Kept) (out : List (ℕ × ℕ)) (issued : ℕ) (rf : RoomFits named numbers o since note pen0 board out issued) (n : ℕ) (k : AtDesk) (q : AtPass)
+    (pf : PassFits named o since n k q) (pen1 : AtPen) (taken : pen1 ≡ carrying q pen0) (fits : FitsPen pen0 q) (i : IsNoted out n k.session) where
   pub begins : IsFront q.seen pen0.lines
   begins = (fits.rest, fits.prefix)
 
@@ -120,6 +123,9 @@ module _ (named : TableId) (numbers : List (ℕ × ℕ)) (o : State) (since : �
 
   pub owes_still : pen1.owed ≡ []
   owes_still = ap (λ (p : AtPen). p.owed) taken ∙ rf.owes_nothing
+
+  pub keeps_still : pen1.kept ≡ []
+  keeps_still = ap (λ (p : AtPen). p.kept) taken ∙ rf.keeps_nothing
 
   pub carries_it : (c : PassView State) × (pen1.carried ≡ Some c) × (c.number ≡ n)
   carries_it = (known q, ap (λ (p : AtPen). p.carried) taken, pf.number_is)
@@ -158,14 +164,20 @@ module _ (named : TableId) (numbers : List (ℕ × ℕ)) (o : State) (since : �
         opening_is = opening_now;
         steps_are = steps_now;
         owes_nothing = grown.owed;
+        keeps_nothing = grown.kept;
         stands = stands;
         lines_noted = subst (λ (p : List (ℕ × ℕ) × List NotedLine). AllNoted p.0 p.1) (λ j. (sym noted_now j, sym lines_now j))
             (noted_both pen0.noted pen0.lines (lines_of n more) rf.lines_noted (noted_lines pen0.noted n k.session more (rf.out_fits.known n k.session i) g.own));
         below = subst (λ (ns : List (ℕ × ℕ)). (m s : ℕ) → IsNoted ns m s → m < issued) (sym noted_now) rf.below;
         all_named = subst (λ (ns : List (ℕ × ℕ)). (m s : ℕ) → IsNoted ns m s → IsNoted numbers m s) (sym noted_now) rf.all_named;
-        all_out = subst (λ (ns : List (ℕ × ℕ)). (m s : ℕ) → IsNoted ns m s → IsNoted out m s) (sym noted_now) rf.all_out;
         out_fits = subst (λ (p : List (ℕ × ℕ) × List NotedLine). OutFits since p.0 p.1 out) (λ j. (sym noted_now j, sym lines_now j)) (out_writes since pen0.noted pen0.lines out k.session n more rf.out_fits i g.own);
       }
+
+      pub stays_now : (stays : Bool) → AllOutIf stays pen0.noted out → AllOutIf stays pen2.noted out
+      stays_now stays h = subst (λ (ns : List (ℕ × ℕ)). AllOutIf stays ns out) (sym noted_now) h
+
+      pub desks_now : (desks : List (ℕ × AtDesk)) → DesksFit board pen0.noted out desks → DesksFit c pen2.noted out desks
+      desks_now desks h = subst (λ (ns : List (ℕ × ℕ)). DesksFit c ns out desks) (sym noted_now) (desks_on board pen0.noted out desks h c n k.session more i stands g.opening g.steps g.own)
 
       module _ (k1 : AtDesk) (same : k1.session ≡ k.session) (now : Agrees c k1) (p2 : AtPass) (given : PassGrown pen1 (known q) p2 (drop from c.steps)) where
         own_lines : lines_of q.number (drop from c.steps) ≡ lines_of n more
@@ -196,6 +208,7 @@ module _ (named : TableId) (numbers : List (ℕ × ℕ)) (o : State) (since : �
           number_is = given.number ∙ pf.number_is;
           session_is = given.session ∙ pf.session_is ∙ sym same;
           mine_is = given.mine_is;
+          left_none = given.left;
           since_is = since_now;
           agree = agrees_at c k1 o (steps_of p2.seen) now opening_now (steps_now ∙ ap steps_of (sym whole_now));
         }
@@ -228,8 +241,8 @@ module _ (named : TableId) (numbers : List (ℕ × ℕ)) (o : State) (since : �
               ∙ (λ j. is_open_after c.opening (c.steps ++ sym none j) k1.session) ∙ sits_open (world_of (entered c k1)) k1.session k1.current k1.skipping k1.open_tx now.sits;
         }
 
-        pub caught_up : more ≡ k.waiting → k1.waiting ≡ [] → k1.open_tx ≡ k.open_tx → SeatCaughtUp (seat_at n (Some q) k) (seat_at n (Some p2) k1)
-        caught_up e none still = record {
+        pub caught_up : more ≡ k.waiting → k1 ≡ cleared k → SeatCaughtUp (seat_at n (Some q) k) (seat_at n (Some p2) k1)
+        caught_up e desk = record {
           front = pen0.lines;
           begins = begins;
           seen = seen_now ∙ ap (λ (ss : List Step). pen0.lines ++ lines_of n ss) e;
@@ -238,9 +251,7 @@ module _ (named : TableId) (numbers : List (ℕ × ℕ)) (o : State) (since : �
           mine_is = own_is;
           there = refl;
           number = refl;
-          session = same;
-          none = none;
-          open_tx = still;
+          desk = desk;
         }
 
         -- after want of memory
@@ -294,7 +305,7 @@ module _ (named : TableId) (numbers : List (ℕ × ℕ)) (o : State) (since : �
     module _ (pen2 : AtPen) (from : ℕ) (from_is : from ≡ length board.steps) (grown : PenGrown pen1 pen2 n (drop from c.steps)) (p2 : AtPass) (given : PassGrown pen1 (known q) p2 (drop from c.steps)) where
       pub caught_now : {A E : Type 0} → (r : Result A E) → Caught board k c k1 r → OnOk r (SeatCaughtUp (seat_at n (Some q) k) (seat_at n (Some p2) k1))
       caught_now (Ok y) t =
-          caught_up c k.waiting (grows_entered board c k agree t.0) now.stands pen2 from from_is grown k1 same now p2 given refl (ap (λ (m : AtDesk). m.waiting) t.1) (ap (λ (m : AtDesk). m.open_tx) t.1)
+          caught_up c k.waiting (grows_entered board c k agree t.0) now.stands pen2 from from_is grown k1 same now p2 given refl t.1
       caught_now (Err e) t = tt
 
       pub failed_caught : {A E : Type 0} → (r : Result A E) → Caught board k c k1 r → OnErr r (SeatFailed (seat_at n (Some q) k) (seat_at n (Some p2) k1))

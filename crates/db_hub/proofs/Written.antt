@@ -1,16 +1,25 @@
 -- Steps that are written with the number of the carried pass.
-use Rattle.std.proofs.Common.{◌≡◌, ℕ, ◌+◌, ◌==◌, List, [], ◌∷◌, ◌++◌, length, Option, Some, None, cond, refl, sym, ap, ◌∙◌, arith, length-append, append_assoc, append-nil, eq-eqb}
+use Rattle.std.proofs.Common.{◌≡◌, ℕ, ◌+◌, ◌==◌, List, [], ◌∷◌, ◌++◌, length, Option, Some, None, cond, refl, sym, ap, ◌∙◌, arith, length-append, append_assoc, append-nil, eq-eqb, subst}
 use Rattle.std.specs.Prelude.{true, false}
 use Rattle.db_value.specs.declared.step.Step.{Step}
 use Rattle.db_store.specs.State.{State}
 use Rattle.history_note.specs.declared.view.NotedLine.{NotedLine}
 use Rattle.history_note.specs.declared.view.PassView.{PassView}
-use Rattle.history_note.specs.Places.{places, places_from, owed_to}
-use Rattle.history_note.specs.Views.{noted_line}
+use Rattle.history_note.specs.Places.{places, places_from, owed_to, kept_for, kept_without}
+use Rattle.history_note.specs.Rule.{IsTheCarried}
+use Rattle.history_note.specs.Views.{noted_line, carried_after}
 use Rattle.history_note.specs.Shown.{AtPen, AtPass, is_carrying, writing, handing_one, handed_pass}
 use Rattle.history_note.proofs.Counting.{completed_owed_nothing, place_same}
 use Rattle.db_hub.specs.Entered.{lines_of}
-use Rattle.db_hub.specs.Rooms.{written_all, PenGrown, PassGrown}
+use Rattle.db_hub.specs.Rooms.{written_all, CarriesOwn, PenGrown, PassGrown}
+
+-- what a pen that keeps nothing keeps after a line was written
+still_none : (n : ℕ) (p : AtPen) → p.kept ≡ [] → kept_without n p.kept ≡ p.kept
+still_none n p none = ap (kept_without n) none ∙ sym none
+
+-- the number's pass is carried
+pub own_of : (n : ℕ) (p : AtPen) (c : PassView State) → p.carried ≡ Some c → c.number ≡ n → p.kept ≡ [] → CarriesOwn p n
+own_of n p c e m none = record { keeps_nothing = none; carried = subst (IsTheCarried n) (sym e) (sym m) }
 
 abbrev pub with_mine : PassView State → List ℕ → PassView State
 with_mine c ps = record c { mine = c.mine ++ ps }
@@ -19,23 +28,30 @@ with_mine c ps = record c { mine = c.mine ++ ps }
 abbrev pub with_lines : AtPen → PassView State → ℕ → List Step → AtPen
 with_lines p c n ss = record p { lines = p.lines ++ lines_of n ss; carried = Some (with_mine c (places_from n (length p.lines) (lines_of n ss))) }
 
-write_one : (n : ℕ) (s : Step) (p : AtPen) (c : PassView State) → p.carried ≡ Some c → c.number ≡ n → writing n s p ≡ record p { lines = p.lines ++ noted_line n s ∷ []; carried = Some (with_mine c (length p.lines ∷ [])) }
-write_one n s p c e m =
+write_one : (n : ℕ) (s : Step) (p : AtPen) (c : PassView State) → p.carried ≡ Some c → c.number ≡ n → p.kept ≡ [] → writing n s p ≡ record p { lines = p.lines ++ noted_line n s ∷ []; carried = Some (with_mine c (length p.lines ∷ [])) }
+write_one n s p c e m none =
     let q : (n == c.number) ≡ true = eq-eqb n c.number (sym m) in
     ap (λ (o : Option (PassView State)). record p {
       lines = p.lines ++ noted_line n s ∷ [];
       owed = Rattle.history_note.specs.Views.owed_after n (length p.lines) o p.owed;
-      carried = Rattle.history_note.specs.Views.carried_after n (length p.lines) o;
+      kept = kept_without n p.kept;
+      carried = carried_after n (length p.lines) o;
     }) e
     ∙ ap (λ b. record p {
       lines = p.lines ++ noted_line n s ∷ [];
       owed = cond b p.owed (p.owed ++ (n, length p.lines) ∷ []);
+      kept = kept_without n p.kept;
       carried = Some (record c { mine = cond b (c.mine ++ length p.lines ∷ []) c.mine });
     }) q
+    ∙ ap (λ (ks : List (ℕ × List ℕ)). record p {
+      lines = p.lines ++ noted_line n s ∷ [];
+      kept = ks;
+      carried = Some (with_mine c (length p.lines ∷ []));
+    }) (still_none n p none)
 
-pub written_is : (n : ℕ) (ss : List Step) (p : AtPen) (c : PassView State) → p.carried ≡ Some c → c.number ≡ n → written_all n ss p ≡ with_lines p c n ss
-written_is n [] p c e m = λ i. record p { lines = sym (append-nil p.lines) i; carried = (e ∙ ap (λ (ps : List ℕ). Some (record c { mine = ps })) (sym (append-nil c.mine))) i }
-written_is n (s ∷ ss) p c e m =
+pub written_is : (n : ℕ) (ss : List Step) (p : AtPen) (c : PassView State) → p.carried ≡ Some c → c.number ≡ n → p.kept ≡ [] → written_all n ss p ≡ with_lines p c n ss
+written_is n [] p c e m none = λ i. record p { lines = sym (append-nil p.lines) i; carried = (e ∙ ap (λ (ps : List ℕ). Some (record c { mine = ps })) (sym (append-nil c.mine))) i }
+written_is n (s ∷ ss) p c e m none =
     let k : ℕ = length p.lines in
     let x : NotedLine = noted_line n s in
     let ls : List NotedLine = lines_of n ss in
@@ -46,12 +62,12 @@ written_is n (s ∷ ss) p c e m =
     let mine : (c.mine ++ k ∷ []) ++ places_from n (length (p.lines ++ x ∷ [])) ls ≡ c.mine ++ places_from n k (x ∷ ls) =
     append_assoc c.mine (k ∷ []) (places_from n (length (p.lines ++ x ∷ [])) ls)
     ∙ (λ i. c.mine ++ (sym (place_same n n k refl) i ++ places_from n (next i) ls)) in
-    ap (written_all n ss) (write_one n s p c e m) ∙ written_is n ss p1 c1 refl m
+    ap (written_all n ss) (write_one n s p c e m none) ∙ written_is n ss p1 c1 refl m none
     ∙ (λ i. record p { lines = append_assoc p.lines (x ∷ []) ls i; carried = Some (record c { mine = mine i }) })
 
-module _ (n : ℕ) (ss : List Step) (p0 pw : AtPen) (c : PassView State) (e : p0.carried ≡ Some c) (m : c.number ≡ n) (owed : p0.owed ≡ []) (is : pw ≡ written_all n ss p0) where
+module _ (n : ℕ) (ss : List Step) (p0 pw : AtPen) (c : PassView State) (e : p0.carried ≡ Some c) (m : c.number ≡ n) (owed : p0.owed ≡ []) (none : p0.kept ≡ []) (is : pw ≡ written_all n ss p0) where
   wrote : pw ≡ with_lines p0 c n ss
-  wrote = is ∙ written_is n ss p0 c e m
+  wrote = is ∙ written_is n ss p0 c e m none
 
   -- the pen, whether the pass is handed out or not
   pub grown_kept : (p1 : AtPen) → p1 ≡ pw → PenGrown p0 p1 n ss
@@ -63,6 +79,7 @@ module _ (n : ℕ) (ss : List Step) (p0 pw : AtPen) (c : PassView State) (e : p0
         noted = ap (λ (p : AtPen). p.noted) g;
         lines = ap (λ (p : AtPen). p.lines) g;
         owed = ap (λ (p : AtPen). p.owed) g ∙ owed;
+        kept = ap (λ (p : AtPen). p.kept) g ∙ none;
       }
 
   left_is : (p1 : AtPen) → p1 ≡ handing_one pw.carried pw → p1 ≡ handing_one (Some (with_mine c (places_from n (length p0.lines) (lines_of n ss)))) (with_lines p0 c n ss)
@@ -77,6 +94,7 @@ module _ (n : ℕ) (ss : List Step) (p0 pw : AtPen) (c : PassView State) (e : p0
         noted = ap (λ (p : AtPen). p.noted) g;
         lines = ap (λ (p : AtPen). p.lines) g;
         owed = ap (λ (p : AtPen). p.owed) g ∙ ap (Rattle.history_note.specs.Places.without c.number) owed;
+        kept = ap (λ (p : AtPen). p.kept) g ∙ none;
       }
 
   pub free_given : (p1 : AtPen) → p1 ≡ handing_one pw.carried pw → is_carrying p1 ≡ false
@@ -99,6 +117,7 @@ module _ (n : ℕ) (ss : List Step) (p0 pw : AtPen) (c : PassView State) (e : p0
         seen = ap (λ (x : AtPass). x.seen) g ∙ ap (λ (ls : List NotedLine). p0.lines ++ ls) own;
         mine = ap (λ (x : AtPass). x.mine) g ∙ completed_owed_nothing d p0.owed (ap (owed_to c.number) owed) ∙ (λ i. c.mine ++ places_from (sym m i) (length p0.lines) (own i));
         mine_is = is_mine;
+        left = ap (λ (x : AtPass). x.left) g ∙ ap (kept_for c.number) none;
       }
 
 abbrev number_or : Option (PassView State) → ℕ

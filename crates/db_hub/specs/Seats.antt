@@ -11,7 +11,7 @@ use Rattle.reply_text.specs.Reply.{NamesItsRows}
 use Rattle.db_core.specs.Order.{Said, said_of, reply_in}
 use Rattle.db_core.specs.Laws.{AllHaveRoom}
 use Rattle.db_core.specs.Kept.{Kept, Stands, step_of, world_of, saids}
-use Rattle.db_core.specs.Desk.{AtDesk, Agrees, AllOthers, entered}
+use Rattle.db_core.specs.Desk.{AtDesk, Agrees, AllOthers, entered, cleared}
 use Rattle.db_hub.specs.Entered.{steps_of, lines_of, IsFront, world_after, is_open_after, kept_at}
 
 -- whether it has its pass, what the pass has seen, and the places of its lines; the number; and the desk
@@ -27,13 +27,14 @@ abbrev pub seat_at : ℕ → Option AtPass → AtDesk → AtSeat
 seat_at n None k = record { there = false; number = n; seen = []; mine = []; desk = k }
 seat_at n (Some p) k = record { there = true; number = n; seen = p.seen; mine = p.mine; desk = k }
 
--- a pass of the note, issued for the desk's session under this number; with a board on which just its lines were run, the desk agrees
+-- a pass of the note, issued for the desk's session under this number, that left no line to be written later; with a board on which just its lines were run, the desk agrees
 pub record PassFits (note : TableId) (opened : State) (since : ℕ → ℕ) (n : ℕ) (k : AtDesk) (p : AtPass) : Type 0 where
   pub note_is : p.note ≡ note
   pub opening_is : p.opening ≡ opened
   pub number_is : p.number ≡ n
   pub session_is : p.session ≡ k.session
   pub mine_is : p.mine ≡ places p.number p.seen
+  pub left_none : p.left ≡ None
   pub since_is : since n ≤ length p.seen
   pub agree : Agrees (kept_at opened (steps_of p.seen)) k
 
@@ -86,7 +87,7 @@ pub record SeatVisited (opened : State) (old new : AtSeat) (text : List ℕ) (r 
   pub none : new.desk.waiting ≡ []
   pub now_open : is_open_after opened (steps_of new.seen) old.desk.session ≡ is_some new.desk.open_tx
 
--- The seat's waiting lines were entered, the last that it has seen.
+-- The seat's waiting lines were entered, the last that it has seen, and its desk is else as before.
 pub record SeatCaughtUp (old new : AtSeat) : Type 0 where
   pub front : List NotedLine
   pub begins : IsFront old.seen front
@@ -96,9 +97,7 @@ pub record SeatCaughtUp (old new : AtSeat) : Type 0 where
   pub mine_is : new.mine ≡ places old.number new.seen
   pub there : new.there ≡ true
   pub number : new.number ≡ old.number
-  pub session : new.desk.session ≡ old.desk.session
-  pub none : new.desk.waiting ≡ []
-  pub open_tx : new.desk.open_tx ≡ old.desk.open_tx
+  pub desk : new.desk ≡ cleared old.desk
 
 -- A seat was given up: its waiting lines were entered, the last that its pass has seen. After them its session has no open transaction.
 pub record SeatClosed (note : TableId) (opened : State) (old : AtSeat) (p : AtPass) : Type 0 where

@@ -1,5 +1,5 @@
 //! The room under a lock.
-ghost use Rattle.std.specs.Prelude.{◌≡◌, [], false, is_some, IfOk, IfErr, OnErr};
+ghost use Rattle.std.specs.Prelude.{◌≡◌, [], true, false, is_some, IfOk, IfErr, OnErr};
 ghost use Rattle.db_core.specs.Order.{said_of};
 ghost use Rattle.db_core.specs.Sits.{heard};
 ghost use Rattle.db_core.specs.Kept.{Stands};
@@ -19,15 +19,19 @@ use std::alloc::AllocError;
 use std::sync::{Mutex, Wait};
 use stmt_text::Stmt;
 
-/// A hub is a room under a lock, which threads share.
+/// A hub is a room under a lock, which threads share. All seats of the room stay out: one that was
+/// given up goes on to be listed.
 #[derive(Drop)]
 pub struct Hub<St: Store, J: Log<St>, T: LogTag<J>> {
     pub lock: Mutex<Room<St, J, T>>,
+    ghost stays: { T.stays ≡ true },
 }
 
 impl<St: Store, J: Log<St>, T: LogTag<J>> Hub<St, J, T> {
     /// A hub of a room, on which the seats were made before.
-    pub fn new(room: Room<St, J, T>) -> Hub<St, J, T> {
+    pub fn new(room: Room<St, J, T>) -> Hub<St, J, T>
+        requires { T.stays ≡ true }
+    {
         Hub {
             lock: Mutex::new(room),
         }
@@ -79,7 +83,7 @@ impl<St: Store, J: Log<St>, T: LogTag<J>> Hub<St, J, T> {
         ensures stands { Stands result.board.kept
             × (result.board.kept.steps ≡ steps_of result.pen.lines) }
         ensures noted { AllNoted T.numbers result.pen.lines }
-        ensures owed { result.pen.owed ≡ [] }
+        ensures owed { (result.pen.owed ≡ []) × (result.pen.kept ≡ []) }
     {
         let Hub { lock } = self;
         let Room {

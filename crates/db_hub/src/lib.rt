@@ -6,7 +6,9 @@
 //! | file | has |
 //! |---|---|
 //! | `specs/Entered.antt` | lines of the list, their steps, and a board on which just these were run |
-//! | `specs/Own.antt` | which sessions' lines were entered with which numbers |
+//! | `specs/Own.antt`, `src/sessions.rt` | which sessions' lines were entered with which numbers, and which seats are out |
+//! | `specs/Keyed.antt`, `src/keyed.rt` | lists of values, each with a key |
+//! | `specs/Desks.antt` | the desks of sessions without a seat |
 //! | `specs/Seats.antt`, `src/seat.rt` | a session's place at the hub, whose desk agrees with what its pass has seen |
 //! | `specs/Rooms.antt`, `src/writing.rt` | steps that are written to the note, and what lies under the lock |
 //! | `src/room.rt` | what lies under the lock |
@@ -15,12 +17,15 @@
 #![tactic(auto)]
 
 mod hub;
+mod keyed;
 mod room;
 mod seat;
+mod sessions;
 mod tag;
 mod writing;
 
 pub use hub::Hub;
 pub use room::{Room, Shut};
 pub use seat::Seat;
+pub use sessions::SessionList;
 pub use tag::{LogTag, Tag};

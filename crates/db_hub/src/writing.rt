@@ -4,7 +4,7 @@ ghost use Rattle.db_store.specs.State.{State};
 ghost use Rattle.history_note.specs.declared.view.PassView.{PassView};
 ghost use Rattle.history_note.specs.Places.{IsIssued};
 ghost use Rattle.history_note.specs.Shown.{is_carrying};
-ghost use Rattle.db_hub.specs.Rooms.{written_all, MayWrite, PenGrown, PassGrown};
+ghost use Rattle.db_hub.specs.Rooms.{written_all, CarriesOwn, MayWrite, PenGrown, PassGrown};
 
 use db_store::Store;
 use db_value::Step;
@@ -21,6 +21,7 @@ fn write_from<St: Store>(
 )
     requires note { pen.old.note ≡ note.now.note }
     requires issued { IsIssued pen.old.noted number }
+    requires own { CarriesOwn pen.old number }
     requires from { from ≤ length steps.now }
     requires lines { length pen.old.lines ≡ from }
     ensures { pen.new ≡ written_all number (drop from steps.now) pen.old }

@@ -1,5 +1,5 @@
 -- A ticket that was given stays given.
-use Rattle.std.proofs.Common.{◌≡◌, ◌⊎◌, inl, inr, ℕ, zero, suc, ◌+◌, ◌<◌, Bool, List, [], ◌∷◌, ◌++◌, length, Option, None, Some, slice_get, length-append, refl, sym, subst, ◌∙◌, arith}
+use Rattle.std.proofs.Common.{◌≡◌, inl, inr, ℕ, ◌<◌, Bool, List, [], ◌∷◌, ◌++◌, length, Option, None, Some, length-append, refl, sym, subst, ◌∙◌, arith}
 use Rattle.flush_queue.specs.Queue.{AtQueue, IsGiven, outcome, settled, settled_by}
 
 longer : (q : AtQueue) (written : Bool) (u : ℕ) → IsGiven q u → IsGiven (settled q written) u

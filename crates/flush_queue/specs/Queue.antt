@@ -1,5 +1,5 @@
 -- A queue of entries that wait for the log, in batches, and the results of earlier batches.
-use Rattle.std.specs.Prelude.{◌≡◌, ◌⊎◌, ◌<◌, ℕ, Bool, true, false, List, [], ◌∷◌, ◌++◌, length, Option, None, Some, slice_get}
+use Rattle.std.specs.Prelude.{◌≡◌, ◌⊎◌, ◌<◌, ℕ, Bool, List, [], ◌∷◌, ◌++◌, length, Option, None, Some, slice_get}
 
 -- the body of the batch that waits, and of each earlier batch whether it was written
 pub record AtQueue : Type 0 where

@@ -116,8 +116,8 @@ impl FlushQueue {
         ticket: Ticket,
     ) -> Result<(), Failed>
         requires { IsGiven self.old ticket }
-        ensures log { outcome self.old ticket ≡ None → Appends J.faults J.Keeps J.Owes J.generation
-            J.moment J.opens_since J.Quiet self.old.waiting log.old log.new result }
+        ensures log { outcome self.old ticket ≡ None
+            → Appends J.Log self.old.waiting log.old log.new result }
         ensures queue { self.new
             ≡ settled_by (outcome self.old ticket) self.old (is_ok result) }
         ensures spared { (w : Bool) → outcome self.old ticket ≡ Some w → log.new ≡ log.old }
@@ -134,8 +134,7 @@ impl FlushQueue {
     // Writes the batch that waits.
     fn settle_waiting<St: Store, J: Log<St>>(&mut self, log: &mut J) -> Result<(), Failed>
         requires { self.old.waiting ≡ [] → ⊥ }
-        ensures log { Appends J.faults J.Keeps J.Owes J.generation J.moment J.opens_since J.Quiet
-            self.old.waiting log.old log.new result }
+        ensures log { Appends J.Log self.old.waiting log.old log.new result }
         ensures queue { self.new ≡ settled self.old (is_ok result) }
     {
         let told = log.append(&self.batch);

@@ -13,12 +13,12 @@ use Rattle.history_note.specs.declared.view.PenView.{PenView}
 use Rattle.history_note.specs.declared.view.PassView.{PassView}
 use Rattle.history_note.specs.declared.view.View.{View}
 use Rattle.history_note.specs.declared.view.View.TheVariants.{Spent, OfPen, OfPass}
-use Rattle.history_note.specs.Places.{places, owed_to, IsIssued}
-use Rattle.history_note.specs.Views.{says, says_number, writes, carried_after, owed_after, handing_by, handed_by, noting_view, issued_view, handing_view, handed_view, taking_view}
-use Rattle.history_note.specs.Rule.{Fits, IsCarried, CarriedFits, IsPen, PenIs, IsPass, PassIs, Kept, Tells, with_pen, said_number, said_session, wrote}
-use Rattle.history_note.specs.Shown.{AtNote, AtPen, AtPass, is_carrying, pen_at, pass_at, shown_pass, shown_carried, noting, issued_pass, carrying, writing, handing, handing_one, handed_pass, FitsPen, IsHanded, IsPenAt}
+use Rattle.history_note.specs.Places.{places, owed_to, kept_for, IsIssued}
+use Rattle.history_note.specs.Views.{says, says_number, writes, leaves_by, leaves, carried_after, owed_after, handing_by, handed_by, noting_view, issued_view, handing_view, handed_view, taking_view}
+use Rattle.history_note.specs.Rule.{Fits, IsCarried, CarriedFits, IsNext, IsPen, PenIs, Carries, IsPass, PassIs, Kept, Tells, with_pen, said_number, said_session, wrote, left_line}
+use Rattle.history_note.specs.Shown.{AtNote, AtPen, AtPass, is_carrying, pen_at, pass_at, shown_pass, shown_carried, noting, issued_pass, carrying, MayEnter, writing, leaving_by, leaving, handing, handing_one, handed_pass, FitsPen, IsHanded, IsPenAt}
 use Rattle.history_note.proofs.Counting.{no_places, completed_is, all_owed_without}
-use Rattle.history_note.proofs.Steps.{says_number_at, says_session_at, write_at, write_pen, note_pen, issue_at, hand_at, take_at}
+use Rattle.history_note.proofs.Steps.{says_number_at, says_session_at, write_at, write_pen, note_pen, issue_at, hand_at, take_at, leave_at, leave_pen}
 
 -- what is added to a list and leaves it as it is has nothing
 nothing_more : (xs ys : List ℕ) → xs ≡ xs ++ ys → ys ≡ []
@@ -59,13 +59,13 @@ module _ {St : Type 0} where
   still_some f n at None = refl
   still_some f n at (Some c) = refl
 
-  carried_fits_shown : (f : St → State) (o : St) (noted : List (ℕ × ℕ)) (lines : List NotedLine) (owed : List (ℕ × ℕ)) (c : Option (PassView St)) → CarriedFits o noted lines owed c → CarriedFits (f o) noted lines owed (shown_carried f c)
-  carried_fits_shown f o noted lines owed None h = tt
-  carried_fits_shown f o noted lines owed (Some c) h = record { opening_is = ap f h.opening_is; is_noted = h.is_noted; rest = h.rest; written = h.written; prefix = h.prefix; mine_is = h.mine_is; rest_is = h.rest_is }
+  carried_fits_shown : (f : St → State) (o : St) (noted : List (ℕ × ℕ)) (lines : List NotedLine) (owed : List (ℕ × ℕ)) (kept_then : Option (List ℕ)) (c : Option (PassView St)) → CarriedFits o noted lines owed kept_then c → CarriedFits (f o) noted lines owed kept_then (shown_carried f c)
+  carried_fits_shown f o noted lines owed kept_then None h = tt
+  carried_fits_shown f o noted lines owed kept_then (Some c) h = record { opening_is = ap f h.opening_is; is_noted = h.is_noted; rest = h.rest; written = h.written; prefix = h.prefix; mine_is = h.mine_is; rest_is = h.rest_is; left_fits = h.left_fits }
 
   -- a pass that was just taken in fits as one that is out
-  fits_shown : (f : St → State) (o : St) (noted : List (ℕ × ℕ)) (lines : List NotedLine) (owed : List (ℕ × ℕ)) (q : PassView St) → IsCarried o noted lines owed q → IsPass q → Fits (f o) noted lines owed (shown_pass f q)
-  fits_shown f o noted lines owed q h k =
+  fits_shown : (f : St → State) (o : St) (noted : List (ℕ × ℕ)) (lines : List NotedLine) (owed : List (ℕ × ℕ)) (kept : List (ℕ × List ℕ)) (q : PassView St) → IsCarried o noted lines owed (kept_for q.number kept) q → IsPass q → Fits (f o) noted lines owed kept (shown_pass f q)
+  fits_shown f o noted lines owed kept q h k =
       let none_written = nothing_more (places q.number q.seen) h.written (sym k ∙ h.mine_is) in
       record {
         opening_is = ap f h.opening_is;
@@ -74,6 +74,7 @@ module _ {St : Type 0} where
         rest = h.rest;
         prefix = h.prefix;
         rest_is = h.rest_is ∙ ap (λ w. owed_to q.number owed ++ w) none_written ∙ append-nil (owed_to q.number owed);
+        left_fits = h.left_fits;
       }
 
   -- the pen, or the pass, is of the note
@@ -103,7 +104,7 @@ module _ {St : Type 0} where
   -- what is known of a pen holds as its caller sees it
   pub facts_shown : (f : St → State) (z : TableId) (v : View St) → PenIs v → IsPenAt (pen_at f z v)
   facts_shown f z v = by_pen (λ u. IsPenAt (pen_at f z u))
-      (λ p h. record { lines_issued = h.lines_issued; owed_issued = h.owed_issued; carried_fits = carried_fits_shown f p.opening p.noted p.lines p.owed p.carried h.carried_fits })
+      (λ p h. (p.kept_then, record { lines_issued = h.lines_issued; owed_issued = h.owed_issued; kept_issued = h.kept_issued; carried_fits = carried_fits_shown f p.opening p.noted p.lines p.owed p.kept_then p.carried h.carried_fits }))
       v
 
   -- whether the pen carries a pass doesn't depend on its table
@@ -124,10 +125,10 @@ module _ {St : Type 0} where
       me.0
 
   pub number_said : (v : View St) (x : ℕ) → PenIs v → PenIs (with_pen (says_number x) v)
-  number_said v x = by_pen (λ u. PenIs (with_pen (says_number x) u)) (λ p h. record { lines_issued = h.lines_issued; owed_issued = h.owed_issued; carried_fits = h.carried_fits }) v
+  number_said v x = by_pen (λ u. PenIs (with_pen (says_number x) u)) (λ p h. record { lines_issued = h.lines_issued; owed_issued = h.owed_issued; kept_issued = h.kept_issued; carried_fits = h.carried_fits }) v
 
   same_facts : (p : PenView St) (x y : ℕ) → IsPen p → IsPen (says x y p)
-  same_facts p x y h = record { lines_issued = h.lines_issued; owed_issued = h.owed_issued; carried_fits = h.carried_fits }
+  same_facts p x y h = record { lines_issued = h.lines_issued; owed_issued = h.owed_issued; kept_issued = h.kept_issued; carried_fits = h.carried_fits }
 
   -- issue
   pub issue_splits : (f : St → State) (z : TableId) (o : St) (id : ℕ) (v w : View St) (x y : ℕ) → PenIs v → (IsIssued (pen_at f z v).noted x → ⊥) → w ≡ with_pen (says x y) v → Splits (Kept o) id w (noting_view w) (issued_view w)
@@ -169,7 +170,7 @@ module _ {St : Type 0} where
   pub told_fits : (f : St → State) (z z' : TableId) (n : ℕ) (v w : View St) → PenIs v → PassIs w → Tells n (taking_view v w) → FitsPen (pen_at f z v) (pass_at f z' w)
   told_fits f z z' n v w h = by_pass (λ u. Tells n (taking_view v u) → FitsPen (pen_at f z v) (pass_at f z' u))
       (λ q k. by_pen (λ t. Tells n (taking_view t (OfPass q)) → FitsPen (pen_at f z t) (pass_at f z' (OfPass q)))
-      (λ p i told. fits_shown f p.opening p.noted p.lines p.owed q told.1.carried_fits k)
+      (λ p i told. fits_shown f p.opening p.noted p.lines p.owed p.kept q told.1.carried_fits k)
       v h)
       w
 
@@ -179,11 +180,15 @@ module _ {St : Type 0} where
       w
 
   -- write
-  pub write_allowed : (f : St → State) (z : TableId) (o : St) (slots id : ℕ) (v : View St) (me : Me Step (View St)) (x y old : ℕ) (t : Step) → PenIs v → IsIssued (pen_at f z v).noted x → me.0 ≡ with_pen (says x y) v → Tells old me.0
+  next_shown : (f : St → State) (kept : List (ℕ × List ℕ)) (c : Option (PassView St)) (n : ℕ) (t : List ℕ) → IsNext kept (shown_carried f c) n t → IsNext kept c n t
+  next_shown f kept None n t h = h
+  next_shown f kept (Some c) n t h = h
+
+  pub write_allowed : (f : St → State) (z : TableId) (o : St) (slots id : ℕ) (v : View St) (me : Me Step (View St)) (x y old : ℕ) (t : Step) → PenIs v → IsIssued (pen_at f z v).noted x → MayEnter x t.line (pen_at f z v) → me.0 ≡ with_pen (says x y) v → Tells old me.0
       → Allows (Kept o) slots id me 0 (λ n. either (eqb n old) (old + 1) n) (wrote (step slots 0 old (old + 1) (some t)) me)
   write_allowed f z o slots id v me x y old t = by_pen
-      (λ u. IsIssued (pen_at f z u).noted x → me.0 ≡ with_pen (says x y) u → Tells old me.0 → Allows (Kept o) slots id me 0 (λ n. either (eqb n old) (old + 1) n) (wrote (step slots 0 old (old + 1) (some t)) me))
-      (λ p h i e told. write_at o slots id me (says x y p) t old e i (subst (λ u. Tells old u) e told).0)
+      (λ u. IsIssued (pen_at f z u).noted x → MayEnter x t.line (pen_at f z u) → me.0 ≡ with_pen (says x y) u → Tells old me.0 → Allows (Kept o) slots id me 0 (λ n. either (eqb n old) (old + 1) n) (wrote (step slots 0 old (old + 1) (some t)) me))
+      (λ p h i may e told. write_at o slots id me (says x y p) t old e i (next_shown f p.kept p.carried x t.line may) (subst (λ u. Tells old u) e told).0)
       v
 
   pub write_pen_at : (f : St → State) (z : TableId) (v : View St) (x y : ℕ) (t : Step) → PenIs v → pen_at f z (with_pen (writes t) (with_pen (says x y) v)) ≡ writing x t (pen_at f z v)
@@ -194,6 +199,7 @@ module _ {St : Type 0} where
         noted = p.noted;
         lines = (writes t (says x y p)).lines;
         owed = owed_after_shown f x (length p.lines) p.carried p.owed i;
+        kept = (writes t (says x y p)).kept;
         carried = carried_after_shown f x (length p.lines) p.carried i;
       })
       v
@@ -208,21 +214,65 @@ module _ {St : Type 0} where
       (λ p h. still_some f x (length p.lines) p.carried)
       v
 
+  -- leave
+  -- what holds of a pen's view that carries a pass holds of a view that does
+  by_carrying : (F : View St → Type 0) → ((p : PenView St) → IsPen p → is_some p.carried ≡ true → F (OfPen p)) → (v : View St) → Carries v → F v
+  by_carrying F f (OfPen p) h = f p h.0 h.1
+  by_carrying F f Spent h = absurd h
+  by_carrying F f (OfPass q) h = absurd h
+
+  there : (c : Option (PassView St)) → is_some c ≡ true → (x : PassView St) × (c ≡ Some x)
+  there (Some x) e = (x, refl)
+  there None e = absurd (true≢false (sym e))
+
+  pub leave_allowed : (o : St) (slots id : ℕ) (me : Me Step (View St)) (t : List ℕ) (x : ℕ) → Carries me.0 → Allows (Kept o) slots id me 0 (λ n. either (eqb n x) x n) (left_line t (step slots 0 x x none) me)
+  leave_allowed o slots id me t x = by_carrying (λ u. Allows (Kept o) slots id (u, me.1) 0 (λ n. either (eqb n x) x n) (left_line t (step slots 0 x x none) (u, me.1)))
+      (λ p h k. let c = there p.carried k in leave_at o slots id (OfPen p, me.1) p c.0 t x refl c.1)
+      me.0
+
+  shown_there : (f : St → State) (c : Option (PassView St)) → is_some (shown_carried f c) ≡ true → is_some c ≡ true
+  shown_there f (Some c) e = refl
+  shown_there f None e = absurd (true≢false (sym e))
+
+  pub carries_shown : (f : St → State) (z : TableId) (v : View St) → PenIs v → is_carrying (pen_at f z v) ≡ true → Carries v
+  carries_shown f z v = by_pen (λ u. is_carrying (pen_at f z u) ≡ true → Carries u) (λ p h k. (h, shown_there f p.carried k)) v
+
+  leaves_shown : (f : St → State) (z : TableId) (t : List ℕ) (p : PenView St) (x : Option (PassView St)) → pen_at f z (OfPen (leaves_by x t p)) ≡ leaving_by (shown_carried f x) t (pen_at f z (OfPen p))
+  leaves_shown f z t p (Some c) = refl
+  leaves_shown f z t p None = refl
+
+  pub leave_pen_at : (f : St → State) (z : TableId) (v : View St) (t : List ℕ) → PenIs v → pen_at f z (with_pen (leaves t) v) ≡ leaving t (pen_at f z v)
+  leave_pen_at f z v t = by_pen (λ u. pen_at f z (with_pen (leaves t) u) ≡ leaving t (pen_at f z u)) (λ p h. leaves_shown f z t p p.carried) v
+
+  leaves_is : (p : PenView St) (t : List ℕ) (x : Option (PassView St)) → p.carried ≡ x → IsPen p → IsPen (leaves_by x t p)
+  leaves_is p t (Some c) e h = leave_pen p c t e h
+  leaves_is p t None e h = h
+
+  pub leave_is : (v : View St) (t : List ℕ) → PenIs v → PenIs (with_pen (leaves t) v)
+  leave_is v t = by_pen (λ u. PenIs (with_pen (leaves t) u)) (λ p h. leaves_is p t p.carried refl h) v
+
+  leaves_carry : (f : St → State) (z : TableId) (t : List ℕ) (p : PenView St) (x : Option (PassView St)) → is_carrying (pen_at f z (OfPen (leaves_by x t p))) ≡ is_carrying (pen_at f z (OfPen p))
+  leaves_carry f z t p (Some c) = refl
+  leaves_carry f z t p None = refl
+
+  pub leave_carries : (f : St → State) (z : TableId) (v : View St) (t : List ℕ) → PenIs v → is_carrying (pen_at f z (with_pen (leaves t) v)) ≡ is_carrying (pen_at f z v)
+  leave_carries f z v t = by_pen (λ u. is_carrying (pen_at f z (with_pen (leaves t) u)) ≡ is_carrying (pen_at f z u)) (λ p h. leaves_carry f z t p p.carried) v
+
   -- hand out
   pub hand_splits : (f : St → State) (z : TableId) (o : St) (id : ℕ) (v : View St) → PenIs v → is_carrying (pen_at f z v) ≡ true → Splits (Kept o) id v (handing_view v) (handed_view v)
   hand_splits f z o id v = by_pen (λ u. is_carrying (pen_at f z u) ≡ true → Splits (Kept o) id u (handing_view u) (handed_view u))
       (λ p h k. let c = carried_some f p.carried k in hand_at o id (OfPen p) p c.0 refl c.1)
       v
 
-  pass_by : (f : St → State) (p : PenView St) (x : Option (PassView St)) → CarriedFits p.opening p.noted p.lines p.owed x → is_some (shown_carried f x) ≡ true → PassIs (handed_by x p)
-  pass_by f p (Some c) fits k = completed_is p.opening p.noted p.owed p.lines c fits
+  pass_by : (f : St → State) (p : PenView St) (x : Option (PassView St)) → CarriedFits p.opening p.noted p.lines p.owed p.kept_then x → is_some (shown_carried f x) ≡ true → PassIs (handed_by x p)
+  pass_by f p (Some c) fits k = completed_is p.opening p.noted p.owed p.kept_then p.lines c fits
   pass_by f p None fits k = absurd (true≢false (sym k))
 
   pub hand_pass : (f : St → State) (z : TableId) (v : View St) → PenIs v → is_carrying (pen_at f z v) ≡ true → PassIs (handed_view v)
   hand_pass f z v = by_pen (λ u. is_carrying (pen_at f z u) ≡ true → PassIs (handed_view u)) (λ p h k. pass_by f p p.carried h.carried_fits k) v
 
   pen_by : (p : PenView St) (x : Option (PassView St)) → IsPen p → IsPen (handing_by x p)
-  pen_by p (Some c) h = record { lines_issued = h.lines_issued; owed_issued = all_owed_without p.noted p.owed c.number h.owed_issued; carried_fits = tt }
+  pen_by p (Some c) h = record { lines_issued = h.lines_issued; owed_issued = all_owed_without p.noted p.owed c.number h.owed_issued; kept_issued = h.kept_issued; carried_fits = tt }
   pen_by p None h = h
 
   pub hand_pen : (v : View St) → PenIs v → PenIs (handing_view v)

@@ -12,10 +12,10 @@ use Rattle.history_note.specs.declared.view.PenView.{PenView}
 use Rattle.history_note.specs.declared.view.PassView.{PassView}
 use Rattle.history_note.specs.declared.view.View.{View}
 use Rattle.history_note.specs.declared.view.View.TheVariants.{Spent, OfPen, OfPass}
-use Rattle.history_note.specs.Places.{place_if, places, owed_to, IsIssued}
-use Rattle.history_note.specs.Views.{first_pen, says_number, says_session, notes, issued, writes, noted_line, takes, lets_go, handed, noting_view, issued_view, handing_by, handed_by, handing_view, handed_view, taking_view}
-use Rattle.history_note.specs.Rule.{Fits, IsCarried, CarriedFits, IsNotCarried, IsPen, IsOut, SeatFits, KeptAs, Kept, Tells, looked, said_number, said_session, wrote}
-use Rattle.history_note.proofs.Counting.{owed_without_same, owed_without_other, noted_more, noted_last, all_issued_more, all_owed_more, all_issued_last, all_owed_without, no_places, no_debts, owed_after_is, all_owed_after, not_carried_after, rest_longer, prefix_longer, carried_write, completed_is}
+use Rattle.history_note.specs.Places.{place_if, places, owed_to, without, kept_for, IsIssued}
+use Rattle.history_note.specs.Views.{first_pen, says_number, says_session, notes, issued, writes, noted_line, leaves_by, leaves, takes, lets_go, handed, noting_view, issued_view, handing_by, handed_by, handing_view, handed_view, taking_view}
+use Rattle.history_note.specs.Rule.{Fits, IsCarried, CarriedFits, IsNotCarried, IsNext, IsPen, IsOut, SeatFits, KeptAs, Kept, Tells, looked, said_number, said_session, wrote, left_line}
+use Rattle.history_note.proofs.Counting.{owed_without_same, owed_without_other, noted_more, noted_last, all_issued_more, all_owed_more, all_issued_last, all_owed_without, no_places, no_debts, owed_after_is, all_owed_after, not_carried_after, rest_longer, prefix_longer, carried_write, completed_is, kept_none, kept_more_other, all_kept_more, all_kept_last, all_kept_without, left_move, left_kept, left_write}
 
 module _ {V : Type 0} where
   -- one view replaced
@@ -51,12 +51,12 @@ word_after words n m f e h = ap (λ ws. slice_set ws 0 (f (slice_index ws 0))) e
 
 module _ {St : Type 0} where
   -- what fits goes on to fit after more numbers were noted
-  carried_more : (opening : St) (noted more : List (ℕ × ℕ)) (lines : List NotedLine) (owed : List (ℕ × ℕ)) (c : Option (PassView St)) → CarriedFits opening noted lines owed c → CarriedFits opening (noted ++ more) lines owed c
-  carried_more opening noted more lines owed None h = tt
-  carried_more opening noted more lines owed (Some c) h = record { opening_is = h.opening_is; is_noted = noted_more noted more c.number c.session h.is_noted; rest = h.rest; written = h.written; prefix = h.prefix; mine_is = h.mine_is; rest_is = h.rest_is }
+  carried_more : (opening : St) (noted more : List (ℕ × ℕ)) (lines : List NotedLine) (owed : List (ℕ × ℕ)) (kept_then : Option (List ℕ)) (c : Option (PassView St)) → CarriedFits opening noted lines owed kept_then c → CarriedFits opening (noted ++ more) lines owed kept_then c
+  carried_more opening noted more lines owed kept_then None h = tt
+  carried_more opening noted more lines owed kept_then (Some c) h = record { opening_is = h.opening_is; is_noted = noted_more noted more c.number c.session h.is_noted; rest = h.rest; written = h.written; prefix = h.prefix; mine_is = h.mine_is; rest_is = h.rest_is; left_fits = h.left_fits }
 
-  fits_more : (opening : St) (noted more : List (ℕ × ℕ)) (lines : List NotedLine) (owed : List (ℕ × ℕ)) (q : PassView St) → Fits opening noted lines owed q → Fits opening (noted ++ more) lines owed q
-  fits_more opening noted more lines owed q h = record { opening_is = h.opening_is; is_noted = noted_more noted more q.number q.session h.is_noted; mine_is = h.mine_is; rest = h.rest; prefix = h.prefix; rest_is = h.rest_is }
+  fits_more : (opening : St) (noted more : List (ℕ × ℕ)) (lines : List NotedLine) (owed : List (ℕ × ℕ)) (kept : List (ℕ × List ℕ)) (q : PassView St) → Fits opening noted lines owed kept q → Fits opening (noted ++ more) lines owed kept q
+  fits_more opening noted more lines owed kept q h = record { opening_is = h.opening_is; is_noted = noted_more noted more q.number q.session h.is_noted; mine_is = h.mine_is; rest = h.rest; prefix = h.prefix; rest_is = h.rest_is; left_fits = h.left_fits }
 
   -- the seat that steps is the pen's
   pub at_pen : (o : St) (s : State Step (View St)) (id : ℕ) (p : PenView St) → Kept o s → get_elem? s.views id ≡ some (OfPen p) → KeptAs o s id p
@@ -112,7 +112,7 @@ module _ {St : Type 0} where
 
   -- a new note
   pub begins : (o : St) → Kept o (opening (0 ∷ []) [] (OfPen (first_pen o)))
-  begins o = (0, first_pen o, record { holder = λ n. 0; word = refl; opening_is = refl; pen_is = record { lines_issued = tt; owed_issued = tt; carried_fits = tt }; each = one })
+  begins o = (0, first_pen o, record { holder = λ n. 0; word = refl; opening_is = refl; pen_is = record { lines_issued = tt; owed_issued = tt; kept_issued = tt; carried_fits = tt }; each = one })
     where
       one : (by : ℕ) (v : View St) → get_elem? (OfPen (first_pen o) ∷ []) by ≡ some v → SeatFits 0 (λ n. 0) (first_pen o) by v
       one zero v e = subst (λ w. SeatFits 0 (λ n. 0) (first_pen o) 0 w) (some-injective (OfPen (first_pen o)) v e) (refl, refl)
@@ -150,7 +150,7 @@ module _ {St : Type 0} where
           id,
           says_number x p,
           set_pen o s id p (says_number x p) (slice_set s.words 0 (either (eqb (slice_index s.words 0) x) x (slice_index s.words 0))) s.homes k' (word_after s.words (length p.lines) (length p.lines) (λ n. either (eqb n x) x n) k'.word (same_word x (length p.lines))) refl
-              record { lines_issued = i.lines_issued; owed_issued = i.owed_issued; carried_fits = i.carried_fits }
+              record { lines_issued = i.lines_issued; owed_issued = i.owed_issued; kept_issued = i.kept_issued; carried_fits = i.carried_fits }
               (λ q f. record { fits = f.fits; not_carried = f.not_carried }),
         ),
         (refl, tells o s id (OfPen p) k at),
@@ -171,7 +171,7 @@ module _ {St : Type 0} where
           id,
           says_session x p,
           set_pen o s id p (says_session x p) (slice_set s.words 0 (either (eqb (slice_index s.words 0) x) x (slice_index s.words 0))) s.homes k' (word_after s.words (length p.lines) (length p.lines) (λ n. either (eqb n x) x n) k'.word (same_word x (length p.lines))) refl
-              record { lines_issued = i.lines_issued; owed_issued = i.owed_issued; carried_fits = i.carried_fits }
+              record { lines_issued = i.lines_issued; owed_issued = i.owed_issued; kept_issued = i.kept_issued; carried_fits = i.carried_fits }
               (λ q f. record { fits = f.fits; not_carried = f.not_carried }),
         ),
         (refl, tells o s id (OfPen p) k at),
@@ -181,8 +181,8 @@ module _ {St : Type 0} where
   says_session_at o slots id me p x e = subst (λ v. Allows (Kept o) slots id (v, me.1) 0 (λ n. either (eqb n x) x n) (said_session (step slots 0 x x none) (v, me.1))) (sym e) (says_session_base o slots id p me.1 x)
 
   -- a line is written
-  write_fits : (t : Step) (p : PenView St) (q : PassView St) → IsOut p q → IsOut (writes t p) q
-  write_fits t p q h =
+  write_fits : (t : Step) (p : PenView St) → IsNext p.kept p.carried p.said_number t.line → (q : PassView St) → IsOut p q → IsOut (writes t p) q
+  write_fits t p may q h =
       let f = h.fits in
       record {
         fits = record {
@@ -192,6 +192,7 @@ module _ {St : Type 0} where
           rest = f.rest ++ noted_line p.said_number t ∷ [];
           prefix = prefix_longer (noted_line p.said_number t) q.seen f.rest p.lines f.prefix;
           rest_is = rest_longer q.number p.said_number t q.seen f.rest p.lines f.prefix ∙ ap (λ x. x ++ (place_if q.number p.said_number (length p.lines) ++ [])) f.rest_is ∙ sym (owed_after_is q.number p.said_number (length p.lines) p.carried p.owed h.not_carried);
+          left_fits = left_write q.number p.said_number t p.lines p.kept p.owed p.carried q.left h.not_carried may f.left_fits;
         };
         not_carried = not_carried_after q.number p.said_number (length p.lines) p.carried h.not_carried;
       }
@@ -200,12 +201,13 @@ module _ {St : Type 0} where
   write_pen t p issued i = record {
     lines_issued = all_issued_last p.noted p.lines (noted_line p.said_number t) i.lines_issued issued;
     owed_issued = all_owed_after p.noted p.said_number (length p.lines) p.carried p.owed issued i.owed_issued;
-    carried_fits = carried_write p.opening p.noted p.owed p.lines p.said_number t p.carried i.carried_fits;
+    kept_issued = all_kept_without p.noted p.kept p.said_number i.kept_issued;
+    carried_fits = carried_write p.opening p.noted p.owed p.kept_then p.lines p.said_number t p.carried i.carried_fits;
   }
 
-  write_base : (o : St) (slots id : ℕ) (p : PenView St) (c : List (ℕ × Step)) (t : Step) (old : ℕ) → IsIssued p.noted p.said_number → old ≡ length p.lines
+  write_base : (o : St) (slots id : ℕ) (p : PenView St) (c : List (ℕ × Step)) (t : Step) (old : ℕ) → IsIssued p.noted p.said_number → IsNext p.kept p.carried p.said_number t.line → old ≡ length p.lines
       → Allows (Kept o) slots id (OfPen p, c) 0 (λ n. either (eqb n old) (old + 1) n) (wrote (step slots 0 old (old + 1) (some t)) (OfPen p, c))
-  write_base o slots id p c t old issued is s k len at bound =
+  write_base o slots id p c t old issued may is s k len at bound =
       let k' = at_pen o s id p k at in
       let longer : length (writes t p).lines ≡ length p.lines + 1 = length-append p.lines (noted_line p.said_number t ∷ []) in
       let w : either (eqb (length p.lines) old) (old + 1) (length p.lines) ≡ length (writes t p).lines = exchanged (length p.lines) old (old + 1) (λ m. m ≡ length (writes t p).lines) (λ e. omega arith) (λ ne. absurd (ne (sym is))) in (
@@ -217,17 +219,17 @@ module _ {St : Type 0} where
           writes t p,
           set_pen o s id p (writes t p) (slice_set s.words 0 (either (eqb (slice_index s.words 0) old) (old + 1) (slice_index s.words 0))) s.homes k' (word_after s.words (length p.lines) (length (writes t p).lines) (λ n. either (eqb n old) (old + 1) n) k'.word w) refl
               (write_pen t p issued k'.pen_is)
-              (write_fits t p),
+              (write_fits t p may),
         ),
         (λ u e. ap (λ (x : Step). (OfPen (writes x p), c)) (some-injective t u e)),
       )
 
-  pub write_at : (o : St) (slots id : ℕ) (me : Me Step (View St)) (p : PenView St) (t : Step) (old : ℕ) → me.0 ≡ OfPen p → IsIssued p.noted p.said_number → old ≡ length p.lines
+  pub write_at : (o : St) (slots id : ℕ) (me : Me Step (View St)) (p : PenView St) (t : Step) (old : ℕ) → me.0 ≡ OfPen p → IsIssued p.noted p.said_number → IsNext p.kept p.carried p.said_number t.line → old ≡ length p.lines
       → Allows (Kept o) slots id me 0 (λ n. either (eqb n old) (old + 1) n) (wrote (step slots 0 old (old + 1) (some t)) me)
-  write_at o slots id me p t old e issued is = subst (λ v. Allows (Kept o) slots id (v, me.1) 0 (λ n. either (eqb n old) (old + 1) n) (wrote (step slots 0 old (old + 1) (some t)) (v, me.1))) (sym e) (write_base o slots id p me.1 t old issued is)
+  write_at o slots id me p t old e issued may is = subst (λ v. Allows (Kept o) slots id (v, me.1) 0 (λ n. either (eqb n old) (old + 1) n) (wrote (step slots 0 old (old + 1) (some t)) (v, me.1))) (sym e) (write_base o slots id p me.1 t old issued may is)
 
   -- a pass is issued
-  not_the_carried : (p : PenView St) (c : Option (PassView St)) → (IsIssued p.noted p.said_number → ⊥) → CarriedFits p.opening p.noted p.lines p.owed c → IsNotCarried p.said_number c
+  not_the_carried : (p : PenView St) (c : Option (PassView St)) → (IsIssued p.noted p.said_number → ⊥) → CarriedFits p.opening p.noted p.lines p.owed p.kept_then c → IsNotCarried p.said_number c
   not_the_carried p None new h = tt
   not_the_carried p (Some c) new h = λ e. new (subst (IsIssued p.noted) (sym e) (c.session, h.is_noted))
 
@@ -235,7 +237,8 @@ module _ {St : Type 0} where
   note_pen p i = record {
     lines_issued = all_issued_more p.noted ((p.said_number, p.said_session) ∷ []) p.lines i.lines_issued;
     owed_issued = all_owed_more p.noted ((p.said_number, p.said_session) ∷ []) p.owed i.owed_issued;
-    carried_fits = carried_more p.opening p.noted ((p.said_number, p.said_session) ∷ []) p.lines p.owed p.carried i.carried_fits;
+    kept_issued = all_kept_more p.noted ((p.said_number, p.said_session) ∷ []) p.kept i.kept_issued;
+    carried_fits = carried_more p.opening p.noted ((p.said_number, p.said_session) ∷ []) p.lines p.owed p.kept_then p.carried i.carried_fits;
   }
 
   issue_base : (o : St) (id : ℕ) (p : PenView St) → (IsIssued p.noted p.said_number → ⊥) → Splits (Kept o) id (OfPen p) (OfPen (notes p)) (OfPass (issued p))
@@ -253,12 +256,13 @@ module _ {St : Type 0} where
                 rest = [];
                 prefix = sym (append-nil p.lines);
                 rest_is = sym (no_debts p.noted p.said_number p.owed new i.owed_issued);
+                left_fits = (kept_none p.noted p.said_number p.kept new i.kept_issued, no_debts p.noted p.said_number p.owed new i.owed_issued);
               };
               not_carried = not_the_carried p p.carried new i.carried_fits;
             }
             (λ q f. (
               (λ e. new (subst (IsIssued p.noted) e (q.session, f.fits.is_noted))),
-              record { fits = fits_more p.opening p.noted ((p.said_number, p.said_session) ∷ []) p.lines p.owed q f.fits; not_carried = f.not_carried },
+              record { fits = fits_more p.opening p.noted ((p.said_number, p.said_session) ∷ []) p.lines p.owed p.kept q f.fits; not_carried = f.not_carried },
             )),
       )
 
@@ -270,19 +274,20 @@ module _ {St : Type 0} where
   hand_base o id p c has s k at =
       let k' = at_pen o s id p k at in
       let i = k'.pen_is in
-      let fits : IsCarried p.opening p.noted p.lines p.owed c = subst (CarriedFits p.opening p.noted p.lines p.owed) has i.carried_fits in (
+      let fits : IsCarried p.opening p.noted p.lines p.owed p.kept_then c = subst (CarriedFits p.opening p.noted p.lines p.owed p.kept_then) has i.carried_fits in (
         id,
         lets_go c p,
         add_pass o s id p (lets_go c p) (handed c p) k' refl refl
-            record { lines_issued = i.lines_issued; owed_issued = all_owed_without p.noted p.owed c.number i.owed_issued; carried_fits = tt }
+            record { lines_issued = i.lines_issued; owed_issued = all_owed_without p.noted p.owed c.number i.owed_issued; kept_issued = i.kept_issued; carried_fits = tt }
             record {
               fits = record {
                 opening_is = refl;
                 is_noted = fits.is_noted;
-                mine_is = completed_is p.opening p.noted p.owed p.lines c fits;
+                mine_is = completed_is p.opening p.noted p.owed p.kept_then p.lines c fits;
                 rest = [];
                 prefix = sym (append-nil p.lines);
                 rest_is = sym (owed_without_same c.number p.owed);
+                left_fits = left_kept p.lines c.number (kept_for c.number p.kept) (owed_to c.number (without c.number p.owed)) (owed_without_same c.number p.owed);
               };
               not_carried = tt;
             }
@@ -297,6 +302,7 @@ module _ {St : Type 0} where
                   rest = f.fits.rest;
                   prefix = f.fits.prefix;
                   rest_is = f.fits.rest_is ∙ sym (owed_without_other q.number c.number p.owed other);
+                  left_fits = left_move p.lines q.number q.left (kept_for q.number p.kept) (kept_for q.number p.kept) (owed_to q.number p.owed) (owed_to q.number (without c.number p.owed)) refl (owed_without_other q.number c.number p.owed other) f.fits.left_fits;
                 };
                 not_carried = tt;
               },
@@ -324,6 +330,7 @@ module _ {St : Type 0} where
           pen_is = record {
             lines_issued = i.lines_issued;
             owed_issued = i.owed_issued;
+            kept_issued = i.kept_issued;
             carried_fits = record {
               opening_is = f.opening_is;
               is_noted = f.is_noted;
@@ -332,6 +339,7 @@ module _ {St : Type 0} where
               prefix = f.prefix;
               mine_is = f.mine_is ∙ sym (append-nil (places q.number q.seen));
               rest_is = f.rest_is ∙ sym (append-nil (owed_to q.number p.owed));
+              left_fits = f.left_fits;
             };
           };
           each = each_set (SeatFits id k'.holder (takes q p)) (set s.views id w) other Spent
@@ -349,3 +357,52 @@ module _ {St : Type 0} where
 
   pub take_at : (o : St) (id other : ℕ) (v w : View St) (p : PenView St) (q : PassView St) → v ≡ OfPen p → w ≡ OfPass q → Joins (Kept o) id v other w (taking_view v w) Spent
   take_at o id other v w p q e h = subst (λ (x : View St × View St). Joins (Kept o) id x.0 other x.1 (taking_view x.0 x.1) Spent) (λ i. (sym e i, sym h i)) (take_base o id other p q)
+
+  -- a line is left with the pen
+  leave_fits : (p : PenView St) (c : PassView St) (t : List ℕ) → p.carried ≡ Some c → (q : PassView St) → IsOut p q → IsOut (leaves_by (Some c) t p) q
+  leave_fits p c t has q h =
+      let f = h.fits in
+      let other : q.number ≢ c.number = subst (IsNotCarried q.number) has h.not_carried in
+      record {
+        fits = record {
+          opening_is = f.opening_is;
+          is_noted = f.is_noted;
+          mine_is = f.mine_is;
+          rest = f.rest;
+          prefix = f.prefix;
+          rest_is = f.rest_is;
+          left_fits = left_move p.lines q.number q.left (kept_for q.number p.kept) (kept_for q.number (p.kept ++ (c.number, t) ∷ [])) (owed_to q.number p.owed) (owed_to q.number p.owed) (kept_more_other q.number c.number t p.kept other) refl f.left_fits;
+        };
+        not_carried = h.not_carried;
+      }
+
+  pub leave_pen : (p : PenView St) (c : PassView St) (t : List ℕ) → p.carried ≡ Some c → IsPen p → IsPen (leaves_by (Some c) t p)
+  leave_pen p c t has i =
+      let fits : IsCarried p.opening p.noted p.lines p.owed p.kept_then c = subst (CarriedFits p.opening p.noted p.lines p.owed p.kept_then) has i.carried_fits in
+      record {
+        lines_issued = i.lines_issued;
+        owed_issued = i.owed_issued;
+        kept_issued = all_kept_last p.noted p.kept (c.number, t) i.kept_issued (c.session, fits.is_noted);
+        carried_fits = i.carried_fits;
+      }
+
+  leave_base : (o : St) (slots id : ℕ) (p : PenView St) (b : List (ℕ × Step)) (c : PassView St) (t : List ℕ) (x : ℕ) → p.carried ≡ Some c → Allows (Kept o) slots id (OfPen p, b) 0 (λ n. either (eqb n x) x n) (left_line t (step slots 0 x x none) (OfPen p, b))
+  leave_base o slots id p b c t x has s k len at bound =
+      let k' = at_pen o s id p k at in
+      let p' : PenView St = leaves_by (Some c) t p in
+      let same : leaves t p ≡ p' = ap (λ y. leaves_by y t p) has in (
+        OfPen p',
+        keeps,
+        tt,
+        (
+          id,
+          p',
+          set_pen o s id p p' (slice_set s.words 0 (either (eqb (slice_index s.words 0) x) x (slice_index s.words 0))) s.homes k' (word_after s.words (length p.lines) (length p.lines) (λ n. either (eqb n x) x n) k'.word (same_word x (length p.lines))) refl
+              (leave_pen p c t has k'.pen_is)
+              (leave_fits p c t has),
+        ),
+        ap (λ (y : PenView St). (OfPen y, b)) (sym same),
+      )
+
+  pub leave_at : (o : St) (slots id : ℕ) (me : Me Step (View St)) (p : PenView St) (c : PassView St) (t : List ℕ) (x : ℕ) → me.0 ≡ OfPen p → p.carried ≡ Some c → Allows (Kept o) slots id me 0 (λ n. either (eqb n x) x n) (left_line t (step slots 0 x x none) me)
+  leave_at o slots id me p c t x e has = subst (λ v. Allows (Kept o) slots id (v, me.1) 0 (λ n. either (eqb n x) x n) (left_line t (step slots 0 x x none) (v, me.1))) (sym e) (leave_base o slots id p me.1 c t x has)

@@ -1,5 +1,5 @@
--- Which lines of a list are a number's own, what is owed to it, and for which session it was noted.
-use Rattle.std.specs.Prelude.{◌≡◌, ℕ, ◌+◌, ◌⊎◌, ◌==◌, List, [], ◌∷◌, ◌++◌, cond}
+-- Which lines of a list are a number's own, what is owed to it, which line is kept for it, and for which session it was noted.
+use Rattle.std.specs.Prelude.{◌≡◌, ℕ, ◌+◌, ◌⊎◌, ◌==◌, List, [], ◌∷◌, ◌++◌, cond, Option, Some, None}
 use Rattle.history_note.specs.declared.view.NotedLine.{NotedLine}
 
 -- the place p, if m is n
@@ -29,6 +29,20 @@ abbrev pub without : ℕ → List (ℕ × ℕ) → List (ℕ × ℕ)
 without n [] = []
 without n (o ∷ os) = unless_to n o ++ without n os
 
+-- the line that is kept for the number n, if there is one
+abbrev pub kept_for : ℕ → List (ℕ × List ℕ) → Option (List ℕ)
+kept_for n [] = None
+kept_for n (k ∷ ks) = cond (k.0 == n) (Some k.1) (kept_for n ks)
+
+-- what is kept, unless it is kept for n
+abbrev pub unless_for : ℕ → ℕ × List ℕ → List (ℕ × List ℕ)
+unless_for n k = cond (k.0 == n) [] (k ∷ [])
+
+-- what is kept for other numbers than n
+abbrev pub kept_without : ℕ → List (ℕ × List ℕ) → List (ℕ × List ℕ)
+kept_without n [] = []
+kept_without n (k ∷ ks) = unless_for n k ++ kept_without n ks
+
 -- the number n was noted with the session s
 abbrev pub IsNoted : List (ℕ × ℕ) → ℕ → ℕ → Type 0
 IsNoted [] n s = ⊥
@@ -47,3 +61,8 @@ AllIssued noted (l ∷ ls) = IsIssued noted l.number × AllIssued noted ls
 abbrev pub AllOwedIssued : List (ℕ × ℕ) → List (ℕ × ℕ) → Type 0
 AllOwedIssued noted [] = Unit {0}
 AllOwedIssued noted (o ∷ os) = IsIssued noted o.0 × AllOwedIssued noted os
+
+-- lines are kept for numbers that were issued
+abbrev pub AllKeptIssued : List (ℕ × ℕ) → List (ℕ × List ℕ) → Type 0
+AllKeptIssued noted [] = Unit {0}
+AllKeptIssued noted (k ∷ ks) = IsIssued noted k.0 × AllKeptIssued noted ks

@@ -1,5 +1,5 @@
 -- The rule of the note: what its word, its pen and the passes that are out have to do with each other, and what a step tells.
-use Rattle.std.specs.Prelude.{◌≡◌, ◌≢◌, ℕ, ◌≤◌, List, [], ◌∷◌, ◌++◌, length, Option, Some, None}
+use Rattle.std.specs.Prelude.{◌≡◌, ◌≢◌, ◌⊎◌, ℕ, ◌≤◌, List, [], ◌∷◌, ◌++◌, length, Option, Some, None, is_some, true}
 use mathlib.Core.Option.{some}
 use lib.ListN.{get_elem?}
 use Rattle.atomic_table.specs.Table.{State, Me, Step as TableStep}
@@ -9,22 +9,35 @@ use Rattle.history_note.specs.declared.view.PassView.{PassView}
 use Rattle.history_note.specs.declared.view.PenView.{PenView}
 use Rattle.history_note.specs.declared.view.View.{View}
 use Rattle.history_note.specs.declared.view.View.TheVariants.{Spent, OfPen, OfPass}
-use Rattle.history_note.specs.Places.{places, places_from, owed_to, IsNoted, AllIssued, AllOwedIssued}
-use Rattle.history_note.specs.Views.{says_number, says_session, writes}
+use Rattle.history_note.specs.Places.{places, places_from, owed_to, kept_for, IsNoted, AllIssued, AllOwedIssued, AllKeptIssued}
+use Rattle.history_note.specs.Views.{says_number, says_session, writes, leaves}
+
+-- a line with this number and text stands at the place
+abbrev pub LineAt : List NotedLine → ℕ → ℕ → List ℕ → Type 0
+LineAt lines p n t = (l : NotedLine) × (get_elem? lines p ≡ some l) × (l.number ≡ n) × (l.step.line ≡ t)
+
+-- Of the line that a pass left, against what is kept for its number and what is owed to it. If it left none, none is kept and nothing is owed. Otherwise its line is kept and
+-- nothing is owed, or none is kept and one place is owed, at which its line stands.
+abbrev pub LeftFits : List NotedLine → Option (List ℕ) → List ℕ → ℕ → Option (List ℕ) → Type 0
+LeftFits lines kept owed n None = (kept ≡ None) × (owed ≡ [])
+LeftFits lines kept owed n (Some t) = ((kept ≡ Some t) × (owed ≡ [])) ⊎ ((kept ≡ None) × ((p : ℕ) × (owed ≡ p ∷ []) × LineAt lines p n t))
 
 module _ {St : Type 0} where
   -- Of a pass that is out, against what its pen has. It has the pen's opening. Its session is the one noted with its number, `seen` is a beginning of the list, and
-  -- `mine` has the places of its lines in there. Its lines after that beginning stand at just the places that the pen owes to its number.
-  pub record Fits (opening : St) (noted : List (ℕ × ℕ)) (lines : List NotedLine) (owed : List (ℕ × ℕ)) (q : PassView St) : Type 0 where
+  -- `mine` has the places of its lines in there. Its lines after that beginning stand at just the places that the pen owes to its number. The line that it left is kept, or
+  -- is the one that is owed.
+  pub record Fits (opening : St) (noted : List (ℕ × ℕ)) (lines : List NotedLine) (owed : List (ℕ × ℕ)) (kept : List (ℕ × List ℕ)) (q : PassView St) : Type 0 where
     pub opening_is : q.opening ≡ opening
     pub is_noted : IsNoted noted q.number q.session
     pub mine_is : q.mine ≡ places q.number q.seen
     pub rest : List NotedLine
     pub prefix : lines ≡ q.seen ++ rest
     pub rest_is : places_from q.number (length q.seen) rest ≡ owed_to q.number owed
+    pub left_fits : LeftFits lines (kept_for q.number kept) (owed_to q.number owed) q.number q.left
 
-  -- Of the carried pass: the same, but `mine` goes on with the places of the lines that were written with its number since it was taken in.
-  pub record IsCarried (opening : St) (noted : List (ℕ × ℕ)) (lines : List NotedLine) (owed : List (ℕ × ℕ)) (c : PassView St) : Type 0 where
+  -- Of the carried pass: the same, but `mine` goes on with the places of the lines that were written with its number since it was taken in, and its line is against what was
+  -- kept for its number then.
+  pub record IsCarried (opening : St) (noted : List (ℕ × ℕ)) (lines : List NotedLine) (owed : List (ℕ × ℕ)) (kept_then : Option (List ℕ)) (c : PassView St) : Type 0 where
     pub opening_is : c.opening ≡ opening
     pub is_noted : IsNoted noted c.number c.session
     pub rest : List NotedLine
@@ -32,31 +45,48 @@ module _ {St : Type 0} where
     pub prefix : lines ≡ c.seen ++ rest
     pub mine_is : c.mine ≡ places c.number c.seen ++ written
     pub rest_is : places_from c.number (length c.seen) rest ≡ owed_to c.number owed ++ written
+    pub left_fits : LeftFits lines kept_then (owed_to c.number owed) c.number c.left
 
   -- that, if the pen carries a pass
-  abbrev pub CarriedFits : St → List (ℕ × ℕ) → List NotedLine → List (ℕ × ℕ) → Option (PassView St) → Type 0
-  CarriedFits opening noted lines owed None = Unit {0}
-  CarriedFits opening noted lines owed (Some c) = IsCarried opening noted lines owed c
+  abbrev pub CarriedFits : St → List (ℕ × ℕ) → List NotedLine → List (ℕ × ℕ) → Option (List ℕ) → Option (PassView St) → Type 0
+  CarriedFits opening noted lines owed kept_then None = Unit {0}
+  CarriedFits opening noted lines owed kept_then (Some c) = IsCarried opening noted lines owed kept_then c
 
   -- the number isn't that of the carried pass
   abbrev pub IsNotCarried : ℕ → Option (PassView St) → Type 0
   IsNotCarried n None = Unit {0}
   IsNotCarried n (Some c) = n ≢ c.number
 
-  -- of the pen alone: each line's number was issued, so was each number to which something is owed, and the carried pass is as it should be
-  pub record PenFacts (opening : St) (noted : List (ℕ × ℕ)) (lines : List NotedLine) (owed : List (ℕ × ℕ)) (carried : Option (PassView St)) : Type 0 where
+  -- the number is that of the carried pass
+  abbrev pub IsTheCarried : ℕ → Option (PassView St) → Type 0
+  IsTheCarried n None = ⊥
+  IsTheCarried n (Some c) = n ≡ c.number
+
+  -- the line is the one that is kept for the number, or none is kept for it and it is the carried pass's
+  abbrev pub IsNext : List (ℕ × List ℕ) → Option (PassView St) → ℕ → List ℕ → Type 0
+  IsNext kept carried n t = (kept_for n kept ≡ Some t) ⊎ ((kept_for n kept ≡ None) × IsTheCarried n carried)
+
+  -- of the pen alone: each line's number was issued, so was each number to which something is owed or for which a line is kept, and the carried pass is as it should be
+  pub record PenFacts (opening : St) (noted : List (ℕ × ℕ)) (lines : List NotedLine) (owed : List (ℕ × ℕ)) (kept : List (ℕ × List ℕ)) (kept_then : Option (List ℕ)) (carried : Option (PassView St)) : Type 0 where
     pub lines_issued : AllIssued noted lines
     pub owed_issued : AllOwedIssued noted owed
-    pub carried_fits : CarriedFits opening noted lines owed carried
+    pub kept_issued : AllKeptIssued noted kept
+    pub carried_fits : CarriedFits opening noted lines owed kept_then carried
 
   abbrev pub IsPen : PenView St → Type 0
-  IsPen p = PenFacts p.opening p.noted p.lines p.owed p.carried
+  IsPen p = PenFacts p.opening p.noted p.lines p.owed p.kept p.kept_then p.carried
 
   -- the view is a pen's
   abbrev pub PenIs : View St → Type 0
   PenIs (OfPen p) = IsPen p
   PenIs Spent = ⊥
   PenIs (OfPass q) = ⊥
+
+  -- the view is that of a pen that carries a pass
+  abbrev pub Carries : View St → Type 0
+  Carries (OfPen p) = IsPen p × (is_some p.carried ≡ true)
+  Carries Spent = ⊥
+  Carries (OfPass q) = ⊥
 
   -- of a pass alone
   abbrev pub IsPass : PassView St → Type 0
@@ -70,7 +100,7 @@ module _ {St : Type 0} where
 
   -- the pass is out, and the pen carries none with its number
   pub record IsOut (p : PenView St) (q : PassView St) : Type 0 where
-    pub fits : Fits p.opening p.noted p.lines p.owed q
+    pub fits : Fits p.opening p.noted p.lines p.owed p.kept q
     pub not_carried : IsNotCarried q.number p.carried
 
   -- of what the seat `by` knows: one seat is the pen's, and each number has one seat at most whose pass is out
@@ -117,3 +147,7 @@ module _ {St : Type 0} where
   -- the pen writes a line
   abbrev pub wrote : TableStep Step → Me Step (View St) → ℕ → Me Step (View St) → Type 0
   wrote st m n m' = (s : Step) → st.said ≡ some s → m' ≡ (with_pen (writes s) m.0, m.1)
+
+  -- a line is left with the pen
+  abbrev pub left_line : List ℕ → TableStep Step → Me Step (View St) → ℕ → Me Step (View St) → Type 0
+  left_line t st m n m' = m' ≡ (with_pen (leaves t) m.0, m.1)

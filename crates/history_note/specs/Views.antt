@@ -6,7 +6,7 @@ use Rattle.history_note.specs.declared.view.PassView.{PassView}
 use Rattle.history_note.specs.declared.view.PenView.{PenView}
 use Rattle.history_note.specs.declared.view.View.{View}
 use Rattle.history_note.specs.declared.view.View.TheVariants.{Spent, OfPen, OfPass}
-use Rattle.history_note.specs.Places.{places, owed_to, without}
+use Rattle.history_note.specs.Places.{places, owed_to, without, kept_for, kept_without}
 
 -- a line with its number
 abbrev pub noted_line : ℕ → Step → NotedLine
@@ -31,7 +31,7 @@ module _ {St : Type 0} where
   -- the pen of a new note
   abbrev pub first_pen : St → PenView St
   first_pen o =
-      record { opening = o; noted = []; lines = []; owed = []; carried = None; said_number = 0; said_session = 0 }
+      record { opening = o; noted = []; lines = []; owed = []; kept = []; carried = None; kept_then = None; said_number = 0; said_session = 0 }
 
   -- the pen says a number
   abbrev pub says_number : ℕ → PenView St → PenView St
@@ -52,19 +52,28 @@ module _ {St : Type 0} where
   -- the pass that is issued for what was said
   abbrev pub issued : PenView St → PassView St
   issued p =
-      record { opening = p.opening; number = p.said_number; session = p.said_session; seen = p.lines; mine = [] }
+      record { opening = p.opening; number = p.said_number; session = p.said_session; seen = p.lines; mine = []; left = None }
 
   -- the pen writes a line with the number that it said
   abbrev pub writes : Step → PenView St → PenView St
   writes s p = record p {
     lines = p.lines ++ noted_line p.said_number s ∷ [];
     owed = owed_after p.said_number (length p.lines) p.carried p.owed;
+    kept = kept_without p.said_number p.kept;
     carried = carried_after p.said_number (length p.lines) p.carried;
   }
 
-  -- the pen takes a pass in
+  -- the pen keeps a line for the number of the pass that it carries
+  abbrev pub leaves_by : Option (PassView St) → List ℕ → PenView St → PenView St
+  leaves_by None t p = p
+  leaves_by (Some c) t p = record p { kept = p.kept ++ (c.number, t) ∷ [] }
+
+  abbrev pub leaves : List ℕ → PenView St → PenView St
+  leaves t p = leaves_by p.carried t p
+
+  -- the pen takes a pass in, and notes which line it keeps for it then
   abbrev pub takes : PassView St → PenView St → PenView St
-  takes q p = record p { carried = Some q }
+  takes q p = record p { carried = Some q; kept_then = kept_for q.number p.kept }
 
   -- the pen lets go of the pass that it carried
   abbrev pub lets_go : PassView St → PenView St → PenView St
@@ -73,7 +82,7 @@ module _ {St : Type 0} where
   -- the pass that is handed out
   abbrev pub handed : PassView St → PenView St → PassView St
   handed c p =
-      record { opening = p.opening; number = c.number; session = c.session; seen = p.lines; mine = completed c p.owed }
+      record { opening = p.opening; number = c.number; session = c.session; seen = p.lines; mine = completed c p.owed; left = kept_for c.number p.kept }
 
   -- the cuts and the joining, at any view
   abbrev pub noting_view : View St → View St

@@ -2,6 +2,7 @@
 use crate::view::View;
 use atomic_table::{Join, Play, Split, TableRule};
 use db_value::Step;
+use std::marker::{Brand, PhantomData};
 
 /// The rule of every note.
 pub struct Law;
@@ -50,6 +51,30 @@ impl<St> Play<Step, View<St>> for WriteLine {
     ghost use Rattle.history_note.specs.Rule.{wrote};
 
     ghost then = { wrote };
+}
+
+/// The line that a step leaves. A step that takes no line of its own has it from the type, and each call picks it.
+pub trait Leaving {
+    ghost use Rattle.std.specs.Prelude.{ℕ, List};
+
+    ghost line: { List ℕ };
+}
+
+impl Leaving for Brand {
+    ghost use Rattle.std.specs.Prelude.{[]};
+
+    ghost line = { [] };
+}
+
+/// The pen keeps a line for the number of the pass that it carries.
+pub struct LeaveLine<L: Leaving> {
+    of: PhantomData<L>,
+}
+
+impl<St, L: Leaving> Play<Step, View<St>> for LeaveLine<L> {
+    ghost use Rattle.history_note.specs.Rule.{left_line};
+
+    ghost then = { left_line L.line };
 }
 
 /// The pen issues a pass with the number and the session that it said.

@@ -1,17 +1,19 @@
 // The note, its pen and its passes.
-ghost use Rattle.std.specs.Prelude.{◌≡◌, ◌≤◌, ◌<◌, ◌^◌, ◌-◌, length, true, false, IfOk, OnOk, OnErr};
+ghost use Rattle.std.specs.Prelude.{◌≡◌, ◌≤◌, ◌<◌, ◌^◌, ◌-◌, length, true, false, None, IfOk, OnOk, OnErr};
 ghost use Rattle.history_note.specs.Places.{IsIssued, places};
-ghost use Rattle.history_note.specs.Views.{says};
-ghost use Rattle.history_note.specs.Rule.{PenIs, with_pen};
-ghost use Rattle.history_note.specs.Shown.{is_carrying, new_pen, noting, issued_pass, carrying, writing, handing, FitsPen, IsHanded, IsPenAt};
+ghost use Rattle.history_note.specs.Views.{says, leaves};
+ghost use Rattle.history_note.specs.Rule.{Carries, PenIs, with_pen};
+ghost use Rattle.history_note.specs.Shown.{is_carrying, carried_line, new_pen, noting, issued_pass, carrying, MayEnter, writing, leaving, handing, FitsPen, IsHanded, IsPenAt};
 
-use crate::law::{HandOut, Issue, Law, Look, SayNumber, SaySession, TakeIn, WriteLine};
+use crate::law::{
+    HandOut, Issue, Law, LeaveLine, Leaving, Look, SayNumber, SaySession, TakeIn, WriteLine,
+};
 use crate::view::View;
 use atomic_table::{Seat, Shared, Table};
 use db_store::Store;
-use db_value::Step;
+use db_value::{LineText, Step};
 use std::alloc::{AllocError, Global};
-use std::marker::Model;
+use std::marker::{Brand, Model};
 
 /// A note is one word that threads share, the length of a list. The list itself stands in proofs alone.
 #[derive(Drop)]
@@ -61,7 +63,7 @@ impl<St: Store> Model for Pen<St> {
 }
 
 /// A pass is a token of no bytes that a session's thread holds. Its holder has seen a beginning of the note's list, and knows which of
-/// the lines there were entered with the pass.
+/// the lines there were entered with the pass, and which line it left to be written later.
 #[derive(Drop)]
 pub struct Pass<St: Store> {
     seat: Seat<Step, View<St>>,
@@ -141,10 +143,12 @@ impl<St: Store> Note<St> {
     }
 
     /// Adds a line to the end of the list, entered with this number. It is the carried pass's own if that has the number. Otherwise the
-    /// pen owes it to the number, until the number's pass is handed out.
+    /// pen owes it to the number, until the number's pass is handed out. A line that is kept for the number has to be this one, and is
+    /// kept no longer.
     pub fn write(&self, pen: &mut Pen<St>, number: u32, step: &Step)
         requires note { pen.old.note ≡ self.now.note }
         requires issued { IsIssued pen.old.noted number }
+        requires line { MayEnter number step.now.line pen.old }
         requires room { length pen.old.lines < 2 ^ 64 - 1 }
         ensures written { pen.new ≡ writing number step.now pen.old }
     {
@@ -154,8 +158,19 @@ impl<St: Store> Note<St> {
         shared.compare_exchange_with::<WriteLine>(&mut pen.seat, 0, count, count + 1, step);
     }
 
-    /// Hands out the carried pass, which has now seen the whole list and knows all of its own lines there. If there is no memory for
-    /// it, the pen still carries it.
+    /// Leaves a line with the pen, which keeps it for the carried pass's number until a line is written with that number. No line is
+    /// added to the list.
+    pub fn leave(&self, pen: &mut Pen<St>, line: &LineText)
+        requires note { pen.old.note ≡ self.now.note }
+        requires carries { is_carrying pen.old ≡ true }
+        requires free { carried_line pen.old ≡ None }
+        ensures left { pen.new ≡ leaving line.now pen.old }
+    {
+        leave_line::<St, Brand>(&self.table.shared, &mut pen.seat, line);
+    }
+
+    /// Hands out the carried pass, which has now seen the whole list, knows all of its own lines there, and has left the line that the
+    /// pen keeps for its number. If there is no memory for it, the pen still carries it.
     pub fn hand_out(&self, pen: &mut Pen<St>) -> Result<Pass<St>, AllocError>
         requires note { pen.old.note ≡ self.now.note }
         requires carries { is_carrying pen.old ≡ true }
@@ -206,4 +221,21 @@ fn say<St: Store>(
 {
     shared.compare_exchange::<SayNumber>(seat, 0, number, number);
     shared.compare_exchange::<SaySession>(seat, 0, session, session);
+}
+
+// The pen keeps a line, which L names, for the number of the pass that it carries. The word is as before.
+fn leave_line<St: Store, L: Leaving>(
+    shared: &Shared<Step, View<St>, St, Law>,
+    seat: &mut Seat<Step, View<St>>,
+    line: &LineText,
+)
+    requires table { (seat.old.table_id ≡ shared.now.table_id)
+        × (shared.now.table_id.words ≡ 1) }
+    requires pen { Carries seat.old.me.0 }
+    requires line { line.now ≡ L.line }
+    ensures same { (seat.new.table_id ≡ seat.old.table_id) × (seat.new.id ≡ seat.old.id) }
+    ensures left { seat.new.me ≡ (with_pen (leaves line.now) seat.old.me.0, seat.old.me.1) }
+{
+    let _ = line;
+    shared.compare_exchange::<LeaveLine<L>>(seat, 0, 0, 0);
 }

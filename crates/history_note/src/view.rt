@@ -1,5 +1,5 @@
 // What the pen and the passes of a note know. No value of these types is made.
-use db_value::Step;
+use db_value::{LineText, Step};
 use std::collections::LinkedList;
 
 /// A line of the list: its step, and the number that it was entered with.
@@ -8,24 +8,28 @@ pub struct NotedLine {
     pub step: Step,
 }
 
-/// What a pass knows: its number, the session for which it was issued, a beginning of the list, and the places in it of the lines that
-/// were entered with the pass.
+/// What a pass knows: its number, the session for which it was issued, a beginning of the list, the places in it of the lines that
+/// were entered with the pass, and the line that waited to be written when the pass was handed out.
 pub struct PassView<St> {
     pub opening: St,
     pub number: u32,
     pub session: u32,
     pub seen: LinkedList<NotedLine>,
     pub mine: LinkedList<u64>,
+    pub left: Option<LineText>,
 }
 
-/// What a pen knows: the numbers that it noted, each with its session, the whole list, the places of lines that it owes to numbers, and
-/// the pass that it carries. A step that needs a number or a session takes the ones that the pen said last.
+/// What a pen knows: the numbers that it noted, each with its session, the whole list, the places of lines that it owes to numbers, the
+/// lines that it keeps for numbers until they are written, and the pass that it carries, with the line that it kept for this pass's number
+/// when it took the pass in. A step that needs a number or a session takes the ones that the pen said last.
 pub struct PenView<St> {
     pub opening: St,
     pub noted: LinkedList<(u32, u32)>,
     pub lines: LinkedList<NotedLine>,
     pub owed: LinkedList<(u32, u64)>,
+    pub kept: LinkedList<(u32, LineText)>,
     pub carried: Option<PassView<St>>,
+    pub kept_then: Option<LineText>,
     pub said_number: u32,
     pub said_session: u32,
 }

@@ -93,6 +93,7 @@ pub record HasRun (old new : Kept) : Type 0 where
 pub record IsUnused {J : Type 0} (r : AtRoom J) : Type 0 where
   pub issued : r.issued ≡ 0
   pub out : r.out ≡ []
+  pub desks : r.desks ≡ []
   pub lines : r.pen.lines ≡ []
   pub steps : r.board.kept.steps ≡ []
 
@@ -103,13 +104,14 @@ abbrev pub numbers_of : ℕ → List Section → List (ℕ × ℕ)
 numbers_of k [] = []
 numbers_of k (s ∷ ss) = (k, s.session) ∷ numbers_of (k + 1) ss
 
--- what a tag names of the run of these sections: the note, the board's opening state and count, and the sections' numbers, none of which has a line when its seat is given
-pub record IsNamed (note : TableId) (opened : State) (first : ℕ) (numbers : List (ℕ × ℕ)) (since : ℕ → ℕ) (n : AtNote) (b : Kept) (sections : List Section) : Type 0 where
+-- what a tag names of the run of these sections: the note, the board's opening state and count, and the sections' numbers, none of which has a line when its seat is given. All seats stay out.
+pub record IsNamed (note : TableId) (opened : State) (first : ℕ) (numbers : List (ℕ × ℕ)) (since : ℕ → ℕ) (stays : Bool) (n : AtNote) (b : Kept) (sections : List Section) : Type 0 where
   pub note_is : n.note ≡ note
   pub opening_is : b.opening ≡ opened
   pub first_is : b.first_count ≡ first
   pub numbers_are : numbers ≡ numbers_of 0 sections
   pub since_none : (k : ℕ) → since k ≡ 0
+  pub all_stay : stays ≡ true
 
 -- a job: its seat, its last pass, and whether its section was said to the end
 pub record AtJob : Type 0 where

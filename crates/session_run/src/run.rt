@@ -51,7 +51,8 @@ where
     requires sections { (length sections.now ≤ 65) × AllOwn sections.now × Above 0 sections.now }
     requires board { IsNew board.kept }
     requires named { (note.opening ≡ board.kept.opening) × (pen ≡ new_pen note)
-        × IsNamed T.note T.opened T.first T.numbers T.since note board.kept sections.now
+        × IsNamed T.note T.opened T.first T.numbers T.since T.stays note board.kept
+        sections.now
         × (T.log ≡ Some board.log) }
     ensures ok { IfOk result (λ b. HasRun board.kept b.kept
         × IsInterleaving board.kept.opening sections.now b.kept.steps) }

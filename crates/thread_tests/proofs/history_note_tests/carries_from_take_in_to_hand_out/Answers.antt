@@ -1,4 +1,5 @@
 use Rattle.std.proofs.Common.{◌≡◌, [], ap, ◌∙◌}
+use Rattle.std.specs.Prelude.{None}
 use Rattle.db_store.specs.State.{State}
 use Rattle.history_note.specs.declared.view.PassView.{PassView}
 use Rattle.history_note.specs.Shown.{AtNote, AtPen, AtPass, new_pen, noting, issued_pass, carrying, handed_pass}
@@ -9,7 +10,7 @@ abbrev taken_from : AtPen → AtPen
 taken_from p = carrying (issued_pass 3 7 p) (noting 3 7 p)
 
 abbrev carried : AtNote → PassView State
-carried n = record { opening = n.opening; number = 3; session = 7; seen = []; mine = [] }
+carried n = record { opening = n.opening; number = 3; session = 7; seen = []; mine = []; left = None }
 
 pub load-requires : goal.load-requires
 load-requires g c =

@@ -1,5 +1,6 @@
 use Rattle.std.proofs.Common.{◌≡◌, [], ◌∷◌, refl, sym, ap, ◌∙◌, subst, inl}
 use Rattle.db_value.specs.declared.step.Step.{Step}
+use Rattle.std.specs.Prelude.{None}
 use Rattle.db_store.specs.State.{State}
 use Rattle.history_note.specs.declared.view.PassView.{PassView}
 use Rattle.history_note.specs.Places.{IsIssued}
@@ -14,7 +15,7 @@ abbrev written_from : Step → AtPen → AtPen
 written_from s p = writing 3 s (writing 3 s (taken_from p))
 
 abbrev carried : AtNote → PassView State
-carried n = record { opening = n.opening; number = 3; session = 7; seen = []; mine = 0 ∷ 1 ∷ [] }
+carried n = record { opening = n.opening; number = 3; session = 7; seen = []; mine = 0 ∷ 1 ∷ []; left = None }
 
 pub write-requires-2-clause-issued : goal.write-requires-2-clause-issued
 write-requires-2-clause-issued g c =

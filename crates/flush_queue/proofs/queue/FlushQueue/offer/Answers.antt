@@ -1,4 +1,4 @@
-use Rattle.std.proofs.Common.{rules, ◌≡◌, ◌+◌, ◌<◌, ◌-◌, ◌++◌, ◌∙◌, length, sym, ap, arith}
+use Rattle.std.proofs.Common.{rules, ◌≡◌, ◌++◌, ◌∙◌, length, ap, arith}
 use Rattle.flush_queue.specs.Queue.{AtQueue}
 use Rattle.flush_queue.proofs.Sizes.{ready_long}
 use Rattle.flush_queue.proofs.Tickets.{offered_given}

@@ -5,7 +5,7 @@ use Rattle.flush_queue.proofs.queue.FlushQueue.settle_waiting.Goals as goal
 pub returns-clause-log : goal.returns-clause-log
 returns-clause-log g c =
     let same : c.args.self.now.waiting ≡ c.self.inside.batch = search rules in
-    subst (λ (b : List ℕ). Appends g.J.Log.faults g.J.Log.Keeps g.J.Log.Owes g.J.Log.generation g.J.Log.moment g.J.Log.opens_since g.J.Log.Quiet b c.args.log.now c.append-told.new.self c.append-told.result) (sym same) (record {
+    subst (λ (b : List ℕ). Appends g.J.Log b c.args.log.now c.append-told.new.self c.append-told.result) (sym same) (record {
       any_moment = c.append-told.ensures.any_moment;
       done = c.append-told.ensures.done;
       failed = c.append-told.ensures.failed;

@@ -2,7 +2,7 @@ use Rattle.std.proofs.Common.{refl, sym, ap, ◌∙◌, subst, arith}
 use Rattle.history_note.specs.Places.{IsIssued}
 use Rattle.history_note.specs.Views.{says, writes}
 use Rattle.history_note.specs.Rule.{PenIs, Tells, with_pen}
-use Rattle.history_note.specs.Shown.{is_carrying, pen_at, writing}
+use Rattle.history_note.specs.Shown.{is_carrying, pen_at, MayEnter, writing}
 use Rattle.history_note.proofs.Steps.{looks}
 use Rattle.history_note.proofs.Calls as calls
 use Rattle.history_note.proofs.note.Note.write.Goals as goal
@@ -25,9 +25,10 @@ compare_exchange_with-requires g c =
     let on = calls.pen_on f z v c.args.pen.now c.args.self.now _ c.pen.view_is c.self.view_is c.requires.note in
     let l = c.load-count.ensures in
     let is : IsIssued (pen_at f z v).noted c.from.result = rw (c.pen.view_is, c.from.ensures) c.requires.issued in
+    let may : MayEnter c.from.result c.args.step.now.line (pen_at f z v) = rw (c.pen.view_is, c.from.ensures) c.requires.line in
     let v' = ap (λ m. m.0) l.2.0 ∙ ap (λ m. m.0) c.say.ensures.said in
     let told : Tells c.load-count.result c.load-count.new.seat.me.0 = subst (Tells c.load-count.result) (sym (ap (λ m. m.0) l.2.0)) l.2.1 in
-    (l.0 ∙ c.say.ensures.same.0 ∙ on, omega (arith, c.self.invariant), calls.write_allowed f z _ _ _ v c.load-count.new.seat.me c.from.result 0 c.load-count.result c.args.step.now c.pen.invariant.1 is v' told)
+    (l.0 ∙ c.say.ensures.same.0 ∙ on, omega (arith, c.self.invariant), calls.write_allowed f z _ _ _ v c.load-count.new.seat.me c.from.result 0 c.load-count.result c.args.step.now c.pen.invariant.1 is may v' told)
 
 pub invariant_of-pen : goal.invariant_of-pen
 invariant_of-pen g c =
