@@ -2,6 +2,8 @@
 #![tactic(auto)]
 
 #[cfg(test)]
+mod db_hub_tests;
+#[cfg(test)]
 mod history_note_tests;
 #[cfg(test)]
 mod session_run_tests;

@@ -15,8 +15,8 @@ use std::test::*;
 use std::thread::Threads;
 use stmt_text::sections_of;
 
-// A board on which nothing was run.
-fn new_board<St: Store>(alloc: Global, store: St) -> Result<Board<St, NoLog>, Fail>
+/// A board on which nothing was run.
+pub fn new_board<St: Store>(alloc: Global, store: St) -> Result<Board<St, NoLog>, Fail>
     ensures { IfOk result (λ b. IsNew b.kept) }
 {
     match Board::new(alloc, store, NoLog) {
@@ -45,7 +45,8 @@ where
     }
 }
 
-fn new_store(alloc: Global) -> Result<PlainStore, Fail> {
+/// A store of one relation.
+pub fn new_store(alloc: Global) -> Result<PlainStore, Fail> {
     let (schema, _) = Schema::read(alloc, b"relation items a\nend\n")?;
     Ok(PlainStore::new(alloc, schema)?)
 }
