@@ -8,7 +8,7 @@ use Rattle.stmt_text.specs.declared.stmt.Stmt.{Stmt}
 use Rattle.stmt_text.specs.declared.stmt.Line.{Line}
 use Rattle.db_core.specs.Order.{Said, said_as, said_of, next, reply_in}
 use Rattle.store_tx.specs.declared.stored.LogCall.TheVariants.{Nothing}
-use Rattle.store_tx.specs.Stored.{is_call}
+use Rattle.store_tx.specs.Stored.{asked, is_call}
 use Rattle.db_core.specs.Marks.{call_with}
 use Rattle.db_core.specs.Kept.{Logged, world_of}
 use Rattle.db_core.specs.Answered.{Ran}
@@ -48,7 +48,7 @@ module _ {L S V P Q : Type 0} (g : Ghosts L S V P Q) where
       let line : Line1 old new x false = subst (Line1 old new x) f ran.1 in
       record {
         line = line;
-        spared = line.stores.spared (ap (λ (y : Said). call_with (world_of old.kept) y.session y.stmt) (says x false reads) ∙ none);
+        spared = line.stores.spared (ap (λ (y : Said). asked (call_with (world_of old.kept) y.session y.stmt)) (says x false reads) ∙ ap asked none);
         reply = ran.2 ∙ ap (λ (q : Bool). reply_in (world_of old.kept) (marked importer x q) []) f;
         world = heard_world old.kept new.kept (marked_as (text_by x) false ∷ []) line.heard ∙ ap (next (world_of old.kept)) (says x false reads);
       }

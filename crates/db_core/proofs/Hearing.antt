@@ -11,14 +11,15 @@ use Rattle.db_core.specs.Laws.{AllHaveRoom}
 use Rattle.db_core.specs.Kept.{Kept, Logged, Stands, said_step, step_of, saids, world_of}
 use Rattle.db_core.specs.Answered.{IsAnswered, Ran}
 use Rattle.db_core.specs.Heard.{Marked, marked_as, lines_of, said, world_after, marked_step, marked_steps, Hears}
-use Rattle.db_core.specs.Accounts.{call_in, StoresAll}
+use Rattle.db_core.specs.Groups.{call_in, alone_groups}
+use Rattle.db_core.specs.Accounts.{StoresGroups, StoresAll}
 use Rattle.db_core.specs.Marks.{NoneCalls}
 use Rattle.db_core.specs.Desk.{AtDesk, Agrees, entered}
 use Rattle.db_core.specs.Runs.{RanLine, Runs, StoresSteps}
 use Rattle.db_core.proofs.Rooms.{room_law}
 use Rattle.db_core.proofs.Seating.{after_all}
 use Rattle.db_core.proofs.Standing.{waiting_stores}
-use Rattle.db_core.proofs.Storing.{stores_none, stores_more, stores_waiting}
+use Rattle.db_core.proofs.Storing.{stores_none, stores_line, stores_more, stores_waiting}
 
 -- ---- lines with their marks
 
@@ -98,20 +99,22 @@ module _ {L S V P Q : Type 0} (g : Ghosts L S V P Q) where
 
   -- nothing was run
   pub steps_none : (b : Logged L) → b.kept.steps ≡ [] → Steps b.log b
-  steps_none b none = subst (λ (ss : List Step). StoresAll g (opening b.kept.opening) (marked_steps ss) b.log b.log) (sym none)
-      (stores_none g (opening b.kept.opening) b.log)
+  steps_none b none = ([], subst (λ (ss : List Step). StoresGroups g (opening b.kept.opening) (marked_steps ss) [] b.log b.log) (sym none) (stores_none g (opening b.kept.opening) b.log))
 
   -- the lines that wait were entered
   pub steps_entered : (first : L) (b : Logged L) (k : AtDesk) → Agrees b.kept k → Steps first b → Steps first (record b { kept = entered b.kept k })
-  steps_entered first b k a all =
+  steps_entered first b k a (groups, all) =
       let w : World = opening b.kept.opening in
-      subst (λ (ran : List Marked). StoresAll g w ran first b.log) (sym (map-append marked_step b.kept.steps k.waiting))
-      (stores_waiting g k.session k.waiting w (marked_steps b.kept.steps) first b.log all a.waiting.own
-      (subst (λ (v : World). NoneCalls v (saids k.waiting)) (sym (steps_world b.kept)) (waiting_stores b.kept k a)))
+      let more : List (List Marked) = groups ++ alone_groups (marked_steps k.waiting) in (
+        more,
+        subst (λ (ran : List Marked). StoresGroups g w ran more first b.log) (sym (map-append marked_step b.kept.steps k.waiting))
+            (stores_waiting g k.session k.waiting w (marked_steps b.kept.steps) groups first b.log all a.waiting.own
+            (subst (λ (v : World). NoneCalls v (saids k.waiting)) (sym (steps_world b.kept)) (waiting_stores b.kept k a))),
+      )
 
   -- a line was run
   pub steps_ran : (first : L) (old new : Logged L) (text : List ℕ) (r : Reply) → Stands old.kept → Ran g old new text r → Steps first old → Steps first new
-  steps_ran first old new text r stands ran all =
+  steps_ran first old new text r stands ran (groups, all) =
       let w : World = opening old.kept.opening in
       let m : Marked = marked_as text ran.0 in
       let before : List Marked = marked_steps old.kept.steps in
@@ -119,6 +122,9 @@ module _ {L S V P Q : Type 0} (g : Ghosts L S V P Q) where
       let state : old.kept.now ≡ (world_after w before).state = sym stands.state ∙ ap (λ (v : World). v.state) world in
       let line : Stores g (world_after w before).state m.failed (call_in (world_after w before) m) old.log new.log =
       subst (λ (p : State × World). Stores g p.0 m.failed (call_in p.1 m) old.log new.log) (λ i. (state i, world i)) ran.2 in
-      subst (λ (p : State × List Marked). StoresAll g (opening p.0) p.1 first new.log)
-      (λ i. (sym (ap (λ (k : Kept). k.opening) ran.1.kept) i, sym (ap (λ (k : Kept). marked_steps k.steps) ran.1.kept ∙ map-append marked_step old.kept.steps (step_of text ran.0 r ∷ [])) i))
-      (stores_more g w before m first old.log new.log all line)
+      let more : List (List Marked) = groups ++ (m ∷ []) ∷ [] in (
+        more,
+        subst (λ (p : State × List Marked). StoresGroups g (opening p.0) p.1 more first new.log)
+            (λ i. (sym (ap (λ (k : Kept). k.opening) ran.1.kept) i, sym (ap (λ (k : Kept). marked_steps k.steps) ran.1.kept ∙ map-append marked_step old.kept.steps (step_of text ran.0 r ∷ [])) i))
+            (stores_line g w before groups m first old.log new.log all line),
+      )

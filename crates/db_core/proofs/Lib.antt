@@ -14,6 +14,8 @@ pub mod Telling
 pub mod Serving
 pub mod Logging
 pub mod Marked
+pub mod Nexts
+pub mod Grouping
 pub mod Storing
 pub mod Hearing
 pub mod Sessions

@@ -6,6 +6,7 @@ pub mod Kept
 pub mod Sits
 pub mod Answered
 pub mod Heard
+pub mod Groups
 pub mod Accounts
 pub mod Runs
 pub mod Desk

@@ -3,6 +3,7 @@ ghost use Rattle.db_core.specs.Laws.{RoomLaw, MachineLaw, StateLaw, GrowthLaw, R
 ghost use Rattle.db_core.specs.Desk.{NewDeskLaw, OtherLinesLaw};
 ghost use Rattle.db_core.specs.Local.{LocalLaw};
 ghost use Rattle.db_core.specs.Marks.{FailedLaw, RefusedLaw};
+ghost use Rattle.db_core.specs.Groups.{AloneLaw, UnmarkedLaw, UnfailedGroupsLaw};
 ghost use Rattle.db_core.specs.Accounts.{UnfailedLaw, OneOpeningLaw, NoImageLaw};
 
 /// A line that is read has a room that can be.
@@ -55,7 +56,22 @@ pub fn refused_law()
     ensures { RefusedLaw }
 {}
 
-/// A log none of whose lines failed has no batch that failed, and owes no image.
+/// Lines that are run alone are groups, and as many of these have the mark as of the lines.
+pub fn alone_law()
+    ensures { AloneLaw }
+{}
+
+/// Where no group has the mark, no line has it.
+pub fn unmarked_law()
+    ensures { UnmarkedLaw }
+{}
+
+/// Where no line has the mark, no group has it.
+pub fn unfailed_groups_law()
+    ensures { UnfailedGroupsLaw }
+{}
+
+/// A log that did all that these groups asked for has no batch that failed, and owes no image.
 pub fn unfailed_law()
     ensures { UnfailedLaw }
 {}

@@ -83,22 +83,22 @@ fn put_slot(slots: &mut Vec<u32>, slot: u32, is_set: bool) -> Result<(), AllocEr
     Ok(())
 }
 
-// Puts a slot after the others, if its bit is set, or passes over a word that is 0. Tells the next
-// slot.
-fn put_next(slots: &mut Vec<u32>, delta: &DeltaRead, slot: u32, end: u32) -> Result<u32, AllocError>
-    requires { slot < end }
-    ensures further { IfOk result (λ next. slot < next) }
-    ensures within { IfOk result (λ next. next ≤ end) }
-    ensures put { IfOk result (λ next. (from : ℕ) → from ≤ slot
+// Puts the slots of a word from one up to another, whose bits are set, after the others.
+fn put_word(slots: &mut Vec<u32>, delta: &DeltaRead, slot: u32, next: u32) -> Result<(), AllocError>
+    requires before { slot ≤ next }
+    requires one_word { (k : ℕ) → slot ≤ k → k < next → k / 64 ≡ slot / 64 }
+    ensures { OnOk result ((from : ℕ) → from ≤ slot
         → slots.old.items ≡ slots_between (delta_bit delta.now) from slot
         → slots.new.items ≡ slots_between (delta_bit delta.now) from next) }
 {
     let word = word_of(delta, slot);
     if word == 0 {
-        return Ok(next_word(slot, end));
+        return Ok(());
     }
-    put_slot(slots, slot, has_bit(word, slot))?;
-    Ok(slot + 1)
+    'bits: for k in slot..next {
+        put_slot(slots, k, has_bit(word, k))?;
+    }
+    Ok(())
 }
 
 // The slots whose bits are set.
@@ -111,8 +111,10 @@ fn slots_in(alloc: Global, delta: &DeltaRead, size: u32) -> Result<Vec<u32>, All
     let from = first_slot(delta, size);
     let end = end_slot(delta, size);
     let mut slot = from;
-    'places: while slot < end {
-        slot = put_next(&mut slots, delta, slot, end)?;
+    'words: while slot < end {
+        let next = next_word(slot, end);
+        put_word(&mut slots, delta, slot, next)?;
+        slot = next;
     }
     Ok(slots)
 }

@@ -23,6 +23,7 @@ use Rattle.generations.specs.Pairs.{moments_of, AreAllOnDisk, BothOnlyRead}
 use Rattle.generations.specs.Reopens.{StaysQuiet}
 use Rattle.script_run.specs.Device.{Appends, AppendsShort}
 use Rattle.db_core.specs.Heard.{Marked, said, failures, lines_of, unmarked}
+use Rattle.db_core.specs.Groups.{alone_groups}
 use Rattle.db_core.specs.Accounts.{StoresAll, NoneCheckpoints}
 use Rattle.db_core.specs.Runs.{Runs}
 use Rattle.db_core.proofs.Storing.{stores_none, no_image_law}
@@ -191,7 +192,7 @@ module _ {D S V P Q : Type 0} (g : Ghosts D) (disks : Pair D) (a b : Dataset D g
   pub imports_files : KeepsIn a s es None → ImportsLog (log_of g {S = S} {V = V} {P = P} {Q = Q}) s a b relation input status before after
       → (c d : List ℕ) → reads c d ≡ counts (counted_in a) (generation_in a) (opened s es (place_in a)) → (AreAllOnDisk g disks → StaysQuiet (moments_of g disks) a c d) → RunsImport g disks (pair_in b) relation input status before after c d
   imports_files kept r c d is quiet =
-      let runs = runs_on g disks a b s es only kept r.ran r.stores c d is quiet in
+      let runs = runs_on g disks a b s es only kept r.ran (alone_groups r.ran) r.stores c d is quiet in
       record {
         file = counted_in a;
         generation = generation_in a;

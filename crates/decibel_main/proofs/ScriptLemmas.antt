@@ -22,10 +22,12 @@ use Rattle.script_run.specs.declared.run.RunStop.{RunStop}
 use Rattle.script_run.specs.declared.run.RunStop.TheVariants.{Fault, Memory as NoMemory}
 use Rattle.db_core.specs.Heard.{Marked, said, failures, world_after}
 use Rattle.db_core.specs.Marks.{NoneSaves}
-use Rattle.db_core.specs.Accounts.{Account, opened_account, account, GivesBy, GivesDuring, IsHeldBy, StoresAll}
+use Rattle.db_core.specs.Groups.{alone_groups, failed_groups}
+use Rattle.db_core.specs.Accounts.{Account, opened_account, account, GivesBy, GivesDuring, IsHeldBy, StoresGroups}
+use Rattle.db_core.proofs.Grouping.{unfailed_groups_law}
 use Rattle.script_run.specs.Runs.{RunsAll, RunsCut, RunsWhole}
 use Rattle.script_run.proofs.OutputLemmas.{out_end}
-use Rattle.db_core.proofs.Storing.{stores_none, may_any, unfailed_law, one_opening_law}
+use Rattle.db_core.proofs.Storing.{few_alone, stores_none, may_any, unfailed_law, one_opening_law}
 use Rattle.decibel_main.specs.Ends.{IsEndOf}
 use Rattle.decibel_main.specs.Images.{OpensNow, OpensSince, faults_in}
 use Rattle.decibel_main.specs.Scripts.{GivesAs, RunsLog, RunsOn, RunsScript}
@@ -85,7 +87,7 @@ module _ {L S V P Q : Type 0} (j : LogGhosts L S V P Q) where
       lines = a.runs.lines;
       stores = a.runs.stores;
       answers = (refl, a.answers);
-      unfailed = λ is below. none_failed (failures a.ran) (j.faults k.log) (j.faults m.log) a.runs.stores.few a.runs.stores.later le below;
+      unfailed = λ is below. none_failed (failures a.ran) (j.faults k.log) (j.faults m.log) (few_alone j (world_of k.kept) a.ran k.log m.log a.runs.stores) a.runs.stores.later le below;
     }
 
     of_fault : All → Of DiskFault
@@ -150,13 +152,13 @@ module _ {D : Type 0} (g : Ghosts D) where
   has_pairs S V P Q true l s es f (inr owes) = owes_pairs g l s es f owes
 
   -- lines that were run, and what a log did for them
-  module _ {S V P Q : Type 0} (disks : Pair D) (a b : Dataset D g) (s : State) (es : List Entry) (only : BothOnlyRead g disks (pair_in a)) (kept : KeepsIn a s es None) (ran : List Marked)
-      (stores : StoresAll (log_of {S = S} {V = V} {P = P} {Q = Q}) (opening s) ran a b) where
+  module _ {S V P Q : Type 0} (disks : Pair D) (a b : Dataset D g) (s : State) (es : List Entry) (only : BothOnlyRead g disks (pair_in a)) (kept : KeepsIn a s es None) (ran : List Marked) (groups : List (List Marked))
+      (stores : StoresGroups (log_of {S = S} {V = V} {P = P} {Q = Q}) (opening s) ran groups a b) where
     abbrev first : Account
     first = opened_account (generation_in a) es
 
     abbrev last : Account
-    last = account (opening s) first ran
+    last = account (opening s) first groups
 
     abbrev after : State
     after = (world_after (opening s) ran).state
@@ -164,7 +166,7 @@ module _ {D : Type 0} (g : Ghosts D) where
     held : IsHeldBy (log_of {S = S} {V = V} {P = P} {Q = Q}) a s first
     held = record { generation = refl; pending = None; among = tt; has = kept }
 
-    few : faults_in g (pair_in b) < 2 ^ 64 - 1 → failures ran + faults_in g disks ≤ faults_in g (pair_in b)
+    few : faults_in g (pair_in b) < 2 ^ 64 - 1 → failed_groups groups + faults_in g disks ≤ faults_in g (pair_in b)
     few below =
         omega (arith, faults_are g a, faults_are g b, only.first.later, only.second.later, stores.few (omega (arith, below, faults_are g b)))
 
@@ -178,22 +180,22 @@ module _ {D : Type 0} (g : Ghosts D) where
 
     settled : failures ran ≡ 0 → OpensNow g (pair_in b) (GivesAs after last)
     settled none = λ c d hc hd.
-        let clean = unfailed_law (opening s) first ran none refl refl in
+        let clean = unfailed_law (opening s) first groups (unfailed_groups_law (opening s) ran groups stores.cut none) refl refl in
         one_opening_law after last (opening_of (reads c d)) clean.0 clean.1 (now c d hc hd)
 
     -- before the first line was run
-    at_first : (o : Opening) → o ≡ gives (generation_in a) s es → GivesDuring (opening s) first ran o
-    at_first o is = ([], ran, refl, inl is)
+    at_first : (o : Opening) → o ≡ gives (generation_in a) s es → GivesDuring (opening s) first groups o
+    at_first o is = ([], groups, refl, inl is)
 
     any_moment : NoneSaves (opening s) (map said ran) → (c d : List ℕ) → reads c d ≡ counts (counted_in a) (generation_in a) (opened s es (place_in a)) → StaysQuiet (moments_of g disks) a c d
-        → OpensSince g (moments_of g disks) (pair_in b) (GivesDuring (opening s) first ran)
+        → OpensSince g (moments_of g disks) (pair_in b) (GivesDuring (opening s) first groups)
     any_moment none c d is quiet = λ x y hx hy.
         let o = opening_of (reads x y) in
         ⊎_elim (λ was. at_first o (quiet.opens o was ∙ ap opening_of is)) (λ during. during)
         ((stores.any_moment none first refl held).adds (moments_of g disks) (only.first.any_moment.later, only.second.any_moment.later) quiet.quiet o (x, y, hx, hy, refl))
 
-    pub runs_on : (c d : List ℕ) → reads c d ≡ counts (counted_in a) (generation_in a) (opened s es (place_in a)) → (AreAllOnDisk g disks → StaysQuiet (moments_of g disks) a c d) → RunsOn g disks (pair_in b) (generation_in a) s es ran
-    runs_on c d is quiet = record { few = few; now = now; settled = settled; any_moment = λ none durable. any_moment none c d is (quiet durable) }
+    pub runs_on : (c d : List ℕ) → reads c d ≡ counts (counted_in a) (generation_in a) (opened s es (place_in a)) → (AreAllOnDisk g disks → StaysQuiet (moments_of g disks) a c d) → RunsOn g disks (pair_in b) (generation_in a) s es ran groups
+    runs_on c d is quiet = record { cut = stores.cut; few = few; now = now; settled = settled; any_moment = λ none durable. any_moment none c d is (quiet durable) }
 
   -- a count that rose in the run
   pub rose : (disks : Pair D) (a b : Dataset D g) → BothOnlyRead g disks (pair_in a) → faults_l a < faults_l b → RoseInOne g disks (pair_in b)
@@ -212,7 +214,7 @@ module _ {D : Type 0} (g : Ghosts D) where
     ran = r.ran;
     rest = r.rest;
     lines = r.lines;
-    runs = runs_on disks a b s es only kept r.ran r.stores c d is quiet;
+    runs = runs_on disks a b s es only kept r.ran (alone_groups r.ran) r.stores c d is quiet;
     answers = r.answers;
     unfailed = λ done below. r.unfailed done (omega (arith, below, faults_are g b));
   }

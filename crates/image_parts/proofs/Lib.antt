@@ -3,6 +3,7 @@ pub mod Turns
 pub mod Flips
 pub mod Steps
 pub mod Numbers
+pub mod Order
 pub mod Tables
 pub mod Write
 pub mod ImageLaw

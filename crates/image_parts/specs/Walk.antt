@@ -1,13 +1,12 @@
 -- What is kept along a walk over the deltas of a branch, for the private functions.
-use Rattle.std.specs.Prelude.{◌≡◌, ℕ, zero, suc, ◌+◌, ◌-◌, ◌/◌, ◌%◌, ◌<◌, ◌≤◌, ◌⊎◌, ◌==◌, ◌&&◌, nat_lt, nat_le, cond, Bool, true, false, not, List, [], ◌∷◌, ◌++◌, length, map, set, Option, Some, None}
+use Rattle.std.specs.Prelude.{◌≡◌, ℕ, zero, suc, ◌+◌, ◌-◌, ◌/◌, ◌%◌, ◌<◌, ◌≤◌, ◌⊎◌, ◌==◌, ◌&&◌, nat_lt, nat_le, cond, Bool, true, false, List, [], ◌∷◌, length, map}
 use Rattle.std.specs.List.{flat_map}
 use Rattle.std.proofs.Common.{get_or}
 use Rattle.db_value.specs.declared.record.Record.{Record}
 use Rattle.image_text.specs.declared.image.RowPart.{RowPart}
 use Rattle.image_text.specs.declared.image.SegmentPart.{SegmentPart}
-use Rattle.image_text.specs.Reading.{no_row}
 use Rattle.image_parts.specs.declared.keys.Walk.{Walk}
-use Rattle.image_parts.specs.Whole.{word_bit, no_delta, delta_bit, differ, bit_before, lane_of, row_of}
+use Rattle.image_parts.specs.Whole.{word_bit, no_delta, delta_bit, differ, bit_before, row_of}
 
 -- the number that a truth value counts as
 abbrev pub weigh : Bool → ℕ
@@ -74,11 +73,6 @@ own_keys s = map (λ (x : Record). x.key) s.records
 -- the keys of all records, segment by segment
 abbrev pub all_keys : List SegmentPart → List ℕ
 all_keys ss = flat_map own_keys ss
-
--- a place, or this one
-abbrev pub or_place : Option ℕ → ℕ → ℕ
-or_place None place = place
-or_place (Some found) place = found
 
 -- the place of the first key that is equal to this one
 abbrev pub first_of : List ℕ → ℕ → ℕ

@@ -9,16 +9,14 @@
 //! No position takes a table of its own, and no branch a map: a delta costs its words and a step for
 //! each bit.
 ghost use Rattle.std.specs.Prelude.{◌≡◌, ◌<◌, ◌≤◌, ◌+◌, ◌*◌, ◌==◌, ◌&&◌, suc, zero, nat_le, cond, true, false, not, ℕ, length, map, set, replicate, IfOk, IfNone, IfSome, OnOk, List, Bool, Some, ◌++◌, []};
-ghost use Rattle.std.specs.Ordering.{nat_cmp};
-ghost use Rattle.std.specs.BTreeMap.{get};
 ghost use Rattle.std.proofs.Common.{get_or};
 ghost use Rattle.image_text.specs.Reading.{no_row};
 ghost use Rattle.image_parts.specs.Whole.{word_bit, delta_bit, lane_of, is_keyed, keys_once};
-ghost use Rattle.image_parts.specs.Walk.{weigh, AreSmall, Agrees, Flips, word_at, turned, own_keys, all_keys, or_place, first_of, Shows};
+ghost use Rattle.image_parts.specs.Walk.{weigh, AreSmall, Agrees, Flips, word_at, turned, own_keys, all_keys, first_of, Shows};
+ghost use Rattle.image_parts.specs.Order.{ArePlaced, IsOrder, number_after};
 
 use image_text::{Delta, RowPart, SegmentPart};
 use std::alloc::{AllocError, Global};
-use std::collections::BTreeMap;
 
 const MOST_KEYS: u64 = 262144;
 
@@ -207,31 +205,48 @@ impl Walk {
     }
 }
 
-// The place that a map has for a key. If it has none, it is given this one.
-fn number_at(first: &mut BTreeMap<u64, usize>, key: u64, place: usize) -> Result<usize, AllocError>
-    ensures number { IfOk result (λ n. n ≡ or_place (get nat_cmp first.old key) place) }
-    ensures first { OnOk result ((other : ℕ) → get nat_cmp first.new other
-        ≡ cond (key == other) (Some (or_place (get nat_cmp first.old key) place))
-        (get nat_cmp first.old other)) }
+// The keys with their places.
+fn places_of(alloc: Global, keys: &[u64]) -> Result<Vec<(u64, usize)>, AllocError>
+    ensures { IfOk result (λ places. ArePlaced keys.now places.items) }
 {
-    if let Some(found) = first.get(&key) {
-        return Ok(*found);
+    let mut places: Vec<(u64, usize)> = Vec::with_capacity(alloc, keys.len())?;
+    'keys: for i in 0..keys.len() {
+        places.push((keys[i], i))?;
     }
-    match first.insert(key, place) {
-        Ok(_) => Ok(place),
-        Err(_) => Err(AllocError),
+    Ok(places)
+}
+
+// The keys with their places, by key, and by place if keys are equal.
+fn ordered(alloc: Global, keys: &[u64]) -> Result<Vec<(u64, usize)>, AllocError>
+    ensures { IfOk result (λ order. IsOrder keys.now order.items) }
+{
+    let mut order = places_of(alloc, keys)?;
+    order.sort_by_key(|item| item.0)?;
+    Ok(order)
+}
+
+// The number of a key in order, if the one before it has this number.
+fn number_at(order: &[(u64, usize)], i: usize, last: usize) -> usize
+    requires { i < length order.now }
+    ensures { result ≡ number_after order.now i last }
+{
+    let (key, place) = order[i];
+    if i == 0 {
+        return place;
     }
+    if order[i - 1].0 == key { last } else { place }
 }
 
 // For each key the place of the first one that is equal.
 fn numbers_of(alloc: Global, keys: &[u64]) -> Result<Vec<usize>, AllocError>
     ensures { IfOk result (λ numbers. numbers.items ≡ map (first_of keys.now) keys.now) }
 {
-    let mut first: BTreeMap<u64, usize> = BTreeMap::new(alloc);
-    let mut numbers: Vec<usize> = Vec::with_capacity(alloc, keys.len())?;
-    'keys: for i in 0..keys.len() {
-        let number = number_at(&mut first, keys[i], i)?;
-        numbers.push(number)?;
+    let order = ordered(alloc, keys)?;
+    let mut numbers: Vec<usize> = vec![in alloc; 0; keys.len()]?;
+    let mut number = 0usize;
+    'order: for i in 0..order.len() {
+        number = number_at(&order, i, number);
+        numbers[order[i].1] = number;
     }
     Ok(numbers)
 }

@@ -1,4 +1,4 @@
--- An entry that fits, as a batch of its own.
+-- Entries that fit, as a batch.
 use Rattle.std.proofs.Common.{◌≡◌, ◌⊎◌, inl, inr, ⊎_elim, subst, ℕ, ◌*◌, ◌<◌, ◌≤◌, cond, not, ◌&&◌, nat_le, true, false, Bool, List, [], ◌∷◌, ◌++◌, length, refl, sym, ◌∙◌, ap, arith, Option, Some, None}
 use Rattle.std.specs.Prelude.{Result, Ok, Err, OnOk, OnErr, IsErrOf}
 use Rattle.std.proofs.lemmas.List.{append-nil}
@@ -15,16 +15,16 @@ use Rattle.db_store.specs.Growth.{commit_parts}
 use Rattle.db_store.specs.Fits.{fits}
 use Rattle.db_store.specs.State.{State, dataset_of, grow}
 use Rattle.db_outside.specs.Record.{most_body}
-use Rattle.entry_codec.specs.Spelling.{spelling, entry_size, second_size, change_size, changes_size, field_count, HasFewChanges}
+use Rattle.entry_codec.specs.Spelling.{spelling, spellings, entry_size, second_size, change_size, changes_size, field_count, HasFewChanges}
 use Rattle.entry_codec.specs.Grammar.{entries_in}
-use Rattle.entry_codec.specs.Laws.{IsEntry, IsChange, AreChanges, AreFields}
+use Rattle.entry_codec.specs.Laws.{IsEntry, AreEntries, IsChange, AreChanges, AreFields}
 use Rattle.entry_codec.specs.declared.log.Log.{Ghosts}
 use Rattle.entry_codec.specs.declared.stop.CheckpointStop.{CheckpointStop}
 use Rattle.entry_codec.specs.declared.stop.CheckpointStop.TheVariants.{DiskFault}
-use Rattle.entry_codec.specs.Logs.{Follows, Opening, MayGive, GivesOneOf, GivesImage, GivesOnly, GoesOn, AddsOnly, KeepsAny, KeepsOneOf, KeepsOrOwes, WhereKept, WhereKeptOrOwed, StoresOwing, Checkpoints, Renews, CountsStops, next_generation, entries_after}
+use Rattle.entry_codec.specs.Logs.{applied, Follows, Opening, MayGive, GivesOneOf, GivesImage, GivesOnly, GoesOn, AddsOnly, KeepsAny, KeepsOneOf, KeepsOrOwes, WhereKept, WhereKeptOrOwed, StoresOwing, Checkpoints, Renews, CountsStops, next_generation, entries_after}
 use Rattle.db_outside.specs.Device.{Rose}
 use Rattle.store_tx.specs.declared.stored.LogCall.TheVariants.{Nothing, Append, Save}
-use Rattle.store_tx.specs.Stored.{Has, GivesIn, GivesOwed, IsPendingOf, Stores}
+use Rattle.store_tx.specs.Stored.{nothing, batch, image, all_grown, Has, GivesIn, GivesOwed, IsPendingOf, StoresAsked, Stores}
 use Rattle.entry_codec.proofs.Back.{size_is, all}
 
 few_fields : (fields : Option (List Value)) → AreFields fields → field_count fields ≤ 15
@@ -69,16 +69,27 @@ pub size_some : (e : Entry) → 0 < entry_size e
 size_some (Commit branch second cs) = omega arith
 size_some (Branch name origin) = omega arith
 
--- its one entry follows
-abbrev pub follows_one : (s : State) (e : Entry) (b : List ℕ) → b ≡ spelling e → fits (dataset_of s) e ≡ true → IsEntry e → Follows s b
-follows_one s e b same fit is = record {
+-- Entries that fit one after another, and are within the rules, as the body of a batch.
+pub record IsBatch (s : State) (es : List Entry) (b : List ℕ) : Type 0 where
+  pub same : b ≡ spellings es
+  pub some : 0 < length b
+  pub few : length b ≤ most_body
+  pub fit : applied s es ≡ Some (all_grown s es)
+  pub are : AreEntries es
+
+-- one entry is a batch
+pub one_batch : (s : State) (e : Entry) (b : List ℕ) → b ≡ spelling e → fits (dataset_of s) e ≡ true → IsEntry e → IsBatch s (e ∷ []) b
+one_batch s e b same fit is = record {
+  same = same ∙ sym (append-nil (spelling e));
   some = omega (arith, ap length same, size_is e, size_some e);
   few = omega (arith, ap length same, size_is e, entry_few e is);
-  entries = e ∷ [];
-  read = ap entries_in (same ∙ sym (append-nil (spelling e))) ∙ all (e ∷ []) (is, tt);
-  state = grow s e;
   fit = ap (λ (q : Bool). cond q (Some (grow s e)) None) fit;
+  are = (is, tt);
 }
+
+-- the entries of a batch follow
+abbrev pub follows_all : (s : State) (es : List Entry) (b : List ℕ) → IsBatch s es b → Follows s b
+follows_all s es b is = record { some = is.some; few = is.few; entries = es; read = ap entries_in is.same ∙ all es is.are; state = all_grown s es; fit = is.fit }
 
 -- an entry that fits has few changes
 pub few_fit : (d : Dataset) (e : Entry) → fits d e ≡ true → HasFewChanges e
@@ -87,32 +98,35 @@ few_fit d (Commit b second changes) fit =
     leb-true _ _ (and_parts _ _ (and_parts _ _ p.changes).0).0
 few_fit d (Branch name origin) fit = tt
 
--- ---- what a log does for one entry
+-- ---- what a log does for a batch
 
 module _
-    {L S V P Q T E : Type 0} (g : Ghosts L S V P Q) (s : State) (e : Entry) (b : List ℕ) (same : b ≡ spelling e) (fit : fits (dataset_of s) e ≡ true) (is : IsEntry e) (old new : L) (result : Result T E)
+    {L S V P Q T E : Type 0} (g : Ghosts L S V P Q) (s : State) (added : List Entry) (b : List ℕ) (is : IsBatch s added b) (old new : L) (result : Result T E)
     (gives : WhereKept g.Keeps old b (λ t es f h. GivesOnly g.moment g.Quiet g.opens_since old new (GivesOneOf (g.generation old) t es f b)))
     (owed : WhereKept g.Owes old b (λ t es f h. StoresOwing g.Keeps g.Owes g.generation g.moment g.opens_since old new result t es f b h))
     (goes_on : GoesOn g.generation g.moment old new) (later : g.faults old ≤ g.faults new) where
   abbrev follows : Follows s b
-  follows = follows_one s e b same fit is
+  follows = follows_all s added b is
 
-  any_now : (owing : Bool) (es : List Entry) (f : Option (List ℕ)) → Has g owing old s es f → (o : Opening) → g.opens_since new (g.moment old) o → GivesIn (g.generation old) s es f (Append e) o ⊎ GivesOwed owing (g.generation old) s o
+  abbrev same : b ≡ spellings added
+  same = is.same
+
+  any_now : (owing : Bool) (es : List Entry) (f : Option (List ℕ)) → Has g owing old s es f → (o : Opening) → g.opens_since new (g.moment old) o → GivesIn (g.generation old) s es f (batch added) o ⊎ GivesOwed owing (g.generation old) s o
   any_now false es f keeps o opens = inl (subst (λ (x : List ℕ). GivesOneOf (g.generation old) s es f x o) same ((gives s es f follows keeps).any_moment o opens))
   any_now true es f (inl keeps) o opens = inl (subst (λ (x : List ℕ). GivesOneOf (g.generation old) s es f x o) same ((gives s es f follows keeps).any_moment o opens))
   any_now true es f (inr owes) o opens = subst (λ (x : List ℕ). GivesOneOf (g.generation old) s es f x o ⊎ GivesImage (g.generation old) s o) same ((owed s es f follows owes).any_moment o opens)
 
-  quiet_now : (es : List Entry) (f : Option (List ℕ)) → g.Keeps old s es f → AddsOnly g.moment g.Quiet g.opens_since old new (GivesIn (g.generation old) s es f (Append e))
+  quiet_now : (es : List Entry) (f : Option (List ℕ)) → g.Keeps old s es f → AddsOnly g.moment g.Quiet g.opens_since old new (GivesIn (g.generation old) s es f (batch added))
   quiet_now es f keeps = subst (λ (x : List ℕ). AddsOnly g.moment g.Quiet g.opens_since old new (GivesOneOf (g.generation old) s es f x)) same (gives s es f follows keeps).quiet
 
-  -- it stored the entry
+  -- it stored the entries
   module _ (value : T) (ok : result ≡ Ok value) (done : WhereKept g.Keeps old b (λ t es f h. g.Keeps new h.state (es ++ h.entries) None)) where
-    has_done : (owing : Bool) (es : List Entry) (f : Option (List ℕ)) → Has g owing old s es f → g.Keeps new (grow s e) (es ++ e ∷ []) None
+    has_done : (owing : Bool) (es : List Entry) (f : Option (List ℕ)) → Has g owing old s es f → g.Keeps new (all_grown s added) (es ++ added) None
     has_done false es f keeps = done s es f follows keeps
     has_done true es f (inl keeps) = done s es f follows keeps
-    has_done true es f (inr owes) = subst (λ (r : Result T E). OnOk r (g.Keeps new (grow s e) (es ++ e ∷ []) None)) ok (owed s es f follows owes).done
+    has_done true es f (inr owes) = subst (λ (r : Result T E). OnOk r (g.Keeps new (all_grown s added) (es ++ added) None)) ok (owed s es f follows owes).done
 
-    pub stores_done : Stores g s false (Append e) old new
+    pub stores_done : StoresAsked g s false (batch added) old new
     stores_done = record {
       some = λ bad. absurd (cc bad);
       spared = λ none. absurd (cc none);
@@ -127,17 +141,17 @@ module _
 
   -- it failed
   module _ (why : E) (err : result ≡ Err why) (failed : WhereKept g.Keeps old b (λ t es f h. KeepsOneOf g.Keeps new t es f b)) where
-    in_batch : (f h : Option (List ℕ)) → (h ≡ None) ⊎ (h ≡ f) ⊎ (h ≡ Some b) → IsPendingOf f (Append e) h
+    in_batch : (f h : Option (List ℕ)) → (h ≡ None) ⊎ (h ≡ f) ⊎ (h ≡ Some b) → IsPendingOf f (batch added) h
     in_batch f h = subst (λ (x : List ℕ). (h ≡ None) ⊎ (h ≡ f) ⊎ (h ≡ Some x)) same
 
-    has_failed : (owing : Bool) (es : List Entry) (f : Option (List ℕ)) → Has g owing old s es f → (h : Option (List ℕ)) × IsPendingOf f (Append e) h × Has g owing new s es h
+    has_failed : (owing : Bool) (es : List Entry) (f : Option (List ℕ)) → Has g owing old s es f → (h : Option (List ℕ)) × IsPendingOf f (batch added) h × Has g owing new s es h
     has_failed false es f keeps = let h = failed s es f follows keeps in (h.0, in_batch f h.0 h.1, h.2)
     has_failed true es f (inl keeps) = let h = failed s es f follows keeps in (h.0, in_batch f h.0 h.1, inl h.2)
     has_failed true es f (inr owes) =
         let h = subst (λ (r : Result T E). OnErr r ((h : Option (List ℕ)) × ((h ≡ None) ⊎ (h ≡ f) ⊎ (h ≡ Some b)) × KeepsOrOwes g.Keeps g.Owes new s es h)) err (owed s es f follows owes).failed in
         (h.0, in_batch f h.0 h.1, h.2)
 
-    pub stores_failed : Rose (g.faults old) (g.faults new) → Stores g s true (Append e) old new
+    pub stores_failed : Rose (g.faults old) (g.faults new) → StoresAsked g s true (batch added) old new
     stores_failed rose = record {
       some = λ _. refl;
       spared = λ none. absurd (cc none);
@@ -160,7 +174,7 @@ module _
   has_either false es f keeps = inl keeps
   has_either true es f has = has
 
-  any_saved : (owing : Bool) (es : List Entry) (f : Option (List ℕ)) → Has g owing old s es f → (o : Opening) → g.opens_since new (g.moment old) o → GivesIn (g.generation old) s es f Save o ⊎ GivesOwed owing (g.generation old) s o
+  any_saved : (owing : Bool) (es : List Entry) (f : Option (List ℕ)) → Has g owing old s es f → (o : Opening) → g.opens_since new (g.moment old) o → GivesIn (g.generation old) s es f image o ⊎ GivesOwed owing (g.generation old) s o
   any_saved owing es f has o opens = inl ((kept es f (has_either owing es f has)).any_moment o opens)
 
   pub saves_done : (value : T) → result ≡ Ok value → Stores g s false Save old new

@@ -11,7 +11,7 @@ use Rattle.db_outside.specs.Device.{Rose}
 use Rattle.stmt_text.specs.declared.stmt.Stmt.{Stmt}
 use Rattle.stmt_text.specs.declared.stmt.Stmt.TheVariants.{Checkpoint}
 use Rattle.entry_codec.specs.declared.log.Log.{Ghosts}
-use Rattle.entry_codec.specs.Spelling.{spelling}
+use Rattle.entry_codec.specs.Spelling.{spellings}
 use Rattle.entry_codec.specs.Laws.{IsNamed}
 use Rattle.entry_codec.specs.Logs.{Opening, MayGive, GivesOneOf, GivesImage, IsNoLater, AddsOnly, KeepsOrOwes, next_generation, entries_after}
 use Rattle.store_tx.specs.declared.stored.LogCall.{LogCall}
@@ -34,17 +34,37 @@ abbrev pub call_of : Stmt → Option Entry → LogCall
 call_of x (Some e) = Append e
 call_of x None = cond (is_checkpoint x) Save Nothing
 
--- whether the log is called
-abbrev pub is_call : LogCall → Bool
-is_call Nothing = false
-is_call (Append e) = true
-is_call Save = true
+-- What is asked of a log: nothing, or to store entries as one batch, or to write an image of the state.
+pub data Asked : Type 0 where
+  nothing : Asked
+  batch : List Entry → Asked
+  image : Asked
+
+-- what a call asks: an entry is a batch of its own
+abbrev pub asked : LogCall → Asked
+asked Nothing = nothing
+asked (Append e) = batch (e ∷ [])
+asked Save = image
+
+-- whether something is asked
+abbrev pub is_asked : Asked → Bool
+is_asked nothing = false
+is_asked (batch es) = true
+is_asked image = true
 
 -- whether an image is asked for
+abbrev pub is_image : Asked → Bool
+is_image nothing = false
+is_image (batch es) = false
+is_image image = true
+
+-- whether the log is called
+abbrev pub is_call : LogCall → Bool
+is_call call = is_asked (asked call)
+
+-- whether a call asks for an image
 abbrev pub is_save : LogCall → Bool
-is_save Nothing = false
-is_save (Append e) = false
-is_save Save = true
+is_save call = is_image (asked call)
 
 -- the entry that is to be stored
 abbrev pub entry_called : LogCall → Option Entry
@@ -79,56 +99,65 @@ abbrev pub Has : {L S V P Q : Type 0} → Ghosts L S V P Q → (owing : Bool) �
 Has g false log s es f = g.Keeps log s es f
 Has g true log s es f = KeepsOrOwes g.Keeps g.Owes log s es f
 
--- whether it may owe an image after a call
-abbrev pub owing_after : (failed : Bool) → LogCall → Bool → Bool
-owing_after failed Nothing owing = owing
-owing_after true (Append e) owing = owing
-owing_after false (Append e) owing = false
-owing_after failed Save owing = failed
+-- the state after entries, one after another
+abbrev pub all_grown : State → List Entry → State
+all_grown s [] = s
+all_grown s (e ∷ es) = all_grown (grow s e) es
 
--- its generation after a call
-abbrev pub generation_after : (failed : Bool) → LogCall → ℕ → ℕ
-generation_after failed Nothing n = n
-generation_after failed (Append e) n = n
-generation_after true Save n = n
-generation_after false Save n = next_generation n
+-- whether it may owe an image after this was asked
+abbrev pub owing_after : (failed : Bool) → Asked → Bool → Bool
+owing_after failed nothing owing = owing
+owing_after true (batch es) owing = owing
+owing_after false (batch es) owing = false
+owing_after failed image owing = failed
 
--- what opening may give while it is called: what was there, or that and the pending batch, or that and the entry, or the image
-abbrev pub GivesIn : ℕ → State → List Entry → Option (List ℕ) → LogCall → Opening → Type 0
-GivesIn n s es f Nothing o = MayGive n s es f o
-GivesIn n s es f (Append e) o = GivesOneOf n s es f (spelling e) o
-GivesIn n s es f Save o = MayGive n s es f o ⊎ GivesImage n s o
+-- its generation then
+abbrev pub generation_after : (failed : Bool) → Asked → ℕ → ℕ
+generation_after failed nothing n = n
+generation_after failed (batch es) n = n
+generation_after true image n = n
+generation_after false image n = next_generation n
+
+-- what opening may give while this is asked: what was there, or that and the pending batch, or that and the new one, or the image
+abbrev pub GivesIn : ℕ → State → List Entry → Option (List ℕ) → Asked → Opening → Type 0
+GivesIn n s es f nothing o = MayGive n s es f o
+GivesIn n s es f (batch new) o = GivesOneOf n s es f (spellings new) o
+GivesIn n s es f image o = MayGive n s es f o ⊎ GivesImage n s o
 
 -- an image that it may owe is given
 abbrev pub GivesOwed : (owing : Bool) → ℕ → State → Opening → Type 0
 GivesOwed false n s o = ⊥
 GivesOwed true n s o = GivesImage n s o
 
--- what the log has after a call that did what was asked for
-abbrev pub HasDone : {L S V P Q : Type 0} → Ghosts L S V P Q → (owing : Bool) → L → ℕ → State → List Entry → Option (List ℕ) → LogCall → Type 0
-HasDone g owing log n s es f Nothing = Has g owing log s es f
-HasDone g owing log n s es f (Append e) = g.Keeps log (grow s e) (es ++ e ∷ []) None
-HasDone g owing log n s es f Save = g.Keeps log s (entries_after n es) None
+-- what the log has where it did what was asked
+abbrev pub HasDone : {L S V P Q : Type 0} → Ghosts L S V P Q → (owing : Bool) → L → ℕ → State → List Entry → Option (List ℕ) → Asked → Type 0
+HasDone g owing log n s es f nothing = Has g owing log s es f
+HasDone g owing log n s es f (batch new) = g.Keeps log (all_grown s new) (es ++ new) None
+HasDone g owing log n s es f image = g.Keeps log s (entries_after n es) None
 
--- nothing is pending, or what was, or the entry whose batch failed
-abbrev pub IsPendingOf : Option (List ℕ) → LogCall → Option (List ℕ) → Type 0
-IsPendingOf f (Append e) h = (h ≡ None) ⊎ (h ≡ f) ⊎ (h ≡ Some (spelling e))
-IsPendingOf f call h = (h ≡ None) ⊎ (h ≡ f)
+-- nothing is pending, or what was, or the batch that failed
+abbrev pub IsPendingOf : Option (List ℕ) → Asked → Option (List ℕ) → Type 0
+IsPendingOf f (batch new) h = (h ≡ None) ⊎ (h ≡ f) ⊎ (h ≡ Some (spellings new))
+IsPendingOf f ask h = (h ≡ None) ⊎ (h ≡ f)
 
--- what the log has after a call, which may have failed: then a crash may show the entry, or what it might have shown before, or neither; or the image
-abbrev pub HasAfter : {L S V P Q : Type 0} → Ghosts L S V P Q → (owing failed : Bool) → L → ℕ → State → List Entry → Option (List ℕ) → LogCall → Type 0
-HasAfter g owing false log n s es f call = HasDone g owing log n s es f call
-HasAfter g owing true log n s es f call = (h : Option (List ℕ)) × IsPendingOf f call h × Has g (owing_after true call owing) log s es h
+-- what the log has then, where it may have failed: a crash may show the batch, or what it might have shown before, or neither; or the image
+abbrev pub HasAfter : {L S V P Q : Type 0} → Ghosts L S V P Q → (owing failed : Bool) → L → ℕ → State → List Entry → Option (List ℕ) → Asked → Type 0
+HasAfter g owing false log n s es f ask = HasDone g owing log n s es f ask
+HasAfter g owing true log n s es f ask = (h : Option (List ℕ)) × IsPendingOf f ask h × Has g (owing_after true ask owing) log s es h
 
--- What a log does for a line that asks for this on this state: it fails at most where something is asked for, and only if its count rose. What a crash at any moment of the call
--- leaves is told, and so is what the log has then. It isn't called where nothing is asked for. Only a checkpoint isn't quiet.
-pub record Stores {L S V P Q : Type 0} (g : Ghosts L S V P Q) (s : State) (failed : Bool) (call : LogCall) (old new : L) : Type 0 where
-  pub some : failed ≡ true → is_call call ≡ true
-  pub spared : call ≡ Nothing → new ≡ old
+-- What a log does that is asked for this on this state: it fails at most where something is asked for, and only if its count rose. What a crash at any moment of it leaves is told, and
+-- so is what the log has then. It isn't called where nothing is asked for. Only an image isn't quiet.
+pub record StoresAsked {L S V P Q : Type 0} (g : Ghosts L S V P Q) (s : State) (failed : Bool) (ask : Asked) (old new : L) : Type 0 where
+  pub some : failed ≡ true → is_asked ask ≡ true
+  pub spared : ask ≡ nothing → new ≡ old
   pub cause : failed ≡ true → Rose (g.faults old) (g.faults new)
-  pub any_moment : (owing : Bool) (es : List Entry) (f : Option (List ℕ)) → Has g owing old s es f → (o : Opening) → g.opens_since new (g.moment old) o → GivesIn (g.generation old) s es f call o ⊎ GivesOwed owing (g.generation old) s o
-  pub quiet : is_save call ≡ false → (es : List Entry) (f : Option (List ℕ)) → g.Keeps old s es f → AddsOnly g.moment g.Quiet g.opens_since old new (GivesIn (g.generation old) s es f call)
-  pub has : (owing : Bool) (es : List Entry) (f : Option (List ℕ)) → Has g owing old s es f → HasAfter g owing failed new (g.generation old) s es f call
-  pub generation : g.generation new ≡ generation_after failed call (g.generation old)
+  pub any_moment : (owing : Bool) (es : List Entry) (f : Option (List ℕ)) → Has g owing old s es f → (o : Opening) → g.opens_since new (g.moment old) o → GivesIn (g.generation old) s es f ask o ⊎ GivesOwed owing (g.generation old) s o
+  pub quiet : is_image ask ≡ false → (es : List Entry) (f : Option (List ℕ)) → g.Keeps old s es f → AddsOnly g.moment g.Quiet g.opens_since old new (GivesIn (g.generation old) s es f ask)
+  pub has : (owing : Bool) (es : List Entry) (f : Option (List ℕ)) → Has g owing old s es f → HasAfter g owing failed new (g.generation old) s es f ask
+  pub generation : g.generation new ≡ generation_after failed ask (g.generation old)
   pub time : IsNoLater (g.moment old) (g.moment new)
   pub later : g.faults old ≤ g.faults new
+
+-- what a log does for a line that asks for this
+abbrev pub Stores : {L S V P Q : Type 0} → Ghosts L S V P Q → (s : State) → (failed : Bool) → (call : LogCall) → (old new : L) → Type 0
+Stores g s failed call old new = StoresAsked g s failed (asked call) old new
