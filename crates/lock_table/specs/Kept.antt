@@ -1,7 +1,8 @@
 -- How the table keeps its rows: for each lock the sessions that have it.
-use Rattle.std.specs.Prelude.{◌≡◌, ℕ, ◌+◌, ◌≤◌, ◌==◌, suc, cond, not, ◌&&◌, ◌||◌, Bool, false, List, [], ◌∷◌, ◌++◌, map, filter, length, All}
+use Rattle.std.specs.Prelude.{◌≡◌, ℕ, ◌+◌, ◌/◌, ◌<◌, ◌≤◌, ◌==◌, suc, cond, not, ◌&&◌, ◌||◌, Bool, true, false, List, [], ◌∷◌, ◌++◌, map, filter, length, get_or, All}
 use Rattle.lock_table.specs.declared.lock.Grant.{Grant}
 use Rattle.lock_table.specs.declared.need.TheConstants.{LOCKS}
+use Rattle.lock_table.specs.declared.blocks.TheConstants.{BLOCK, BLOCKS}
 use Rattle.lock_table.specs.Rows.{Row}
 use Rattle.lock_table.specs.Grants.{Has, equal_bits}
 
@@ -54,6 +55,12 @@ pub record HasRoom (admitted : List ℕ) (k : LockGrants) : Type 0 where
   pub differ : AllDiffer k.grants
   pub sessions : (g : Grant) → Has k.grants g → Has admitted g.session
   pub room : length admitted + length admitted ≤ k.room
+
+-- each block of locks is marked, unless none of them has a grant
+pub record IsMarked (busy : List Bool) (locks : List LockGrants) : Type 0 where
+  pub count : length locks ≡ LOCKS
+  pub blocks : length busy ≡ BLOCKS
+  pub idle : (i : ℕ) (d : LockGrants) → i < LOCKS → get_or busy (i / BLOCK) true ≡ false → (get_or locks i d).grants ≡ []
 
 -- what holds of the parts of a table: each lock is there, and has room
 pub record IsKept (admitted : List ℕ) (locks : List LockGrants) : Type 0 where

@@ -13,9 +13,11 @@
 //! | `specs/Kept.antt` | how the rows are kept, by lock |
 //! | `src/need.rt` | a need, and a list of them |
 //! | `src/locks.rt` | the table |
+//! | `src/blocks.rt` | all locks, in blocks |
 //! | `src/lock.rt` | the rows of one lock |
 #![tactic(auto)]
 
+mod blocks;
 mod laws;
 mod lock;
 mod locks;

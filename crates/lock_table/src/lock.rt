@@ -1,5 +1,5 @@
 //! The rows of one lock.
-ghost use Rattle.std.specs.Prelude.{◌≡◌, ◌≤◌, ◌<◌, false, [], ◌∷◌, map, length, OnOk};
+ghost use Rattle.std.specs.Prelude.{◌≡◌, ◌≤◌, ◌<◌, true, false, [], ◌∷◌, map, length, OnOk};
 ghost use Rattle.lock_table.specs.Rows.{lesser, holder};
 ghost use Rattle.lock_table.specs.Kept.{row_of, same_grant, has_grant, with_grant, without_grants};
 
@@ -64,6 +64,13 @@ impl Lock {
         if !is_granted(self.grants.as_slice(), grant) {
             self.grants.push_reserved(grant);
         }
+    }
+
+    /// Has it no grant?
+    pub fn is_free(&self) -> bool
+        ensures { result ≡ true → self.now.grants ≡ [] }
+    {
+        self.grants.is_empty()
     }
 
     /// Takes all grants of a session back.

@@ -6,7 +6,8 @@ ghost use Rattle.lock_table.specs.Answer.{answer_of};
 ghost use Rattle.lock_table.specs.Kept.{Grows, without_grants};
 ghost use Rattle.std.specs.List.{AllZip};
 
-use crate::lock::{Grant, Lock, lesser};
+use crate::blocks::Blocks;
+use crate::lock::{Grant, lesser};
 use crate::need::{LOCKS, Need, Needs};
 use std::alloc::{AllocError, Global};
 use std::marker::Model;
@@ -24,7 +25,7 @@ pub enum Ask {
 /// keeps the rows by lock, so a request looks at those of its own locks alone.
 #[derive(Debug, Drop)]
 pub struct Locks {
-    locks: Vec<Lock>,
+    locks: Blocks,
     admitted: Vec<u32>,
 }
 
@@ -34,9 +35,9 @@ impl Model for Locks {
 
     ghost Value = { Table };
 
-    ghost view = { λ t. record { rows = rows_from 0 t.locks.items; admitted = t.admitted.items } };
+    ghost view = { λ t. record { rows = rows_from 0 t.locks; admitted = t.admitted.items } };
 
-    ghost invariant = { λ t. IsKept t.admitted.items t.locks.items };
+    ghost invariant = { λ t. IsKept t.admitted.items t.locks };
 }
 
 impl Locks {
@@ -45,12 +46,8 @@ impl Locks {
         ensures rows { IfOk result (λ t. t.rows ≡ []) }
         ensures admitted { IfOk result (λ t. t.admitted ≡ []) }
     {
-        let mut locks = Vec::with_capacity(alloc, LOCKS as usize)?;
-        for _ in 0..LOCKS {
-            locks.push(Lock::new(alloc))?;
-        }
         Ok(Locks {
-            locks,
+            locks: Blocks::new(alloc)?,
             admitted: Vec::new(alloc),
         })
     }
@@ -69,7 +66,7 @@ impl Locks {
         }
         let sessions = self.admitted.len() + 1;
         let room = sessions.checked_mul(2).ok_or(AllocError)?;
-        reserve_all(&mut self.locks, room)?;
+        self.locks.reserve(room)?;
         self.admitted.push(session)?;
         Ok(())
     }
@@ -99,7 +96,7 @@ impl Locks {
     pub fn release(&mut self, session: u32)
         ensures { self.new ≡ record self.old { rows = without session self.old.rows } }
     {
-        release_all(&mut self.locks, session);
+        self.locks.release(session);
     }
 
     /// The least lock and its least session by which a request would be held; none where it would be
@@ -108,9 +105,10 @@ impl Locks {
         requires { All (λ n. n.lock < LOCKS) needs.now }
         ensures { result ≡ holder session needs.now self.now.rows }
     {
+        let locks = self.locks.as_slice();
         let mut least: Option<(u32, u32)> = None;
         for need in needs {
-            if let Some(found) = self.locks[need.lock as usize].holder(session, *need) {
+            if let Some(found) = locks[need.lock as usize].holder(session, *need) {
                 least = Some(lesser(found, least));
             }
         }
@@ -123,24 +121,6 @@ impl Locks {
         ensures { self.new ≡ record self.old { rows = granted session need self.old.rows } }
     {
         let exclusive = need.exclusive;
-        self.locks[need.lock as usize].grant(Grant { session, exclusive });
-    }
-}
-
-fn reserve_all(locks: &mut [Lock], room: usize) -> Result<(), AllocError>
-    ensures grows { AllZip Grows locks.old locks.new }
-    ensures room { OnOk result (All (λ k. room ≤ k.room) locks.new) }
-{
-    for lock in locks {
-        lock.reserve(room)?;
-    }
-    Ok(())
-}
-
-fn release_all(locks: &mut [Lock], session: u32)
-    ensures { locks.new ≡ map (without_grants session) locks.old }
-{
-    for lock in locks {
-        lock.release(session);
+        self.locks.grant(need.lock, Grant { session, exclusive });
     }
 }

@@ -1,14 +1,11 @@
 use Rattle.std.proofs.Common.{◌≡◌, ℕ, ◌==◌, ◌+◌, ◌^◌, ◌<◌, Option, arith, ◌*◌, ◌≤◌, true, false, List, [], ◌∷◌, ◌++◌, length, ap, ◌∙◌, sym, subst}
-use Rattle.std.specs.List.{AllZip, All, list_any}
+use Rattle.std.specs.List.{All, list_any}
 use Rattle.std.specs.Option.{SomeIff}
-use Rattle.std.specs.Vec.{with_items}
-use Rattle.std.proofs.lemmas.List.{with_items_is}
-use Rattle.std.proofs.lemmas.List.Elements.{length_all_zip}
 use Rattle.std.proofs.lemmas.Bool.{cond-true, cond-false}
 use Rattle.std.proofs.lemmas.Result.{err_from_is_err_and}
 use Rattle.lock_table.specs.Rows.{Table}
 use Rattle.lock_table.specs.Grants.{Has, joined}
-use Rattle.lock_table.specs.Kept.{LockGrants, Grows, IsKept, rows_from}
+use Rattle.lock_table.specs.Kept.{LockGrants}
 use Rattle.lock_table.proofs.Kept.{grown_rows}
 use Rattle.lock_table.proofs.Rooms.{joined_new, joined_old, kept_grown, kept_joined}
 use Rattle.lock_table.proofs.locks.Locks.admit.Goals as goal
@@ -24,37 +21,29 @@ returns-then-contains-clause-admitted c =
 pub invariant_of-self : goal.invariant_of-self
 invariant_of-self c =
     let old = c.self.inside.locks in
-    let new = c.reserve_all.new.locks in
-    let grows : AllZip Grows old.items new = subst (λ (ks : List LockGrants). AllZip Grows ks new) c.deref_mut.ensures.value c.reserve_all.ensures.grows in
-    let same : (with_items old new).items ≡ new = with_items_is old new (sym (old.ok.0 ∙ length_all_zip Grows old.items new grows)) in
-    subst (IsKept c.self.inside.admitted.items) (sym same) (kept_grown c.self.inside.admitted.items old.items new c.self.invariant grows)
+    let new = c.reserve.new.self in
+    kept_grown c.self.inside.admitted.items old new c.self.invariant c.reserve.ensures.grows
 
-pub returns-in_err-reserve_all-clause-err : goal.returns-in_err-reserve_all-clause-err
-returns-in_err-reserve_all-clause-err c =
+pub returns-in_err-reserve-clause-err : goal.returns-in_err-reserve-clause-err
+returns-in_err-reserve-clause-err c =
     let old = c.self.inside.locks in
-    let new = c.reserve_all.new.locks in
-    let grows : AllZip Grows old.items new = subst (λ (ks : List LockGrants). AllZip Grows ks new) c.deref_mut.ensures.value c.reserve_all.ensures.grows in
-    let same : (with_items old new).items ≡ new = with_items_is old new (sym (old.ok.0 ∙ length_all_zip Grows old.items new grows)) in
-    let rows = ap (rows_from 0) same ∙ grown_rows 0 old.items new grows in
-    let p = err_from_is_err_and c.from_residual-in_err-reserve_all.result c.from_residual-in_err-reserve_all.ensures.1 in
+    let new = c.reserve.new.self in
+    let rows = grown_rows 0 old new c.reserve.ensures.grows in
+    let p = err_from_is_err_and c.from_residual-in_err-reserve.result c.from_residual-in_err-reserve.ensures.1 in
     rw (p.1, ← c.self.view_is) (λ i. record { rows = rows i; admitted = c.self.inside.admitted.items })
 
 pub invariant_of-self-in_err-push : goal.invariant_of-self-in_err-push
 invariant_of-self-in_err-push c =
     let old = c.self.inside.locks in
-    let new = c.reserve_all.new.locks in
-    let grows : AllZip Grows old.items new = subst (λ (ks : List LockGrants). AllZip Grows ks new) c.deref_mut.ensures.value c.reserve_all.ensures.grows in
-    let same : (with_items old new).items ≡ new = with_items_is old new (sym (old.ok.0 ∙ length_all_zip Grows old.items new grows)) in
+    let new = c.reserve.new.self in
     let items = c.in_err-push.ensures.items in
-    rw (items, same) (kept_grown c.self.inside.admitted.items old.items new c.self.invariant grows)
+    rw items (kept_grown c.self.inside.admitted.items old new c.self.invariant c.reserve.ensures.grows)
 
 pub returns-in_err-push-clause-err : goal.returns-in_err-push-clause-err
 returns-in_err-push-clause-err c =
     let old = c.self.inside.locks in
-    let new = c.reserve_all.new.locks in
-    let grows : AllZip Grows old.items new = subst (λ (ks : List LockGrants). AllZip Grows ks new) c.deref_mut.ensures.value c.reserve_all.ensures.grows in
-    let same : (with_items old new).items ≡ new = with_items_is old new (sym (old.ok.0 ∙ length_all_zip Grows old.items new grows)) in
-    let rows = ap (rows_from 0) same ∙ grown_rows 0 old.items new grows in
+    let new = c.reserve.new.self in
+    let rows = grown_rows 0 old new c.reserve.ensures.grows in
     let items = c.in_err-push.ensures.items in
     let p = err_from_is_err_and c.from_residual-in_err-push.result c.from_residual-in_err-push.ensures.1 in
     rw (p.1, ← c.self.view_is) (λ i. record { rows = rows i; admitted = items i })
@@ -62,23 +51,19 @@ returns-in_err-push-clause-err c =
 pub invariant_of-self-2 : goal.invariant_of-self-2
 invariant_of-self-2 c =
     let old = c.self.inside.locks in
-    let new = c.reserve_all.new.locks in
-    let grows : AllZip Grows old.items new = subst (λ (ks : List LockGrants). AllZip Grows ks new) c.deref_mut.ensures.value c.reserve_all.ensures.grows in
-    let same : (with_items old new).items ≡ new = with_items_is old new (sym (old.ok.0 ∙ length_all_zip Grows old.items new grows)) in
+    let new = c.reserve.new.self in
     let items = c.in_ok-push.ensures.items in
     let twice = (c.len-sessions.result + 1) * 2 in
     let room = subst (λ (o : Option ℕ). SomeIff o (twice < 2 ^ 64) twice) c.in_ok-room.ensures.ok_part c.checked_mul.ensures in
     let wide : All (λ (k : LockGrants). (length c.self.inside.admitted.items + 1) * 2 ≤ k.room) new =
-    λ k d lt. let le = c.in_ok-reserve_all.ensures.room k d lt in let is = room.1 in let n = c.len-sessions.ensures in let len = c.self.inside.admitted.ok.0 in omega (arith, le, is, n, len) in
-    rw (items, same) (kept_joined c.self.inside.admitted.items c.args.session old.items new c.self.invariant grows wide)
+    λ k d lt. let le = c.in_ok-reserve.ensures.room k d lt in let is = room.1 in let n = c.len-sessions.ensures in let len = c.self.inside.admitted.ok.0 in omega (arith, le, is, n, len) in
+    rw items (kept_joined c.self.inside.admitted.items c.args.session old new c.self.invariant c.reserve.ensures.grows wide)
 
 pub returns-clause-ok : goal.returns-clause-ok
 returns-clause-ok c =
     let old = c.self.inside.locks in
-    let new = c.reserve_all.new.locks in
-    let grows : AllZip Grows old.items new = subst (λ (ks : List LockGrants). AllZip Grows ks new) c.deref_mut.ensures.value c.reserve_all.ensures.grows in
-    let same : (with_items old new).items ≡ new = with_items_is old new (sym (old.ok.0 ∙ length_all_zip Grows old.items new grows)) in
-    let rows = ap (rows_from 0) same ∙ grown_rows 0 old.items new grows in
+    let new = c.reserve.new.self in
+    let rows = grown_rows 0 old new c.reserve.ensures.grows in
     let sessions = c.self.inside.admitted.items in
     let s = c.args.session in
     let none : list_any (λ x. x == s) sessions ≡ false = ap (list_any (λ x. x == s)) (sym c.deref.ensures.value) ∙ sym c.contains.ensures.value ∙ c.if-contains.false in

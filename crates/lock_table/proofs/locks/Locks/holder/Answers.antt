@@ -8,7 +8,7 @@ use Rattle.lock_table.proofs.Least.{IsLeast, Blocking, least_none, least_more, l
 use Rattle.lock_table.proofs.locks.Locks.holder.Goals as goal
 
 pub loop-need-init : goal.loop-need-init
-loop-need-init c = least_none c.args.session (rows_from 0 c.self.inside.locks.items)
+loop-need-init c = least_none c.args.session (rows_from 0 c.as_slice-locks.result.now)
 
 pub loop-need-preserved : goal.loop-need-preserved
 loop-need-preserved c =
@@ -16,11 +16,11 @@ loop-need-preserved c =
     let needs = c.args.needs.now in
     let i = c.loop-need.need-index in
     let n = get_or needs i none in
-    let locks = c.self.inside.locks.items in
+    let locks = c.as_slice-locks.result.now in
     let rows = rows_from 0 locks in
     let s = c.args.session in
-    let within : n.lock < length locks = let count = c.self.invariant.count in let h = c.requires i none c.loop-need-test.true in omega (arith, count, h) in
-    let here : c.holder.result ≡ holder s (n ∷ []) rows = c.holder.ensures ∙ ap (λ (k : LockGrants). holder s (n ∷ []) (map (row_of n.lock) k.grants)) c.index.ensures ∙ holder_part s n locks c.index.result.now within in
+    let within : n.lock < length locks = let count : length locks ≡ 1025 = ap length c.as_slice-locks.ensures ∙ c.self.invariant.count in let h = c.requires i none c.loop-need-test.true in omega (arith, count, h) in
+    let here : c.holder.result ≡ holder s (n ∷ []) rows = c.holder.ensures ∙ ap (λ (k : LockGrants). holder s (n ∷ []) (map (row_of n.lock) k.grants)) c.index-locks-need.is ∙ holder_part s n locks c.index-locks-need.result within in
     let more : (u : Option (ℕ × ℕ)) → IsLeast (Blocking s (take i needs ++ n ∷ []) rows) u → IsLeast (Blocking s (take (i + 1) needs) rows) u =
     λ u h. subst (λ (ns : List Need). IsLeast (Blocking s ns rows) u) (sym (take_more needs i none c.loop-need-test.true)) h in
     elim c.match-holder.branch [
@@ -33,8 +33,9 @@ loop-need-preserved c =
 
 pub returns : goal.returns
 returns c =
-    let rows = rows_from 0 c.self.inside.locks.items in
+    let rows = rows_from 0 c.as_slice-locks.result.now in
     let whole : IsLeast (Blocking c.args.session c.args.needs.now rows) c.loop-need.least =
     subst (λ (ns : List Need). IsLeast (Blocking c.args.session ns rows) c.loop-need.least) (take_all c.loop-need.need-index c.args.needs.now c.loop-need-test.false) c.loop-need.invariant in
     same_least (Blocking c.args.session c.args.needs.now rows) (Blocking c.args.session c.args.needs.now rows) (λ q k. k) (λ q k. k) c.loop-need.least (holder c.args.session c.args.needs.now rows) whole (holder_least c.args.session c.args.needs.now rows)
+    ∙ ap (λ (ks : List LockGrants). holder c.args.session c.args.needs.now (rows_from 0 ks)) c.as_slice-locks.ensures
     ∙ ap (λ (t : Table). holder c.args.session c.args.needs.now t.rows) c.self.view_is

@@ -4,4 +4,4 @@ use Rattle.lock_table.proofs.Least.{IsLeast, Blocking}
 use Rattle.lock_table.proofs.locks.Locks.holder.Given as goal
 
 abbrev pub invariant-loop-need : goal.invariant-loop-need
-invariant-loop-need l = IsLeast (Blocking l.session (take l.need-index l.needs) (rows_from 0 l.self-inside.locks.items)) l.least
+invariant-loop-need l = IsLeast (Blocking l.session (take l.need-index l.needs) (rows_from 0 l.locks)) l.least

@@ -3,7 +3,7 @@ use Rattle.std.proofs.lemmas.List.{take_more_set, take_all}
 use Rattle.std.proofs.lemmas.List.Elements.{All-push, All-same}
 use Rattle.lock_table.specs.Kept.{LockGrants}
 use Rattle.lock_table.proofs.Rooms.{zip_same, zip_set}
-use Rattle.lock_table.proofs.locks.reserve_all.Goals as goal
+use Rattle.lock_table.proofs.blocks.reserve_all.Goals as goal
 
 pub loop-lock-init : goal.loop-lock-init
 loop-lock-init c = (zip_same c.args.locks.now, λ k d lt. absurd (omega arith))
