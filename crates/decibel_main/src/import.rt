@@ -7,6 +7,7 @@ ghost use Rattle.decibel_main.specs.Ends.{IsRowsStatus, IsUntouched};
 ghost use Rattle.decibel_main.specs.Imports.{made_text, imported_text, stop_status, TellsMade, EndedBy, ImportsLog, Imports};
 
 use crate::check_text::put_number;
+use crate::memory::keep_large;
 use crate::script::status_of;
 use crate::status::{Finish, Status};
 use crate::told::tell;
@@ -144,6 +145,7 @@ pub fn import_files<K: Sink, D: Disk + Drop>(
     ensures causes { (result.status ≡ Status.DiskFault → RoseInOne D.Disk disks result.disks)
         × (result.status ≡ Status.WriteFault → Faulted K.faults sink.old sink.new) }
 {
+    keep_large(alloc);
     match reopen(alloc, disks) {
         Err((stop, disks)) => Finish {
             status: status_of(stop),

@@ -8,6 +8,7 @@ ghost use Rattle.script_run.specs.Output.{lines_run};
 ghost use Rattle.decibel_main.specs.Scripts.{open_status, RunsLog, Scripts};
 ghost use Rattle.decibel_main.specs.Ends.{IsOpenStatus, IsRanStatus, IsUntouched, IsEndOf};
 
+use crate::memory::keep_large;
 use crate::status::{Finish, Status};
 use db_core::Core;
 use db_outside::{Disk, Sink};
@@ -90,6 +91,7 @@ pub fn script_files<K: Sink, D: Disk + Drop>(
     ensures causes { (result.status ≡ Status.DiskFault → RoseInOne D.Disk disks result.disks)
         × (result.status ≡ Status.WriteFault → Faulted K.faults sink.old sink.new) }
 {
+    keep_large(alloc);
     match reopen(alloc, disks) {
         Err((stop, disks)) => Finish {
             status: status_of(stop),
