@@ -21,6 +21,7 @@ pub mod Frames
 pub mod Hearing
 pub mod Members
 pub mod Settling
+pub mod Appended
 pub mod Sessions
 pub mod Held
 pub mod Rooms

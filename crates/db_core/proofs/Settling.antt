@@ -19,10 +19,11 @@ module _ {St V P Q : Type 0} (Prepares : P → State → Entry → Type 0) where
   first_ready s k ks (e ∷ es) h = (e, h.0)
 
   -- of no members there are no entries
-  pub none_left : (failed : Bool) (s : State) (es : List Entry) → Ready s [] es → s ≡ grown_unless failed s es
-  none_left true s es h = refl
-  none_left false s [] h = refl
-  none_left false s (e ∷ es) h = absurd h
+  pub none_left : (failed : Bool) (s : State) (ks : List (Member St V P Q)) (es : List Entry) → ks ≡ [] → Ready s ks es → s ≡ grown_unless failed s es
+  none_left true s ks es none h = refl
+  none_left false s [] [] none h = refl
+  none_left false s [] (e ∷ es) none h = absurd h
+  none_left false s (k ∷ ks) es none h = absurd (cc none)
 
   module _ (lasts : (p : P) (s : State) (e f : Entry) → Prepares p s e → AreApart e f → Prepares p (grow s f) e) where
     all_last : (s : State) (f : Entry) (ks : List (Member St V P Q)) (es : List Entry) → AllApartFrom f es → Ready s ks es → Ready (grow s f) ks es

@@ -55,8 +55,7 @@ pub returns-clause-state : goal.returns-clause-state
 returns-clause-state g c = λ es h.
     let old = c.loop-member.invariant.ready es h in
     let rest = c.loop-member.member-iterator.rest in
-    none_left g.St.Store.Prepares c.args.failed (g.St.Store.state c.loop-member.store) old.0
-    (subst (λ ks. AreReady g.St.Store.Prepares (g.St.Store.state c.loop-member.store) ks old.0) (no_items rest.items rest.len rest.ok.0 c.in-None.ensures.steps.0) old.1) ∙ old.2
+    none_left g.St.Store.Prepares c.args.failed (g.St.Store.state c.loop-member.store) rest.items old.0 (no_items rest.items rest.len rest.ok.0 c.in-None.ensures.steps.0) old.1 ∙ old.2
   where
     no_items : {A : Type 0} (xs : List A) (n : ℕ) → n ≡ length xs → n ≡ 0 → xs ≡ []
     no_items [] n is none = refl
