@@ -17,7 +17,11 @@ pub mod Marked
 pub mod Nexts
 pub mod Grouping
 pub mod Storing
+pub mod Frames
 pub mod Hearing
+pub mod Members
+pub mod Settling
+pub mod Appended
 pub mod Sessions
 pub mod Held
 pub mod Rooms
