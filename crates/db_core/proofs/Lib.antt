@@ -33,3 +33,4 @@ pub mod Counting
 pub mod Desks
 pub mod OtherDesks
 pub mod LocalLines
+pub mod Spares
