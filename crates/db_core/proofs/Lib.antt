@@ -34,3 +34,4 @@ pub mod Desks
 pub mod OtherDesks
 pub mod LocalLines
 pub mod Spares
+pub mod Batches

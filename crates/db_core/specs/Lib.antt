@@ -14,3 +14,4 @@ pub mod Waiting
 pub mod Desk
 pub mod Sessions
 pub mod Local
+pub mod Settled
