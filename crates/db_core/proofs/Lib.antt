@@ -17,7 +17,11 @@ pub mod Marked
 pub mod Nexts
 pub mod Grouping
 pub mod Storing
+pub mod Frames
 pub mod Hearing
+pub mod Members
+pub mod Settling
+pub mod Appended
 pub mod Sessions
 pub mod Held
 pub mod Rooms
@@ -29,3 +33,5 @@ pub mod Counting
 pub mod Desks
 pub mod OtherDesks
 pub mod LocalLines
+pub mod Spares
+pub mod Batches

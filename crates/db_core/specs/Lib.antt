@@ -9,6 +9,9 @@ pub mod Heard
 pub mod Groups
 pub mod Accounts
 pub mod Runs
+pub mod Members
+pub mod Waiting
 pub mod Desk
 pub mod Sessions
 pub mod Local
+pub mod Settled
