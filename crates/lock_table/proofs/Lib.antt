@@ -2,3 +2,4 @@ pub mod Least
 pub mod Added
 pub mod Kept
 pub mod Rooms
+pub mod Holding
