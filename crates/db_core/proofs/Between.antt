@@ -96,23 +96,23 @@ pub none_of_both : (a b : Bool) → (a || b) ≡ false → (a ≡ false) × (b �
 none_of_both false b e = (refl, e)
 none_of_both true b e = absurd (true≢false e)
 
-pub must_hinders : (ns : List Need) (x : Stmt) (ms : List AtMember) → must_settle ns x ms ≡ false → is_hindered ns ms ≡ false
-must_hinders ns x [] e = refl
-must_hinders ns x (m ∷ more) e = (none_of_both (is_alone x) (is_hindered ns (m ∷ more)) e).1
+pub must_hinders : (rows : List Row) (ns : List Need) (x : Stmt) (ms : List AtMember) → must_settle rows ns x ms ≡ false → is_hindered rows ns ms ≡ false
+must_hinders rows ns x [] e = refl
+must_hinders rows ns x (m ∷ more) e = (none_of_both (is_alone x) (is_hindered rows ns (m ∷ more)) e).1
 
-pub settles_must : (b : Kept) (k : AtDesk) (text : List ℕ) (x : Stmt) (q : AtQueue) (ms : List AtMember) → must_settle (needs_for b k x) x ms ≡ true → settles_first b k text x q ms ≡ true
+pub settles_must : (b : Kept) (k : AtDesk) (text : List ℕ) (x : Stmt) (q : AtQueue) (ms : List AtMember) → must_settle b.rows (needs_for b k x) x ms ≡ true → settles_first b k text x q ms ≡ true
 settles_must b k text x q [] e = e
-settles_must b k text x q (m ∷ more) e = or_left (must_settle (needs_for b k x) x (m ∷ more)) (overflows q.waiting (entry_called (call_now (entered b k) text))) e
+settles_must b k text x q (m ∷ more) e = or_left (must_settle b.rows (needs_for b k x) x (m ∷ more)) (overflows q.waiting (entry_called (call_now (entered b k) text))) e
 
 pub settles_full : (b : Kept) (k : AtDesk) (text : List ℕ) (x : Stmt) (q : AtQueue) (ms : List AtMember) → (ms ≡ [] → ⊥) → overflows q.waiting (entry_called (call_now (entered b k) text)) ≡ true → settles_first b k text x q ms ≡ true
 settles_full b k text x q [] some e = absurd (some refl)
-settles_full b k text x q (m ∷ more) some e = or_right (must_settle (needs_for b k x) x (m ∷ more)) (overflows q.waiting (entry_called (call_now (entered b k) text))) e
+settles_full b k text x q (m ∷ more) some e = or_right (must_settle b.rows (needs_for b k x) x (m ∷ more)) (overflows q.waiting (entry_called (call_now (entered b k) text))) e
 
-pub settles_not : (b : Kept) (k : AtDesk) (text : List ℕ) (x : Stmt) (q : AtQueue) (ms : List AtMember) → must_settle (needs_for b k x) x ms ≡ false → (is_alone x ≡ false → overflows q.waiting (entry_called (call_now (entered b k) text)) ≡ false)
+pub settles_not : (b : Kept) (k : AtDesk) (text : List ℕ) (x : Stmt) (q : AtQueue) (ms : List AtMember) → must_settle b.rows (needs_for b k x) x ms ≡ false → (is_alone x ≡ false → overflows q.waiting (entry_called (call_now (entered b k) text)) ≡ false)
     → settles_first b k text x q ms ≡ false
 settles_not b k text x q [] e fits = refl
 settles_not b k text x q (m ∷ more) e fits =
-    ap (λ (a : Bool). a || overflows q.waiting (entry_called (call_now (entered b k) text))) e ∙ fits (none_of_both (is_alone x) (is_hindered (needs_for b k x) (m ∷ more)) e).0
+    ap (λ (a : Bool). a || overflows q.waiting (entry_called (call_now (entered b k) text))) e ∙ fits (none_of_both (is_alone x) (is_hindered b.rows (needs_for b k x) (m ∷ more)) e).0
 
 -- ---- a line on a board and desk that agree
 
@@ -136,13 +136,13 @@ module _ (b : Kept) (k : AtDesk) (a : Agrees b k) (text : List ℕ) (x : Stmt) (
   none_stored goes alone none = ap entry_called call_text ∙ none_asked w b.now b.rows s k.current k.skipping k.open_tx x (roomy_line text s x line) seated goes alone none
 
   -- it joins
-  pub may_join : (told : Reply) (ns : List Need) (e : Entry) (ms : List AtMember) → IsCommitOf (call_with w s (Some x)) (said_now w s x) (Some (e, told)) → ns ≡ needs_for b k x → must_settle ns x ms ≡ false → HasNone s ms → MayJoin (entered b k) s text ns e told ms
+  pub may_join : (told : Reply) (ns : List Need) (e : Entry) (ms : List AtMember) → IsCommitOf (call_with w s (Some x)) (said_now w s x) (Some (e, told)) → ns ≡ needs_for b k x → must_settle b.rows ns x ms ≡ false → HasNone s ms → MayJoin (entered b k) s text ns e told ms
   may_join told ns e ms c nsq must none = record {
     stands = a.entered_stands;
     waits = subst (λ (p : Reply × List Need). WaitsIn w (record { session = s; line = text; reply = p.0; needs = p.1 })) (λ i. (sym c.2 i, (needs_are ∙ sym nsq) i))
         (waits_now w s x text line (asks_of (call_with w s (Some x)) e c.0 c.1));
     asked = call_text ∙ c.0;
-    others = two_of (record { session = s; line = text; reply = told; needs = ns }) ms (must_hinders ns x ms must) none;
+    others = two_of b.rows (record { session = s; line = text; reply = told; needs = ns }) ms (must_hinders b.rows ns x ms must) none;
   }
 
   stays_none : (failed : Bool) (t : State) → grown t (stored_if failed None) ≡ t
@@ -151,12 +151,12 @@ module _ (b : Kept) (k : AtDesk) (a : Agrees b k) (text : List ℕ) (x : Stmt) (
 
   module _ {St V P Q : Type 0} (Prepares : P → State → Entry → Type 0) where
     -- it is answered
-    pub offered_answered : (r r2 : ℕ) (c : Kept) (q : AtQueue) (ks : List (Member St V P Q)) (failed : Bool) (reply : Reply) → k.skipping ≡ false → must_settle (needs_for b k x) x (members_of ks) ≡ false → HasNone s (members_of ks)
+    pub offered_answered : (r r2 : ℕ) (c : Kept) (q : AtQueue) (ks : List (Member St V P Q)) (failed : Bool) (reply : Reply) → k.skipping ≡ false → must_settle b.rows (needs_for b k x) x (members_of ks) ≡ false → HasNone s (members_of ks)
         → (AsksCommit (call_with w s (Some x)) → ⊥) → IsAnswered (entered b k) c text failed reply → Stands c → (is_alone x ≡ false → r2 ≡ r) → AreOffered Prepares r b q ks → AreOffered Prepares r2 c q ks
     offered_answered r r2 c q [] failed reply goes must none asks answered stands ready o = offered_none Prepares r r2 b c q o
     offered_answered r r2 c q (j ∷ more) failed reply goes must none asks answered stands ready o =
         let ms : List AtMember = members_of (j ∷ more) in
-        let two = none_of_both (is_alone x) (is_hindered (needs_for b k x) ms) must in
+        let two = none_of_both (is_alone x) (is_hindered b.rows (needs_for b k x) ms) must in
         let same : r2 ≡ r = ready two.0 in
         let y : Said = said_of text failed in
         let said : y ≡ marked s x failed = said_marked text s x failed line in
@@ -164,9 +164,9 @@ module _ (b : Kept) (k : AtDesk) (a : Agrees b k) (text : List ℕ) (x : Stmt) (
         let now : c.now ≡ b.now =
         sym stands.state ∙ ap (λ (u : World). u.state) world ∙ state_next w (marked_as text failed)
         ∙ ap (λ (e : Option Entry). grown w.state (stored_if failed e)) (none_stored goes two.0 asks) ∙ stays_none failed w.state ∙ a.entered_stands.state in
-        let free : is_hindered (line_needs w y.session y.stmt) ms ≡ false = ap (λ (z : Said). is_hindered (line_needs w z.session z.stmt) ms) said ∙ ap (λ (ns : List Need). is_hindered ns ms) needs_are ∙ two.1 in
+        let free : is_hindered b.rows (line_needs w y.session y.stmt) ms ≡ false = ap (λ (z : Said). is_hindered b.rows (line_needs w z.session z.stmt) ms) said ∙ ap (λ (ns : List Need). is_hindered b.rows ns ms) needs_are ∙ two.1 in
         offered_next Prepares r r2 (entered b k) c y q (j ∷ more) (omega (arith, same)) a.entered_stands (room_law text failed) world now
-        (spared_of w y ms free (subst (λ (n : ℕ). HasNone n ms) (ap (λ (z : Said). z.session) (sym said)) none))
+        (spared_of b.rows w y ms free (subst (λ (n : ℕ). HasNone n ms) (ap (λ (z : Said). z.session) (sym said)) none))
         (offered_entered Prepares r b k q (j ∷ more) a none o)
 
 -- ---- a desk's transaction

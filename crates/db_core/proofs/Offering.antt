@@ -17,7 +17,7 @@ use Rattle.db_outside.specs.Record.{most_body}
 use Rattle.entry_codec.specs.Spelling.{spelling, spellings}
 use Rattle.entry_codec.specs.Laws.{IsEntry, AreEntries}
 use Rattle.lock_table.specs.declared.need.Need.{Need}
-use Rattle.lock_table.specs.Rows.{Row, conflict, conflicts, holder}
+use Rattle.lock_table.specs.Rows.{Row, conflict, conflicts, holder, holds}
 use Rattle.lock_table.specs.Grants.{Has, row}
 use Rattle.lock_table.specs.Laws.{Covers}
 use Rattle.lock_table.proofs.Least.{cover_law}
@@ -366,15 +366,17 @@ unhindered ns (k ∷ ks) free = λ n m hn hm same alone.
     hm
 
 -- members whom these needs of a session don't hinder
-pub two_of : (n : AtMember) (ms : List AtMember) → is_hindered n.needs ms ≡ false → HasNone n.session ms → AllTwo ms n
-two_of n [] free none = tt
-two_of n (m ∷ more) free none =
-    let two = none_of_both (any_conflict n.needs m.needs) (is_hindered n.needs more) free in
-    (record { sessions = λ e. none.0 (sym e); needs = unhindered n.needs m.needs two.0 }, two_of n more two.1 none.1)
+pub two_of : (rows : List Row) (n : AtMember) (ms : List AtMember) → is_hindered rows n.needs ms ≡ false → HasNone n.session ms → AllTwo ms n
+two_of rows n [] free none = tt
+two_of rows n (m ∷ more) free none =
+    let two = none_of_both (any_conflict n.needs m.needs || holds m.session n.needs rows) (is_hindered rows n.needs more) free in
+    let own = none_of_both (any_conflict n.needs m.needs) (holds m.session n.needs rows) two.0 in
+    (record { sessions = λ e. none.0 (sym e); needs = unhindered n.needs m.needs own.0 }, two_of rows n more two.1 none.1)
 
-pub spared_of : (w : World) (y : Said) (ms : List AtMember) → is_hindered (line_needs w y.session y.stmt) ms ≡ false → HasNone y.session ms → AllSpared w y ms
-spared_of w y [] free none = tt
-spared_of w y (m ∷ more) free none =
+pub spared_of : (rows : List Row) (w : World) (y : Said) (ms : List AtMember) → is_hindered rows (line_needs w y.session y.stmt) ms ≡ false → HasNone y.session ms → AllSpared w y ms
+spared_of rows w y [] free none = tt
+spared_of rows w y (m ∷ more) free none =
     let ns : List Need = line_needs w y.session y.stmt in
-    let two = none_of_both (any_conflict ns m.needs) (is_hindered ns more) free in
-    ((none.0, turned ns m.needs (unhindered ns m.needs two.0)), spared_of w y more two.1 none.1)
+    let two = none_of_both (any_conflict ns m.needs || holds m.session ns rows) (is_hindered rows ns more) free in
+    let own = none_of_both (any_conflict ns m.needs) (holds m.session ns rows) two.0 in
+    ((none.0, turned ns m.needs (unhindered ns m.needs own.0)), spared_of rows w y more two.1 none.1)

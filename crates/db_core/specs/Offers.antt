@@ -9,7 +9,7 @@ use Rattle.entry_codec.specs.declared.log.Log.{Ghosts}
 use Rattle.entry_codec.specs.Spelling.{spelling}
 use Rattle.reply_text.specs.Reply.{NamesItsRows}
 use Rattle.lock_table.specs.declared.need.Need.{Need}
-use Rattle.lock_table.specs.Rows.{conflicts}
+use Rattle.lock_table.specs.Rows.{Row, conflicts, holds}
 use Rattle.stmt_text.specs.declared.stmt.Stmt.{Stmt}
 use Rattle.stmt_text.specs.declared.stmt.Stmt.TheVariants.{Branch, Checkpoint, Segments, Commit}
 use Rattle.line_needs.specs.Needs.{lock_of}
@@ -36,10 +36,10 @@ abbrev pub any_conflict : List Need → List Need → Bool
 any_conflict ns [] = false
 any_conflict ns (m ∷ ms) = conflicts ns m || any_conflict ns ms
 
--- one of the needs conflicts with one of a member
-abbrev pub is_hindered : List Need → List AtMember → Bool
-is_hindered ns [] = false
-is_hindered ns (m ∷ more) = any_conflict ns m.needs || is_hindered ns more
+-- one of the needs conflicts with one of a member: with one of its line, or with one that was granted to its transaction
+abbrev pub is_hindered : List Row → List Need → List AtMember → Bool
+is_hindered rows ns [] = false
+is_hindered rows ns (m ∷ more) = (any_conflict ns m.needs || holds m.session ns rows) || is_hindered rows ns more
 
 -- a statement before which every member is settled
 abbrev pub is_alone : Stmt → Bool
@@ -54,14 +54,14 @@ overflows waiting None = false
 overflows waiting (Some e) = nat_lt most_body (length waiting + length (spelling e))
 
 -- members wait, and the statement is one before which they are settled, or one of these needs conflicts with one of theirs
-abbrev pub must_settle : List Need → Stmt → List AtMember → Bool
-must_settle ns x [] = false
-must_settle ns x (m ∷ more) = is_alone x || is_hindered ns (m ∷ more)
+abbrev pub must_settle : List Row → List Need → Stmt → List AtMember → Bool
+must_settle rows ns x [] = false
+must_settle rows ns x (m ∷ more) = is_alone x || is_hindered rows ns (m ∷ more)
 
 -- the members that wait are settled before the line: so it is for its statement and its needs, or its entry doesn't fit beside theirs
 abbrev pub settles_first : Kept → AtDesk → List ℕ → Stmt → AtQueue → List AtMember → Bool
 settles_first b k text x q [] = false
-settles_first b k text x q (m ∷ more) = must_settle (needs_for b k x) x (m ∷ more) || overflows q.waiting (entry_called (call_now (entered b k) text))
+settles_first b k text x q (m ∷ more) = must_settle b.rows (needs_for b k x) x (m ∷ more) || overflows q.waiting (entry_called (call_now (entered b k) text))
 
 -- none of the members is of this session
 abbrev pub HasNone : ℕ → List AtMember → Type 0

@@ -1,5 +1,5 @@
 //! Lines that are offered to a batch, whose members wait for the log together.
-ghost use Rattle.std.specs.Prelude.{◌≡◌, ◌<◌, ◌≤◌, ◌+◌, ◌++◌, [], None, Some, true, false, not, is_some, nat_lt, vec_len, vec_capacity, length, IfOk, IfSome, OnOk, OnErr};
+ghost use Rattle.std.specs.Prelude.{◌≡◌, ◌<◌, ◌≤◌, ◌+◌, ◌++◌, [], None, Some, true, false, not, is_some, nat_lt, vec_len, vec_capacity, length, All, IfOk, IfSome, OnOk, OnErr};
 ghost use Rattle.db_store.specs.State.{dataset_of};
 ghost use Rattle.lock_table.specs.Rows.{conflict, conflicts};
 ghost use Rattle.branch_tx.specs.Laws.{IsRoomy};
@@ -74,12 +74,17 @@ fn any_conflict(needs: &[Need], others: &[Need]) -> bool
     false
 }
 
-// Does one of these needs conflict with one of a member?
-fn is_hindered<St: Store>(needs: &[Need], members: &[Member<St>]) -> bool
-    ensures { result ≡ is_hindered needs.now (members_of members.now) }
+// Does one of these needs conflict with one of a member? A member needs what its line does, and what
+// was granted to its transaction.
+fn is_hindered<St: Store>(locks: &Locks, needs: &[Need], members: &[Member<St>]) -> bool
+    requires { All (λ n. n.lock < 1025) needs.now }
+    ensures { result ≡ is_hindered locks.now.rows needs.now (members_of members.now) }
 {
     for member in members {
         if any_conflict(needs, member.needs.as_slice()) {
+            return true;
+        }
+        if locks.holds(member.session, needs) {
             return true;
         }
     }
@@ -99,10 +104,16 @@ fn is_alone(stmt: &Stmt) -> bool
 }
 
 // Do members wait that are to be settled before the line, whatever it asks of the log?
-fn must_settle<St: Store>(members: &[Member<St>], needs: &[Need], stmt: &Stmt) -> bool
-    ensures { result ≡ must_settle needs.now stmt.now (members_of members.now) }
+fn must_settle<St: Store>(
+    locks: &Locks,
+    members: &[Member<St>],
+    needs: &[Need],
+    stmt: &Stmt,
+) -> bool
+    requires { All (λ n. n.lock < 1025) needs.now }
+    ensures { result ≡ must_settle locks.now.rows needs.now stmt.now (members_of members.now) }
 {
-    !members.is_empty() && (is_alone(stmt) || is_hindered(needs, members))
+    !members.is_empty() && (is_alone(stmt) || is_hindered(locks, needs, members))
 }
 
 // Does one of the needs keep every other session from a lock?
@@ -270,7 +281,7 @@ impl<St: Store, J: Log<St>> Board<St, J> {
     {
         let needs = session_needs(self.alloc, &self.store, &desk.session, stmt)?;
         let asked = needs.as_slice();
-        if must_settle(waiting.members.as_slice(), asked, stmt) {
+        if must_settle(&self.locks, waiting.members.as_slice(), asked, stmt) {
             return Ok(Offered::SettleFirst);
         }
         let commit = commit_of(
