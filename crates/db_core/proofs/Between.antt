@@ -29,14 +29,14 @@ use Rattle.db_core.specs.Marks.{call_with}
 use Rattle.db_core.specs.Answered.{IsAnswered, call_now}
 use Rattle.db_core.specs.Kept.{Kept, Stands, world_of}
 use Rattle.db_core.specs.Heard.{marked_as}
-use Rattle.db_core.specs.Desk.{AtDesk, Agrees, IsSameIf, asked_at, entered, needs_for}
+use Rattle.db_core.specs.Desk.{AtDesk, Agrees, asked_at, entered, needs_for}
 use Rattle.db_core.specs.Sits.{Seated, call_at, heard, marked, said_now}
 use Rattle.db_core.specs.Groups.{AsksCommit}
 use Rattle.db_core.specs.Members.{AtMember, WaitsIn}
 use Rattle.db_core.specs.Waiting.{AreOffered, members_of}
 use Rattle.db_core.specs.Offers.{is_hindered, is_alone, must_settle, overflows, settles_first, HasNone, IsCommitOf, MayJoin}
 use Rattle.db_core.proofs.Rooms.{room_law}
-use Rattle.db_core.proofs.Answering.{needs_at, call_held, call_free, views_if}
+use Rattle.db_core.proofs.Answering.{needs_at, call_held, call_free}
 use Rattle.db_core.proofs.Standing.{seated_agree, roomy_line, said_marked}
 use Rattle.db_core.proofs.Serving.{world_next}
 use Rattle.db_core.proofs.Nexts.{state_next}
@@ -168,10 +168,3 @@ module _ (b : Kept) (k : AtDesk) (a : Agrees b k) (text : List ℕ) (x : Stmt) (
         offered_next Prepares r r2 (entered b k) c y q (j ∷ more) (omega (arith, same)) a.entered_stands (room_law text failed) world now
         (spared_of b.rows w y ms free (subst (λ (n : ℕ). HasNone n ms) (ap (λ (z : Said). z.session) (sym said)) none))
         (offered_entered Prepares r b k q (j ∷ more) a none o)
-
--- ---- a desk's transaction
-
--- an open transaction is equal to itself
-pub same_self : (w : World) (st : State) (table : List Row) (n cur : ℕ) (sk : Bool) (o : Option Granted) → Seated w st table n cur sk o → IsSameIf st cur o o
-same_self w st table n cur sk None h = tt
-same_self w st table n cur sk (Some g) h = ((refl, λ d rows s keep. keep), views_if w st table n cur sk (Some g) h)

@@ -37,3 +37,4 @@ pub mod Committing
 pub mod Offering
 pub mod Joining
 pub mod Between
+pub mod Spares

@@ -326,7 +326,7 @@ failed_is z (m ∷ more) some = refl
 module _ {L S V P Q : Type 0} (g : Ghosts L S V P Q) where
   -- a batch was settled: its lines are one group more
   pub steps_settled : (z : Bool) (ms : List AtMember) (first : L) (old : Logged L) (log : L) → (ms ≡ [] → ⊥) → Stands old.kept → AllWaitIn (world_of old.kept) ms → AllApart ms
-      → StoresAsked g old.kept.now z (batch (entries_now (world_of old.kept) ms)) old.log log → StoresSteps g first old → StoresSteps g first (record { kept = settled_board z old.kept (world_of old.kept) ms; log = log })
+      → StoresAsked g old.kept.now z (batch (entries_now (world_of old.kept) ms)) old.log log → StoresSteps g first old → StoresSteps g first (record old { kept = settled_board z old.kept (world_of old.kept) ms; log = log })
   steps_settled z ms first old log some stands all apart stores (groups, steps) =
       let b : Kept = old.kept in
       let w : World = world_of b in

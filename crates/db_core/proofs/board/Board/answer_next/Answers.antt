@@ -14,7 +14,7 @@ use Rattle.db_core.specs.Desk.{AtDesk, entered, IsSameIf}
 use Rattle.db_core.specs.Sits.{Sits, Seated, marked, told_now}
 use Rattle.db_core.proofs.Logging.{kept_is}
 use Rattle.db_core.proofs.Rooms.{room_law, named_line}
-use Rattle.db_core.proofs.Answering.{there, seated_as, on_err}
+use Rattle.db_core.proofs.Answering.{there, seated_as, on_err, same_self}
 use Rattle.db_core.proofs.Standing.{seated_agree, roomy_line, current_there, agrees_bare}
 use Rattle.db_core.proofs.Serving.{reply_later, named_then, stands_then, sits_then, world_next}
 use Rattle.db_core.proofs.OtherDesks.{schema_stays}
@@ -152,4 +152,40 @@ returns-in_err-answered-clause-kept g c =
         waiting = ap (λ (x : AtDesk). x.waiting) u i;
       };
       same = subst (λ (p : State × (ℕ × Option Granted)). IsSameIf p.0 p.1.0 p.1.1 s.tx) (λ i. (ap (λ (x : Kept). x.now) v i, (ap (λ (x : AtDesk). x.current) u i, ap (λ (x : AtDesk). x.open_tx) u i))) e.1;
+    })
+
+pub returns-in_err-line-clause-kept : goal.returns-in_err-line-clause-kept
+returns-in_err-line-clause-kept g c =
+    let b : Kept = c.args.self.now.kept in
+    let k : AtDesk = c.args.desk.now in
+    let u = c.desk.view_is in
+    on_err c.from_residual-in_err-line.result _ (record {
+      desk = λ i. record {
+        session = ap (λ (x : AtDesk). x.session) u i;
+        current = ap (λ (x : AtDesk). x.current) u i;
+        name = ap (λ (x : AtDesk). x.name) u i;
+        skipping = ap (λ (x : AtDesk). x.skipping) u i;
+        open_tx = c.desk.inside.session.tx;
+        schema = ap (λ (x : AtDesk). x.schema) u i;
+        waiting = ap (λ (x : AtDesk). x.waiting) u i;
+      };
+      same = subst (IsSameIf b.now k.current k.open_tx) (sym (ap (λ (x : AtDesk). x.open_tx) u)) (same_self (world_of (entered b k)) b.now b.rows k.session k.current k.skipping k.open_tx (seated_agree b k c.requires.agree));
+    })
+
+pub returns-in_err-reserve-clause-kept : goal.returns-in_err-reserve-clause-kept
+returns-in_err-reserve-clause-kept g c =
+    let b : Kept = c.args.self.now.kept in
+    let k : AtDesk = c.args.desk.now in
+    let u = c.desk.view_is in
+    on_err c.from_residual-in_err-reserve.result _ (record {
+      desk = λ i. record {
+        session = ap (λ (x : AtDesk). x.session) u i;
+        current = ap (λ (x : AtDesk). x.current) u i;
+        name = ap (λ (x : AtDesk). x.name) u i;
+        skipping = ap (λ (x : AtDesk). x.skipping) u i;
+        open_tx = c.desk.inside.session.tx;
+        schema = ap (λ (x : AtDesk). x.schema) u i;
+        waiting = ap (λ (x : AtDesk). x.waiting) u i;
+      };
+      same = subst (IsSameIf b.now k.current k.open_tx) (sym (ap (λ (x : AtDesk). x.open_tx) u)) (same_self (world_of (entered b k)) b.now b.rows k.session k.current k.skipping k.open_tx (seated_agree b k c.requires.agree));
     })
