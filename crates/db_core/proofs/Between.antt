@@ -4,7 +4,7 @@ use Rattle.std.proofs.lemmas.Bool.{true≢false, false≢true, or_left, or_right
 use Rattle.db_value.specs.declared.entry.Entry.{Entry}
 use Rattle.db_value.specs.declared.entry.Entry.TheVariants.{Commit as CommitEntry, Branch as BranchEntry}
 use Rattle.db_value.specs.declared.reply.Reply.{Reply}
-use Rattle.db_store.specs.Dataset.{Dataset}
+use Rattle.db_store.specs.Dataset.{Dataset, head_of}
 use Rattle.db_store.specs.Overlay.{Overlay}
 use Rattle.db_store.specs.State.{State, dataset_of}
 use Rattle.lock_table.specs.declared.need.Need.{Need}
@@ -13,6 +13,7 @@ use Rattle.stmt_text.specs.declared.stmt.Stmt.{Stmt}
 use Rattle.stmt_text.specs.declared.stmt.Stmt.TheVariants.{Begin, Commit, Abort, On, LogOf, Graph, Segments, Checkpoint, Branch}
 use Rattle.branch_tx.specs.Act.{Tx}
 use Rattle.branch_tx.specs.Frame.{is_changed}
+use Rattle.branch_tx.specs.Keeping.{over_table}
 use Rattle.branch_tx.specs.Granted.{Granted}
 use Rattle.branch_tx.specs.Laws.{IsRoomy}
 use Rattle.flush_queue.specs.Queue.{AtQueue}
@@ -56,7 +57,7 @@ of_call x o h = subst NoBranch (sym (called_of x o)) h
 of_commit : (d : Dataset) (b : ℕ) (tx : Tx (List Overlay)) → NoBranch (commit_over d b tx)
 of_commit d b tx = by (is_changed tx)
   where
-    by : (q : Bool) → NoBranch (cond q (Some (CommitEntry b tx.second _)) None)
+    by : (q : Bool) → NoBranch (cond q (Some (CommitEntry b tx.second ((over_table (head_of d b)).changes tx.work))) None)
     by true = tt
     by false = tt
 

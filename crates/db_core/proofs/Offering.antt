@@ -36,7 +36,7 @@ use Rattle.store_tx.specs.declared.stored.LogCall.TheVariants.{Nothing, Append, 
 use Rattle.store_tx.specs.Stored.{call_of, entry_called, is_checkpoint}
 use Rattle.store_tx.proofs.Tagged.{tagged_old, tagged_new, tagged_has}
 use Rattle.db_core.specs.declared.member.Member.{Member}
-use Rattle.db_core.specs.Order.{Said, Desk, World, Fate, Skips, IsBad, IsHeld, Fails, Ends, Stays, opening, after, next, next_by, next_with, fate_of, fate_with, needs_of, told_on, replied}
+use Rattle.db_core.specs.Order.{Said, Desk, World, Fate, Skips, IsBad, IsHeld, Fails, Ends, Stays, said_of, opening, after, next, next_by, next_with, fate_of, fate_with, needs_of, told_on, replied}
 use Rattle.db_core.specs.Laws.{HasRoom, line_needs}
 use Rattle.db_core.specs.Marks.{call_by, call_with}
 use Rattle.db_core.specs.Kept.{Kept, Stands, saids, said_step, world_of}
