@@ -76,7 +76,8 @@ holder_without s ns t (r ∷ rows) free =
     by true kept left = left
     by false kept left = kept
 
-turned : (ns ms : List Need) → NoneConflict ns ms → NoneConflict ms ns
+-- in the other order
+pub turned : (ns ms : List Need) → NoneConflict ns ms → NoneConflict ms ns
 turned ns ms apart = λ m n hm hn e x. apart n m hn hm (sym e) (either m.exclusive n.exclusive x)
   where
     either : (p q : Bool) → (p || q) ≡ true → (q || p) ≡ true

@@ -28,10 +28,14 @@ pub mod Rooms
 pub mod Examples
 pub mod NamedReplies
 pub mod Owned
-pub mod Waiting
+pub mod Queued
 pub mod Counting
 pub mod Desks
 pub mod OtherDesks
 pub mod LocalLines
+pub mod Committing
+pub mod Offering
+pub mod Joining
+pub mod Between
 pub mod Spares
 pub mod Batches

@@ -11,6 +11,7 @@ pub mod Accounts
 pub mod Runs
 pub mod Members
 pub mod Waiting
+pub mod Offers
 pub mod Desk
 pub mod Sessions
 pub mod Local

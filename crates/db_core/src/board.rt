@@ -86,7 +86,7 @@ fn told_of(failed: bool) -> Reply
 
 // For how many members memory is taken after a statement: what was prepared before a new branch
 // serves no more.
-fn ready_after(stmt: &Stmt, ready: usize) -> usize
+pub(crate) fn ready_after(stmt: &Stmt, ready: usize) -> usize
     ensures none { is_branch stmt.now ≡ true → result ≡ 0 }
     ensures same { is_branch stmt.now ≡ false → result ≡ ready }
 {
