@@ -39,6 +39,10 @@ some_spelled : (w : World) (ms : List AtMember) → (ms ≡ [] → ⊥) → AllW
 some_spelled w [] some all = absurd (some refl)
 some_spelled w (m ∷ more) some all = spelled_front (call_in w (unmarked m.line)) (entries_now w more) (asks_line w m all.0)
 
+-- no outcome is told of the next ticket
+pub ticket_waits : (q : AtQueue) (ticket : ℕ) → ticket ≡ next_ticket q → outcome q ticket ≡ None
+ticket_waits q ticket is = ap (outcome q) is ∙ slice_get_past q.results (next_ticket q) (omega arith)
+
 module _ {St V P Q : Type 0} (Prepares : P → State → Entry → Type 0) (ready : ℕ) (b : Kept) (q : AtQueue) where
   abbrev Offered : List (Member St V P Q) → Type 0
   Offered ks = AreOffered Prepares ready b q ks
@@ -64,14 +68,11 @@ module _ {St V P Q : Type 0} (Prepares : P → State → Entry → Type 0) (read
   -- the ticket of the first one is that of the batch
   pub first_ticket : (ks : List (Member St V P Q)) → (ks ≡ [] → ⊥) → Offered ks → (k : Member St V P Q) → k ≡ get_or ks 0 k → k.ticket ≡ next_ticket q
   first_ticket [] some o k is = absurd (some refl)
-  first_ticket (j ∷ ks) some o k is = ap (λ (m : Member St V P Q). m.ticket) is ∙ o.tickets.0
+  first_ticket (j ∷ ks) some o k is = ap (λ (m : Member St V P Q). m.ticket) is ∙ o.tickets 0 k (omega arith)
 
   -- which waits
   pub ticket_given : (ticket : ℕ) (ks : List (Member St V P Q)) → (ks ≡ [] → ⊥) → Offered ks → ticket ≡ next_ticket q → IsGiven q ticket
   ticket_given ticket ks some o is = inr (is, λ none. let p = bytes_wait ks some o in omega (arith, p, ap length none))
-
-  pub ticket_waits : (ticket : ℕ) → ticket ≡ next_ticket q → outcome q ticket ≡ None
-  ticket_waits ticket is = ap (outcome q) is ∙ slice_get_past q.results (next_ticket q) (omega arith)
 
 pub some_long : {A : Type 0} (xs : List A) → (xs ≡ [] → ⊥) → 0 < length xs
 some_long [] some = absurd (some refl)
@@ -87,7 +88,7 @@ offered_none Prepares ready b q ks none empty = subst (λ (js : List (Member _ _
   entries = tt;
   each = tt;
   apart = tt;
-  tickets = tt;
+  tickets = λ k d less. absurd (omega (arith, less));
   prepared = tt;
   room = omega arith;
 })

@@ -28,7 +28,7 @@ pub mod Rooms
 pub mod Examples
 pub mod NamedReplies
 pub mod Owned
-pub mod Waiting
+pub mod Queued
 pub mod Counting
 pub mod Desks
 pub mod OtherDesks

@@ -60,12 +60,12 @@ returns-clause-settled g c =
     let ticket = first_ticket g.St.Store.Prepares c.self.inside.ready v q ks c.requires.some o k c.index.ensures in
     let stored : StoresAsked g.J.Log v.now z (batch (entries_now (world_of v) (members_of ks))) c.self.inside.log c.settle-told.new.log =
     appended g.J.Log v.now (entries_now (world_of v) (members_of ks)) q.waiting (batch_is g.St.Store.Prepares c.self.inside.ready v q ks c.requires.some stands o) c.self.inside.log c.settle-told.new.log c.settle-told.result
-    (c.settle-told.ensures.log (ticket_waits g.St.Store.Prepares c.self.inside.ready v q k.ticket ticket)) in
+    (c.settle-told.ensures.log (ticket_waits q k.ticket ticket)) in
     let same = ap (λ ms. ms.items) c.replace-members.ensures.value in
-    let steps : c.settle_members.new.steps.items ≡ v.steps ++ member_steps z (members_of ks) = c.settle_members.ensures.steps ∙ (λ i. v.steps ++ member_steps (c.is_err.ensures i) (members_of (same i))) in
+    let steps : c.settle_members.new.steps.items ≡ v.steps ++ member_steps z (members_of ks) = c.settle_members.ensures.steps ∙ (λ i. v.steps ++ member_steps (c.is_err.ensures.value i) (members_of (same i))) in
     let rows = c.settle_members.ensures.rows ∙ ap (λ js. all_left (members_of js) v.rows) same in
     let now : (es : List Entry) → AreReady g.St.Store.Prepares v.now ks es → g.St.Store.state c.settle_members.new.store ≡ grown_unless z v.now es =
-    (λ es h. c.settle_members.ensures.state es (subst (λ js. AreReady g.St.Store.Prepares v.now js es) (sym same) h) ∙ ap (λ (f : Bool). grown_unless f v.now es) c.is_err.ensures) in
+    (λ es h. c.settle_members.ensures.state es (subst (λ js. AreReady g.St.Store.Prepares v.now js es) (sym same) h) ∙ ap (λ (f : Bool). grown_unless f v.now es) c.is_err.ensures.value) in
     let new : Logged g.row.J.Denot = record { kept = record v { steps = c.settle_members.new.steps.items; now = g.St.Store.state c.settle_members.new.store; rows = c.settle_members.new.locks.rows }; log = c.settle-told.new.log; ready = 0 } in
     let done : Settles g.J.Log z (members_of ks) l new = settles g.J.Log g.St.Store.Prepares z q ks l stands o c.settle_members.new.steps.items (g.St.Store.state c.settle_members.new.store) c.settle_members.new.locks.rows c.settle-told.new.log 0 steps rows now stored in
     subst (λ (x : Logged g.row.J.Denot). Settles g.J.Log z (members_of ks) x new) c.self.view_is done
@@ -83,12 +83,12 @@ returns-clause-stands g c =
     let ticket = first_ticket g.St.Store.Prepares c.self.inside.ready v q ks c.requires.some o k c.index.ensures in
     let stored : StoresAsked g.J.Log v.now z (batch (entries_now (world_of v) (members_of ks))) c.self.inside.log c.settle-told.new.log =
     appended g.J.Log v.now (entries_now (world_of v) (members_of ks)) q.waiting (batch_is g.St.Store.Prepares c.self.inside.ready v q ks c.requires.some stands o) c.self.inside.log c.settle-told.new.log c.settle-told.result
-    (c.settle-told.ensures.log (ticket_waits g.St.Store.Prepares c.self.inside.ready v q k.ticket ticket)) in
+    (c.settle-told.ensures.log (ticket_waits q k.ticket ticket)) in
     let same = ap (λ ms. ms.items) c.replace-members.ensures.value in
-    let steps : c.settle_members.new.steps.items ≡ v.steps ++ member_steps z (members_of ks) = c.settle_members.ensures.steps ∙ (λ i. v.steps ++ member_steps (c.is_err.ensures i) (members_of (same i))) in
+    let steps : c.settle_members.new.steps.items ≡ v.steps ++ member_steps z (members_of ks) = c.settle_members.ensures.steps ∙ (λ i. v.steps ++ member_steps (c.is_err.ensures.value i) (members_of (same i))) in
     let rows = c.settle_members.ensures.rows ∙ ap (λ js. all_left (members_of js) v.rows) same in
     let now : (es : List Entry) → AreReady g.St.Store.Prepares v.now ks es → g.St.Store.state c.settle_members.new.store ≡ grown_unless z v.now es =
-    (λ es h. c.settle_members.ensures.state es (subst (λ js. AreReady g.St.Store.Prepares v.now js es) (sym same) h) ∙ ap (λ (f : Bool). grown_unless f v.now es) c.is_err.ensures) in
+    (λ es h. c.settle_members.ensures.state es (subst (λ js. AreReady g.St.Store.Prepares v.now js es) (sym same) h) ∙ ap (λ (f : Bool). grown_unless f v.now es) c.is_err.ensures.value) in
     let new : Logged g.row.J.Denot = record { kept = record v { steps = c.settle_members.new.steps.items; now = g.St.Store.state c.settle_members.new.store; rows = c.settle_members.new.locks.rows }; log = c.settle-told.new.log; ready = 0 } in
     let done : Settles g.J.Log z (members_of ks) l new = settles g.J.Log g.St.Store.Prepares z q ks l stands o c.settle_members.new.steps.items (g.St.Store.state c.settle_members.new.store) c.settle_members.new.locks.rows c.settle-told.new.log 0 steps rows now stored in
     settles_stands g.J.Log g.St.Store.Prepares z q ks l stands o new done
@@ -99,4 +99,7 @@ returns-clause-queue g c =
     let ks = c.args.waiting.now.members.items in
     let k = c.index.result.now in
     let ticket = first_ticket g.St.Store.Prepares b.ready b.kept c.args.queue.now ks c.requires.some c.requires.offered k c.index.ensures in
-    c.settle-told.ensures.queue ∙ ap (λ (o : Option Bool). settled_by o c.args.queue.now (is_ok c.settle-told.result)) (ticket_waits g.St.Store.Prepares b.ready b.kept c.args.queue.now k.ticket ticket)
+    c.settle-told.ensures.queue ∙ ap (λ (o : Option Bool). settled_by o c.args.queue.now (is_ok c.settle-told.result)) (ticket_waits c.args.queue.now k.ticket ticket)
+
+pub returns-clause-offered : goal.returns-clause-offered
+returns-clause-offered g c = offered_none g.St.Store.Prepares 0 _ _ _ (ap (λ ms. ms.items) c.replace-members.ensures.after ∙ c.new.ensures.items) (ap (λ (q : AtQueue). q.waiting) (returns-clause-queue g c))
