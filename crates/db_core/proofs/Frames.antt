@@ -1,14 +1,13 @@
 -- A line that waits, and the lines of other sessions.
-use Rattle.std.proofs.Common.{◌≡◌, ⊎_elim, inl, inr, ℕ, ◌<◌, ◌==◌, ◌&&◌, ◌||◌, not, Bool, true, false, cond, List, [], ◌∷◌, ◌++◌, length, Option, Some, None, refl, sym, ap, ◌∙◌, subst}
+use Rattle.std.proofs.Common.{◌≡◌, inl, inr, ℕ, ◌<◌, ◌==◌, ◌&&◌, ◌||◌, not, Bool, true, false, cond, List, [], ◌∷◌, length, Option, Some, None, refl, sym, ap, ◌∙◌, subst}
 use Rattle.std.proofs.lemmas.Bool.{eqb-true, and_parts, true≢false}
 use Rattle.db_value.specs.declared.version.VersionPlace.{VersionPlace}
-use Rattle.db_value.specs.declared.entry.Entry.{Entry}
 use Rattle.db_value.specs.declared.reply.Reply.{Reply}
 use Rattle.db_value.specs.declared.reply.Reply.TheVariants.{Done}
 use Rattle.db_store.specs.Table.{Table}
 use Rattle.db_store.specs.Overlay.{Overlay}
 use Rattle.db_store.specs.Dataset.{Dataset, head_of}
-use Rattle.db_store.specs.State.{State, dataset_of}
+use Rattle.db_store.specs.State.{dataset_of}
 use Rattle.lock_table.specs.declared.need.Need.{Need}
 use Rattle.lock_table.specs.Rows.{Row, conflict, conflicts, blocks, lesser, holder}
 use Rattle.lock_table.specs.Grants.{Has, row, without}
@@ -21,13 +20,13 @@ use Rattle.branch_tx.specs.Frame.{Whole, whole, AllWithin, Within, is_changed, s
 use Rattle.line_needs.specs.Needs.{needs, all_needs}
 use Rattle.store_tx.specs.Ends.{is_open, is_abort, ends, entry_at}
 use Rattle.store_tx.specs.Keeps.{tagged, OwnedBy}
-use Rattle.store_tx.proofs.Tagged.{tagged_old, tagged_has, all_granted}
-use Rattle.db_core.specs.Order.{Said, Desk, World, Ends, fate_of, needs_of, next_by, next_with, next, told_on}
+use Rattle.store_tx.proofs.Tagged.{tagged_old, all_granted}
+use Rattle.db_core.specs.Order.{Said, Desk, World, fate_of, needs_of, next_by, next_with, next, told_on}
 use Rattle.db_core.specs.Laws.{HasRoom, line_needs}
 use Rattle.db_core.specs.Members.{NoneConflict}
 use Rattle.db_core.proofs.Rows.{apart_tagged}
 use Rattle.db_core.proofs.Runs.{needs_are, end_is}
-use Rattle.db_core.proofs.Worlds.{Good, Ok, Later, others, last_entry, last_needs, granted_now}
+use Rattle.db_core.proofs.Worlds.{Ok, Later, others, last_entry, last_needs, granted_now}
 use Rattle.db_core.proofs.Until.{other_desk, told_stays}
 
 -- ---- who holds a need
