@@ -86,7 +86,7 @@ pub short_of : (e : Entry) → IsEntry e → length (spelling e) ≤ most_body
 short_of e is = omega (arith, size_is e, entry_few e is)
 
 pub not_true : (a : Bool) → true ≡ not a → a ≡ false
-not_true true h = sym h
+not_true true h = h
 not_true false h = refl
 
 pub not_false : (a : Bool) → false ≡ not a → a ≡ true

@@ -80,7 +80,7 @@ returns-in-None-clause-which g c =
     let nq : c.as_slice-asked.result.now ≡ needs_for b k x =
     c.as_slice-asked.ensures ∙ c.in_ok-needs.ensures ∙ (λ i. asked_at (dataset_of (ap (λ (y : Kept). y.now) v i)) (ap (λ (y : AtDesk). y.current) u i) (ap (λ (y : AtDesk). y.open_tx) u i) x) in
     let must : must_settle b.rows (needs_for b k x) x ms ≡ false =
-    (λ i. must_settle (sym (ap (λ (y : Kept). y.rows) v) i) (sym nq i) x (members_of (sym c.as_slice.ensures i))) ∙ sym c.must_settle.ensures ∙ c.if-must_settle.false in
+    (λ i. must_settle (sym (ap (λ (y : Kept). y.rows) v) i) (sym nq i) x (members_of (sym c.as_slice.ensures.value i))) ∙ sym c.must_settle.ensures ∙ c.if-must_settle.false in
     let goes : k.skipping ≡ false = (none_of_both k.skipping (answers k.schema k.open_tx x) c.requires.local).0 in
     let w : World = world_of (entered b k) in
     let seated : Seated w (g.St.Store.state c.self.inside.store) c.self.inside.locks.rows c.desk.inside.session.number c.desk.inside.session.current c.desk.inside.session.skipping c.desk.inside.session.tx =
@@ -105,7 +105,7 @@ returns-in-None-clause-offered g c =
     let nq : c.as_slice-asked.result.now ≡ needs_for b k x =
     c.as_slice-asked.ensures ∙ c.in_ok-needs.ensures ∙ (λ i. asked_at (dataset_of (ap (λ (y : Kept). y.now) v i)) (ap (λ (y : AtDesk). y.current) u i) (ap (λ (y : AtDesk). y.open_tx) u i) x) in
     let must : must_settle b.rows (needs_for b k x) x ms ≡ false =
-    (λ i. must_settle (sym (ap (λ (y : Kept). y.rows) v) i) (sym nq i) x (members_of (sym c.as_slice.ensures i))) ∙ sym c.must_settle.ensures ∙ c.if-must_settle.false in
+    (λ i. must_settle (sym (ap (λ (y : Kept). y.rows) v) i) (sym nq i) x (members_of (sym c.as_slice.ensures.value i))) ∙ sym c.must_settle.ensures ∙ c.if-must_settle.false in
     let goes : k.skipping ≡ false = (none_of_both k.skipping (answers k.schema k.open_tx x) c.requires.local).0 in
     let w : World = world_of (entered b k) in
     let seated : Seated w (g.St.Store.state c.self.inside.store) c.self.inside.locks.rows c.desk.inside.session.number c.desk.inside.session.current c.desk.inside.session.skipping c.desk.inside.session.tx =
@@ -134,7 +134,7 @@ join-requires-clause-may g c =
     let nq : c.as_slice-asked.result.now ≡ needs_for b k x =
     c.as_slice-asked.ensures ∙ c.in_ok-needs.ensures ∙ (λ i. asked_at (dataset_of (ap (λ (y : Kept). y.now) v i)) (ap (λ (y : AtDesk). y.current) u i) (ap (λ (y : AtDesk). y.open_tx) u i) x) in
     let must : must_settle b.rows (needs_for b k x) x ms ≡ false =
-    (λ i. must_settle (sym (ap (λ (y : Kept). y.rows) v) i) (sym nq i) x (members_of (sym c.as_slice.ensures i))) ∙ sym c.must_settle.ensures ∙ c.if-must_settle.false in
+    (λ i. must_settle (sym (ap (λ (y : Kept). y.rows) v) i) (sym nq i) x (members_of (sym c.as_slice.ensures.value i))) ∙ sym c.must_settle.ensures ∙ c.if-must_settle.false in
     let w : World = world_of (entered b k) in
     let seated : Seated w (g.St.Store.state c.self.inside.store) c.self.inside.locks.rows c.desk.inside.session.number c.desk.inside.session.current c.desk.inside.session.skipping c.desk.inside.session.tx =
     seated_as w b.now (g.St.Store.state c.self.inside.store) b.rows c.self.inside.locks.rows k.session c.desk.inside.session.number k.current c.desk.inside.session.current k.skipping c.desk.inside.session.skipping k.open_tx c.desk.inside.session.tx
@@ -162,7 +162,7 @@ returns-in-None-2-clause-which g c =
     let nq : c.as_slice-asked.result.now ≡ needs_for b k x =
     c.as_slice-asked.ensures ∙ c.in_ok-needs.ensures ∙ (λ i. asked_at (dataset_of (ap (λ (y : Kept). y.now) v i)) (ap (λ (y : AtDesk). y.current) u i) (ap (λ (y : AtDesk). y.open_tx) u i) x) in
     let must : must_settle b.rows (needs_for b k x) x ms ≡ false =
-    (λ i. must_settle (sym (ap (λ (y : Kept). y.rows) v) i) (sym nq i) x (members_of (sym c.as_slice.ensures i))) ∙ sym c.must_settle.ensures ∙ c.if-must_settle.false in
+    (λ i. must_settle (sym (ap (λ (y : Kept). y.rows) v) i) (sym nq i) x (members_of (sym c.as_slice.ensures.value i))) ∙ sym c.must_settle.ensures ∙ c.if-must_settle.false in
     let w : World = world_of (entered b k) in
     let seated : Seated w (g.St.Store.state c.self.inside.store) c.self.inside.locks.rows c.desk.inside.session.number c.desk.inside.session.current c.desk.inside.session.skipping c.desk.inside.session.tx =
     seated_as w b.now (g.St.Store.state c.self.inside.store) b.rows c.self.inside.locks.rows k.session c.desk.inside.session.number k.current c.desk.inside.session.current k.skipping c.desk.inside.session.skipping k.open_tx c.desk.inside.session.tx
@@ -187,7 +187,7 @@ returns-clause-which g c =
     let nq : c.as_slice-asked.result.now ≡ needs_for b k x =
     c.as_slice-asked.ensures ∙ c.in_ok-needs.ensures ∙ (λ i. asked_at (dataset_of (ap (λ (y : Kept). y.now) v i)) (ap (λ (y : AtDesk). y.current) u i) (ap (λ (y : AtDesk). y.open_tx) u i) x) in
     let must : must_settle b.rows (needs_for b k x) x ms ≡ false =
-    (λ i. must_settle (sym (ap (λ (y : Kept). y.rows) v) i) (sym nq i) x (members_of (sym c.as_slice.ensures i))) ∙ sym c.must_settle.ensures ∙ c.if-must_settle.false in
+    (λ i. must_settle (sym (ap (λ (y : Kept). y.rows) v) i) (sym nq i) x (members_of (sym c.as_slice.ensures.value i))) ∙ sym c.must_settle.ensures ∙ c.if-must_settle.false in
     let w : World = world_of (entered b k) in
     let seated : Seated w (g.St.Store.state c.self.inside.store) c.self.inside.locks.rows c.desk.inside.session.number c.desk.inside.session.current c.desk.inside.session.skipping c.desk.inside.session.tx =
     seated_as w b.now (g.St.Store.state c.self.inside.store) b.rows c.self.inside.locks.rows k.session c.desk.inside.session.number k.current c.desk.inside.session.current k.skipping c.desk.inside.session.skipping k.open_tx c.desk.inside.session.tx
