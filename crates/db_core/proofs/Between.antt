@@ -4,7 +4,7 @@ use Rattle.std.proofs.lemmas.Bool.{true≢false, false≢true, or_left, or_right
 use Rattle.db_value.specs.declared.entry.Entry.{Entry}
 use Rattle.db_value.specs.declared.entry.Entry.TheVariants.{Commit as CommitEntry, Branch as BranchEntry}
 use Rattle.db_value.specs.declared.reply.Reply.{Reply}
-use Rattle.db_store.specs.Dataset.{Dataset, head_of}
+use Rattle.db_store.specs.Dataset.{Dataset}
 use Rattle.db_store.specs.Overlay.{Overlay}
 use Rattle.db_store.specs.State.{State, dataset_of}
 use Rattle.lock_table.specs.declared.need.Need.{Need}
@@ -12,32 +12,31 @@ use Rattle.lock_table.specs.Rows.{Row, holder}
 use Rattle.stmt_text.specs.declared.stmt.Stmt.{Stmt}
 use Rattle.stmt_text.specs.declared.stmt.Stmt.TheVariants.{Begin, Commit, Abort, On, LogOf, Graph, Segments, Checkpoint, Branch}
 use Rattle.branch_tx.specs.Act.{Tx}
-use Rattle.branch_tx.specs.Frame.{is_changed}
-use Rattle.branch_tx.specs.Keeping.{over_table}
-use Rattle.branch_tx.specs.Granted.{Granted}
+use Rattle.branch_tx.specs.Granted.{Granted, tx_in}
 use Rattle.branch_tx.specs.Laws.{IsRoomy}
 use Rattle.flush_queue.specs.Queue.{AtQueue}
-use Rattle.store_tx.specs.Ends.{grown}
-use Rattle.store_tx.specs.Statements.{commit_over}
+use Rattle.store_tx.specs.Ends.{grown, is_end, ends}
+use Rattle.store_tx.specs.Statements.{entry_over}
 use Rattle.store_tx.specs.declared.stored.LogCall.{LogCall}
 use Rattle.store_tx.specs.declared.stored.LogCall.TheVariants.{Nothing, Append, Save}
-use Rattle.store_tx.specs.Stored.{call_of, entry_called, stored_if}
-use Rattle.store_tx.proofs.OwnLines.{called_of, own_stored, quiet_commit, quiet_on, quiet_log, quiet_graph}
+use Rattle.store_tx.specs.Stored.{SparesIf, call_of, entry_called, is_branch, stored_if}
+use Rattle.store_tx.proofs.OwnLines.{called_of}
 use Rattle.db_core.specs.declared.member.Member.{Member}
 use Rattle.db_core.specs.Order.{Said, World, said_of, next}
 use Rattle.db_core.specs.Laws.{line_needs}
 use Rattle.db_core.specs.Marks.{call_with}
 use Rattle.db_core.specs.Answered.{IsAnswered, call_now}
-use Rattle.db_core.specs.Kept.{Kept, Stands, world_of}
+use Rattle.db_core.specs.Kept.{Kept, Logged, Stands, world_of}
 use Rattle.db_core.specs.Heard.{marked_as}
-use Rattle.db_core.specs.Desk.{AtDesk, Agrees, asked_at, entered, needs_for}
+use Rattle.db_core.specs.Desk.{AtDesk, Agrees, IsSameIf, asked_at, entered, needs_for}
 use Rattle.db_core.specs.Sits.{Seated, call_at, heard, marked, said_now}
 use Rattle.db_core.specs.Groups.{AsksCommit}
 use Rattle.db_core.specs.Members.{AtMember, WaitsIn}
 use Rattle.db_core.specs.Waiting.{AreOffered, members_of}
-use Rattle.db_core.specs.Offers.{is_hindered, is_alone, must_settle, overflows, settles_first, HasNone, IsCommitOf, MayJoin}
+use Rattle.db_core.specs.Offers.{is_hindered, is_alone, must_settle, overflows, settles_first, HasNone, IsCommitOf, IsNotOffered, IsUntouched, IsStillAt, MayJoin}
 use Rattle.db_core.proofs.Rooms.{room_law}
-use Rattle.db_core.proofs.Answering.{needs_at, call_held, call_free}
+use Rattle.db_core.proofs.Answering.{needs_at, call_held, call_free, call_ends, end_same, same_self}
+use Rattle.db_core.proofs.Spares.{spared_end, spared_out}
 use Rattle.db_core.proofs.Standing.{seated_agree, roomy_line, said_marked}
 use Rattle.db_core.proofs.Serving.{world_next}
 use Rattle.db_core.proofs.Nexts.{state_next}
@@ -54,27 +53,29 @@ NoBranch (Some (BranchEntry name origin)) = ⊥
 of_call : (x : Stmt) (o : Option Entry) → NoBranch o → NoBranch (entry_called (call_of x o))
 of_call x o h = subst NoBranch (sym (called_of x o)) h
 
-of_commit : (d : Dataset) (b : ℕ) (tx : Tx (List Overlay)) → NoBranch (commit_over d b tx)
-of_commit d b tx = by (is_changed tx)
-  where
-    by : (q : Bool) → NoBranch (cond q (Some (CommitEntry b tx.second ((over_table (head_of d b)).changes tx.work))) None)
-    by true = tt
-    by false = tt
+none_of : (o : Option Entry) → (SparesIf o 1 0 → 1 ≤ 0) → NoBranch o
+none_of None f = tt
+none_of (Some (CommitEntry b second changes)) f = tt
+none_of (Some (BranchEntry name origin)) f = absurd (omega (arith, f tt))
+
+-- a statement before which no member is settled makes no branch
+pub alone_branch : (x : Stmt) → is_alone x ≡ false → is_branch x ≡ false
+alone_branch (Branch name origin) h = absurd (true≢false h)
+alone_branch _ h = refl
+
+of_own : (d : Dataset) (b : ℕ) (x : Stmt) → is_branch x ≡ false → ends false x ≡ true → NoBranch (entry_called (call_at d b None x))
+of_own d b x other e = none_of (entry_called (call_at d b None x)) (spared_out 1 0 d b x (call_at d b None x) (call_ends d b None x e) other)
+
+of_end : (d : Dataset) (b : ℕ) (g : Granted) (x : Stmt) → is_end x ≡ true → NoBranch (entry_called (call_at d b (Some g) x))
+of_end d b g x e = subst (λ (call : LogCall). NoBranch (entry_called call)) (sym (call_ends d b (Some g) x e ∙ ap (λ (t : Tx (List Overlay)). call_of x (entry_over d b x t)) (end_same d b g x e)))
+    (of_call x (entry_over d b x (tx_in g)) (none_of (entry_over d b x (tx_in g)) (spared_end 1 0 d b x (tx_in g) refl)))
 
 of_line : (d : Dataset) (b : ℕ) (tx : Option Granted) (x : Stmt) → is_alone x ≡ false → NoBranch (entry_called (call_at d b tx x))
-of_line d b (Some g) Commit alone = of_call Commit _ (of_commit d b _)
-of_line d b (Some g) Abort alone = tt
+of_line d b (Some g) Commit alone = of_end d b g Commit refl
+of_line d b (Some g) Abort alone = of_end d b g Abort refl
 of_line d b (Some g) _ alone = tt
 of_line d b None (Begin room) alone = tt
-of_line d b None Commit alone = subst (λ (o : Option Entry). NoBranch (entry_called (call_of Commit o))) (quiet_commit d b Commit refl) tt
-of_line d b None Abort alone = tt
-of_line d b None (On name) alone = subst (λ (o : Option Entry). NoBranch (entry_called (call_of (On name) o))) (quiet_on d b (On name) name refl) tt
-of_line d b None (LogOf name) alone = subst (λ (o : Option Entry). NoBranch (entry_called (call_of (LogOf name) o))) (quiet_log d b (LogOf name) name refl) tt
-of_line d b None Graph alone = subst (λ (o : Option Entry). NoBranch (entry_called (call_of Graph o))) (quiet_graph d b Graph refl) tt
-of_line d b None Segments alone = absurd (true≢false alone)
-of_line d b None Checkpoint alone = absurd (true≢false alone)
-of_line d b None (Branch name origin) alone = absurd (true≢false alone)
-of_line d b None x alone = of_call x _ (subst NoBranch (own_stored d b x _ tt refl) (of_commit d b _))
+of_line d b None x alone = of_own d b x (alone_branch x alone) refl
 
 none_called : (call : LogCall) → NoBranch (entry_called call) → (AsksCommit call → ⊥) → entry_called call ≡ None
 none_called Nothing h none = refl
@@ -115,6 +116,20 @@ settles_not b k text x q [] e fits = refl
 settles_not b k text x q (m ∷ more) e fits =
     ap (λ (a : Bool). a || overflows q.waiting (entry_called (call_now (entered b k) text))) e ∙ fits (none_of_both (is_alone x) (is_hindered b.rows (needs_for b k x) (m ∷ more)) e).0
 
+-- ---- what is left as it was
+
+pub untouched_all : {L M : Type 0} (old new : Logged L) (k l : AtDesk) (q p : AtQueue) (ks ms : List M) → new ≡ old → l ≡ k → p ≡ q → ms ≡ ks → IsUntouched old new k l q p ks ms
+untouched_all old new k l q p ks ms board desk queue members = record { board = board; desk = desk; queue = queue; members = members }
+
+pub still_at : (b : Kept) (k l : AtDesk) → Agrees b k → l ≡ k → IsStillAt b.now k l
+still_at b k l a desk = record {
+  desk = desk ∙ ap (λ (o : Option Granted). record k { open_tx = o }) (sym (ap (λ (j : AtDesk). j.open_tx) desk));
+  same = subst (IsSameIf b.now k.current k.open_tx) (sym (ap (λ (j : AtDesk). j.open_tx) desk)) (same_self (world_of (entered b k)) b.now b.rows k.session k.current k.skipping k.open_tx (seated_agree b k a));
+}
+
+pub not_offered : {L M : Type 0} (old new : Logged L) (k l : AtDesk) (q p : AtQueue) (ks ms : List M) → Agrees old.kept k → IsUntouched old new k l q p ks ms → IsNotOffered old new k l q p ks ms
+not_offered old new k l q p ks ms a u = record { board = u.board; desk = still_at old.kept k l a u.desk; queue = u.queue; members = u.members }
+
 -- ---- a line on a board and desk that agree
 
 module _ (b : Kept) (k : AtDesk) (a : Agrees b k) (text : List ℕ) (x : Stmt) (line : said_of text false ≡ heard k.session x) where
@@ -135,6 +150,23 @@ module _ (b : Kept) (k : AtDesk) (a : Agrees b k) (text : List ℕ) (x : Stmt) (
 
   pub none_stored : k.skipping ≡ false → is_alone x ≡ false → (AsksCommit (call_with w s (Some x)) → ⊥) → entry_called (call_now (entered b k) text) ≡ None
   none_stored goes alone none = ap entry_called call_text ∙ none_asked w b.now b.rows s k.current k.skipping k.open_tx x (roomy_line text s x line) seated goes alone none
+
+  -- it is answered rightly
+  pub rightly_answered : (q : AtQueue) (ms : List AtMember) → k.skipping ≡ false → must_settle b.rows (needs_for b k x) x ms ≡ false → (AsksCommit (call_with w s (Some x)) → ⊥) → (settles_first b k text x q ms ≡ false) × (AsksCommit (call_now (entered b k) text) → ⊥)
+  rightly_answered q ms goes must none =
+      (settles_not b k text x q ms must (λ alone. ap (overflows q.waiting) (none_stored goes alone none)), λ asks. none (subst AsksCommit call_text asks))
+
+  -- it asks to store this commit, which fits beside those that wait, or doesn't
+  module _ (told : Reply) (e : Entry) (c : IsCommitOf (call_with w s (Some x)) (said_now w s x) (Some (e, told))) where
+    entry_now : entry_called (call_now (entered b k) text) ≡ Some e
+    entry_now = ap entry_called (call_text ∙ c.0)
+
+    pub rightly_ticketed : (q : AtQueue) (ms : List AtMember) → must_settle b.rows (needs_for b k x) x ms ≡ false → overflows q.waiting (Some e) ≡ false → (settles_first b k text x q ms ≡ false) × AsksCommit (call_now (entered b k) text)
+    rightly_ticketed q ms must fits =
+        (settles_not b k text x q ms must (λ alone. ap (overflows q.waiting) entry_now ∙ fits), subst AsksCommit (sym call_text) (asks_of (call_with w s (Some x)) e c.0 c.1))
+
+    pub rightly_full : (q : AtQueue) (ms : List AtMember) → (ms ≡ [] → ⊥) → overflows q.waiting (Some e) ≡ true → settles_first b k text x q ms ≡ true
+    rightly_full q ms some full = settles_full b k text x q ms some (ap (overflows q.waiting) entry_now ∙ full)
 
   -- it joins
   pub may_join : (told : Reply) (ns : List Need) (e : Entry) (ms : List AtMember) → IsCommitOf (call_with w s (Some x)) (said_now w s x) (Some (e, told)) → ns ≡ needs_for b k x → must_settle b.rows ns x ms ≡ false → HasNone s ms → MayJoin (entered b k) s text ns e told ms

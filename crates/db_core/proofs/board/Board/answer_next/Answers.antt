@@ -1,4 +1,4 @@
-use Rattle.std.proofs.Common.{◌≡◌, ◌∙◌, ◌<◌, ◌++◌, ◌∷◌, [], ap, sym, subst, true, Bool, List, Option, Some, ℕ, length}
+use Rattle.std.proofs.Common.{◌≡◌, ◌∙◌, ◌<◌, ◌++◌, ◌∷◌, [], refl, ap, sym, subst, true, Bool, List, Option, Some, ℕ, length}
 use Rattle.db_value.specs.declared.reply.Reply.{Reply}
 use Rattle.db_value.specs.declared.step.Step.{Step}
 use Rattle.db_store.specs.State.{State, dataset_of}
@@ -158,34 +158,10 @@ pub returns-in_err-line-clause-kept : goal.returns-in_err-line-clause-kept
 returns-in_err-line-clause-kept g c =
     let b : Kept = c.args.self.now.kept in
     let k : AtDesk = c.args.desk.now in
-    let u = c.desk.view_is in
-    on_err c.from_residual-in_err-line.result _ (record {
-      desk = λ i. record {
-        session = ap (λ (x : AtDesk). x.session) u i;
-        current = ap (λ (x : AtDesk). x.current) u i;
-        name = ap (λ (x : AtDesk). x.name) u i;
-        skipping = ap (λ (x : AtDesk). x.skipping) u i;
-        open_tx = c.desk.inside.session.tx;
-        schema = ap (λ (x : AtDesk). x.schema) u i;
-        waiting = ap (λ (x : AtDesk). x.waiting) u i;
-      };
-      same = subst (IsSameIf b.now k.current k.open_tx) (sym (ap (λ (x : AtDesk). x.open_tx) u)) (same_self (world_of (entered b k)) b.now b.rows k.session k.current k.skipping k.open_tx (seated_agree b k c.requires.agree));
-    })
+    on_err c.from_residual.result _ (record { desk = refl; same = same_self (world_of (entered b k)) b.now b.rows k.session k.current k.skipping k.open_tx (seated_agree b k c.requires.agree) })
 
 pub returns-in_err-reserve-clause-kept : goal.returns-in_err-reserve-clause-kept
 returns-in_err-reserve-clause-kept g c =
     let b : Kept = c.args.self.now.kept in
     let k : AtDesk = c.args.desk.now in
-    let u = c.desk.view_is in
-    on_err c.from_residual-in_err-reserve.result _ (record {
-      desk = λ i. record {
-        session = ap (λ (x : AtDesk). x.session) u i;
-        current = ap (λ (x : AtDesk). x.current) u i;
-        name = ap (λ (x : AtDesk). x.name) u i;
-        skipping = ap (λ (x : AtDesk). x.skipping) u i;
-        open_tx = c.desk.inside.session.tx;
-        schema = ap (λ (x : AtDesk). x.schema) u i;
-        waiting = ap (λ (x : AtDesk). x.waiting) u i;
-      };
-      same = subst (IsSameIf b.now k.current k.open_tx) (sym (ap (λ (x : AtDesk). x.open_tx) u)) (same_self (world_of (entered b k)) b.now b.rows k.session k.current k.skipping k.open_tx (seated_agree b k c.requires.agree));
-    })
+    on_err c.from_residual-in_err-reserve.result _ (record { desk = refl; same = same_self (world_of (entered b k)) b.now b.rows k.session k.current k.skipping k.open_tx (seated_agree b k c.requires.agree) })
