@@ -1,12 +1,12 @@
 //! Lines of two sessions that wait for one append. The answers are written by hand.
-ghost use Rattle.std.specs.Prelude.{◌≡◌, [], true, false, IfOk, OnOk};
+ghost use Rattle.std.specs.Prelude.{◌≡◌, ◌≢◌, [], true, false, IfOk, OnOk};
 ghost use Rattle.reply_text.specs.Reply.{NamesItsRows};
 ghost use Rattle.db_core.specs.Order.{said_of};
 ghost use Rattle.db_core.specs.Sits.{heard};
 ghost use Rattle.db_core.specs.Kept.{Stands};
 ghost use Rattle.db_core.specs.Waiting.{AreOffered};
 ghost use Rattle.core_tests.specs.Batched.{MayTell, HasJoined, IsTold};
-ghost use Rattle.core_tests.specs.Desks.{IsBare, KeepsOthers};
+ghost use Rattle.core_tests.specs.Desks.{IsBare};
 
 use crate::desk_tests::{bytes_of, hold, new_store, tells_no_rows, text_of, two_desks};
 use crate::fault_tests::Faulty;
@@ -20,8 +20,11 @@ use std::process::Abort;
 use std::test::Fail;
 use stmt_text::{Stmt, read_line};
 
-// Session 2 has changed dev in a transaction, and its commit waits. Session 1 is on master.
-const BESIDE: &str = "\
+// Session 2 has changed dev in a transaction, and session 1 is on master. What is told are the row of
+// the line that waits first, rows of the other session, its row that waits too, and the last two steps.
+const COMMIT_FIRST: [&str; 4] = [
+    "ticketed|2 commit|ok dev@1",
+    "\
 first|1 get items 7 in dev|;\
 answered|1 get items 7 in dev@0|none;\
 answered|1 get items 7|none;\
@@ -33,16 +36,28 @@ answered|1 delete items 9|refused 7 key missing items 9;\
 answered|1 begin|ok;\
 answered|1 insert items 9 9 9|ok;\
 first|1 get items 7 in dev|;\
-answered|1 abort|ok";
+answered|1 abort|ok",
+    "ticketed|1 insert items 1 1 1|ok master@1",
+    "|2 commit|ok dev@1;|1 insert items 1 1 1|ok master@1",
+];
 
-// The last two steps: whether each has the mark, its line, and its reply.
-const STORED: &str = "\
-|2 commit|ok dev@1;\
-|1 insert items 1 1 1|ok master@1";
+const INSERT_FIRST: [&str; 4] = [
+    "ticketed|1 insert items 1 1 1|ok master@1",
+    "\
+first|2 get items 1 in master|;\
+answered|2 get items 1 in master@0|none;\
+first|2 segments|;\
+first|2 scan items in dev,master|",
+    "ticketed|2 commit|ok dev@1",
+    "|1 insert items 1 1 1|ok master@1;|2 commit|ok dev@1",
+];
 
-const FAILED: &str = "\
-marked|2 commit|refused 19 fault disk;\
-marked|1 insert items 1 1 1|refused 19 fault disk";
+const FAILED: [&str; 4] = [
+    "ticketed|2 commit|ok dev@1",
+    "first|1 get items 7 in dev|",
+    "ticketed|1 insert items 1 1 1|ok master@1",
+    "marked|2 commit|refused 19 fault disk;marked|1 insert items 1 1 1|refused 19 fault disk",
+];
 
 /// A board, and the lines that wait for its log together.
 #[derive(Drop)]
@@ -53,7 +68,7 @@ struct Batched<St: Store, J: Log<St>> {
 }
 
 // A board beside which no line waits.
-fn batched<St: Store, J: Log<St>>(
+fn new_batched<St: Store, J: Log<St>>(
     alloc: Global,
     board: Board<St, J>,
 ) -> Result<Batched<St, J>, Fail>
@@ -257,54 +272,97 @@ fn settle<St: Store, J: Log<St>>(
     are_last(rt, alloc, shared.board.steps(), rows)
 }
 
-// Session 2 has changed dev.
-fn change_dev<St: Store, J: Log<St>>(
+// A board, and desks of the sessions 1 and 2. Session 2 has changed dev in its open transaction.
+fn with_change<St: Store, J: Log<St>>(
     alloc: Global,
-    board: &mut Board<St, J>,
-    desk: &mut Desk<St>,
-) -> Result<(), Fail>
-    requires { IsBare 2 board.old.kept desk.old }
-    ensures bare { OnOk result (IsBare 2 board.new.kept desk.new) }
-    ensures others { OnOk result (KeepsOthers 2 board.old.kept board.new.kept) }
+    store: St,
+    log: J,
+) -> Result<(Board<St, J>, Desk<St>, Desk<St>), Fail>
+    ensures first { IfOk result (λ p. IsBare 1 p.0.kept p.1) }
+    ensures second { IfOk result (λ p. IsBare 2 p.0.kept p.2) }
 {
+    let (mut board, first, mut second) = two_desks(alloc, store, log)?;
     let made = "> 2 branch dev of master\nok dev@0\n";
-    hold(alloc, board, desk, "2 branch dev of master", made)?;
-    hold(alloc, board, desk, "2 on dev", "> 2 on dev\nok\n")?;
-    hold(alloc, board, desk, "2 begin", "> 2 begin\nok\n")?;
+    hold(
+        alloc,
+        &mut board,
+        &mut second,
+        "2 branch dev of master",
+        made,
+    )?;
+    hold(
+        alloc,
+        &mut board,
+        &mut second,
+        "2 on dev",
+        "> 2 on dev\nok\n",
+    )?;
+    hold(alloc, &mut board, &mut second, "2 begin", "> 2 begin\nok\n")?;
     let changed = "> 2 insert items 7 7 7\nok\n";
-    hold(alloc, board, desk, "2 insert items 7 7 7", changed)
+    hold(
+        alloc,
+        &mut board,
+        &mut second,
+        "2 insert items 7 7 7",
+        changed,
+    )?;
+    Ok((board, first, second))
 }
 
-// Two lines wait together, and are settled.
-fn run<St: Store, J: Log<St>>(
+// A line of one session waits, and lines of the other are offered beside it, until one of these waits
+// too. Then both are settled.
+fn share<St: Store, J: Log<St>>(
+    rt: &impl Abort,
+    alloc: Global,
+    board: Board<St, J>,
+    one: (Desk<St>, u32),
+    other: (Desk<St>, u32),
+    rows: [&str; 4],
+    versions: u32,
+) -> Result<(), Fail>
+    requires one { IsBare one.1 board.kept one.0 }
+    requires other { IsBare other.1 board.kept other.0 }
+    requires two { other.1 ≢ one.1 }
+{
+    let [joins, beside, other_joins, settled] = rows;
+    let (mut one, first) = one;
+    let (mut other, second) = other;
+    let mut shared = new_batched(alloc, board)?;
+    join(rt, alloc, &mut shared, &mut one, first, joins)?;
+    offer_rows(rt, alloc, &mut shared, &mut other, second, beside)?;
+    join(rt, alloc, &mut shared, &mut other, second, other_joins)?;
+    settle(rt, alloc, &mut shared, settled, versions)
+}
+
+// The commit of session 2 waits first.
+fn commit_first<St: Store, J: Log<St>>(
     rt: &impl Abort,
     alloc: Global,
     store: St,
     log: J,
-    rows: &str,
+    rows: [&str; 4],
     versions: u32,
 ) -> Result<(), Fail> {
-    let (mut board, mut first, mut second) = two_desks(alloc, store, log)?;
-    change_dev(alloc, &mut board, &mut second)?;
-    let mut shared = batched(alloc, board)?;
-    join(
-        rt,
-        alloc,
-        &mut shared,
-        &mut second,
-        2,
-        "ticketed|2 commit|ok dev@1",
-    )?;
-    offer_rows(rt, alloc, &mut shared, &mut first, 1, BESIDE)?;
-    let row = "ticketed|1 insert items 1 1 1|ok master@1";
-    join(rt, alloc, &mut shared, &mut first, 1, row)?;
-    settle(rt, alloc, &mut shared, rows, versions)
+    let (board, first, second) = with_change(alloc, store, log)?;
+    share(rt, alloc, board, (second, 2), (first, 1), rows, versions)
+}
+
+// A change of session 1 waits first.
+fn insert_first<St: Store>(
+    rt: &impl Abort,
+    alloc: Global,
+    store: St,
+    rows: [&str; 4],
+) -> Result<(), Fail> {
+    let (board, first, second) = with_change(alloc, store, NoLog)?;
+    share(rt, alloc, board, (first, 1), (second, 2), rows, 1)
 }
 
 #[test]
 fn lines_of_two_sessions_share_an_append(rt: HostRuntime) -> Result<(), Fail> {
     let alloc = rt.alloc();
-    run(&rt, alloc, new_store(alloc)?, NoLog, STORED, 1)
+    commit_first(&rt, alloc, new_store(alloc)?, NoLog, COMMIT_FIRST, 1)?;
+    insert_first(&rt, alloc, new_store(alloc)?, INSERT_FIRST)
 }
 
 #[test]
@@ -314,5 +372,5 @@ fn a_failed_batch_refuses_each_of_its_lines(rt: HostRuntime) -> Result<(), Fail>
         fails: false,
         count: 0,
     };
-    run(&rt, alloc, new_store(alloc)?, log, FAILED, 0)
+    commit_first(&rt, alloc, new_store(alloc)?, log, FAILED, 0)
 }
