@@ -9,6 +9,10 @@ pub mod Heard
 pub mod Groups
 pub mod Accounts
 pub mod Runs
+pub mod Members
+pub mod Waiting
+pub mod Offers
 pub mod Desk
 pub mod Sessions
 pub mod Local
+pub mod Settled

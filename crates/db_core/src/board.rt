@@ -1,5 +1,5 @@
 //! The board: a dataset, and the lines that were run on it.
-ghost use Rattle.std.specs.Prelude.{◌≡◌, [], None, false, IfOk, IfErr, OnOk, OnErr};
+ghost use Rattle.std.specs.Prelude.{◌≡◌, [], None, true, false, IfOk, IfErr, OnOk, OnErr};
 ghost use Rattle.db_store.specs.State.{dataset_of};
 ghost use Rattle.stmt_text.specs.declared.stmt.Stmt.{Stmt};
 ghost use Rattle.db_outside.specs.Count.{counted};
@@ -7,7 +7,7 @@ ghost use Rattle.db_core.specs.Order.{said_of};
 ghost use Rattle.db_core.specs.Kept.{Stands, new_kept};
 ghost use Rattle.db_core.specs.Answered.{Ran, IsRefused, Ended, Saved};
 ghost use Rattle.db_value.specs.declared.reply.Reply.TheVariants.{Done};
-ghost use Rattle.store_tx.specs.Stored.{told_if};
+ghost use Rattle.store_tx.specs.Stored.{told_if, is_branch};
 ghost use Rattle.db_core.specs.Sits.{heard, unheard};
 ghost use Rattle.db_core.specs.Sessions.{SitsOn};
 
@@ -25,18 +25,21 @@ use store_tx::{Answer, branch_of, carry_out, refusal, save};
 
 /// A board is a store of a dataset and its log, the state on which it began, the lines since then
 /// with their replies, the needs that are granted, and how often the log had failed at the beginning.
+/// For as many members of a batch as it is ready for, their memory is taken.
 #[derive(Drop)]
 pub struct Board<St: Store, J: Log<St>> {
-    alloc: Global,
+    pub(crate) alloc: Global,
     opening: St,
-    store: St,
-    log: J,
+    pub(crate) store: St,
+    pub(crate) log: J,
     first_count: u64,
-    steps: Vec<Step>,
-    locks: Locks,
+    pub(crate) steps: Vec<Step>,
+    pub(crate) locks: Locks,
+    pub(crate) ready: usize,
 }
 
 impl<St: Store, J: Log<St>> Model for Board<St, J> {
+    ghost use Rattle.std.specs.Prelude.{◌≤◌, ◌+◌, vec_len, vec_capacity};
     ghost use Rattle.std.specs.Coded.{codes};
     ghost use Rattle.db_store.specs.Table.{contents_code};
     ghost use Rattle.db_core.specs.Kept.{Logged};
@@ -54,7 +57,11 @@ impl<St: Store, J: Log<St>> Model for Board<St, J> {
         first_count = b.first_count;
       };
       log = b.log;
+      ready = b.ready;
     } };
+
+    ghost invariant = { λ b. (b.ready ≤ St.spare b.store)
+        × (vec_len b.steps + b.ready ≤ vec_capacity b.steps) };
 }
 
 // A second store of the same state, and a lock table without rows.
@@ -77,6 +84,18 @@ fn told_of(failed: bool) -> Reply
     Reply::Done
 }
 
+// For how many members memory is taken after a statement: what was prepared before a new branch
+// serves no more.
+pub(crate) fn ready_after(stmt: &Stmt, ready: usize) -> usize
+    ensures none { is_branch stmt.now ≡ true → result ≡ 0 }
+    ensures same { is_branch stmt.now ≡ false → result ≡ ready }
+{
+    match stmt {
+        Stmt::Branch { .. } => 0,
+        _ => ready,
+    }
+}
+
 impl<St: Store, J: Log<St>> Board<St, J> {
     /// A board on which nothing was run. Want of memory gives store and log back.
     pub fn new(alloc: Global, store: St, log: J) -> Result<Board<St, J>, (AllocError, St, J)>
@@ -84,6 +103,7 @@ impl<St: Store, J: Log<St>> Board<St, J> {
         ensures kept { IfOk result
             (λ b. b.kept ≡ new_kept (St.state store) (counted (J.faults log))) }
         ensures log { IfOk result (λ b. b.log ≡ log) }
+        ensures ready { IfOk result (λ b. b.ready ≡ 0) }
     {
         match parts_of(alloc, &store) {
             Err(stop) => Err((stop, store, log)),
@@ -97,6 +117,7 @@ impl<St: Store, J: Log<St>> Board<St, J> {
                     first_count,
                     steps: Vec::new(alloc),
                     locks,
+                    ready: 0,
                 })
             }
         }
@@ -134,6 +155,7 @@ impl<St: Store, J: Log<St>> Board<St, J> {
 
     // Answers a line of a session at once, and keeps it with its reply and mark. Want of memory leaves
     // board and session as before.
+    #[tactic(auto, using(crate::proofs::Spares::ready_less, crate::proofs::Spares::ready_within))]
     pub(crate) fn serve(
         &mut self,
         session: &mut Session<St>,
@@ -146,9 +168,10 @@ impl<St: Store, J: Log<St>> Board<St, J> {
         ensures sits { SitsOn self.new.kept session.new }
         ensures number { session.new.number ≡ session.old.number }
         ensures err { OnErr result (self.new ≡ self.old) }
+        ensures ready { is_branch stmt.now ≡ false → self.new.ready ≡ self.old.ready }
     {
         let line = text.duplicate()?;
-        self.steps.reserve(1)?;
+        self.steps.reserve(self.ready + 1)?;
         let answered = answer(
             self.alloc,
             &mut self.store,
@@ -164,6 +187,7 @@ impl<St: Store, J: Log<St>> Board<St, J> {
             failed,
             reply: copy,
         });
+        self.ready = ready_after(stmt, self.ready);
         Ok(reply)
     }
 
@@ -179,20 +203,22 @@ impl<St: Store, J: Log<St>> Board<St, J> {
         ensures refused { IfOk result (IsRefused self.old self.new text.now) }
         ensures stands { Stands self.new.kept }
         ensures err { OnErr result (self.new ≡ self.old) }
+        ensures ready { self.new.ready ≡ self.old.ready }
     {
         let line = text.duplicate()?;
         let why = why_bad(session.skipping);
-        self.steps.push(Step {
+        self.steps.reserve(self.ready + 1)?;
+        self.steps.push_reserved(Step {
             line,
             failed: false,
             reply: refusal(&why),
-        })?;
+        });
         Ok(refusal(&why))
     }
 }
 
 impl<St: Store, J: Log<St>> Board<St, J> {
-    ghost use Rattle.std.specs.Prelude.{is_some, true};
+    ghost use Rattle.std.specs.Prelude.{is_some};
     ghost use Rattle.db_core.specs.Desk.{Agrees, IsDeskOf, IsLeft, AsksFor, entered, cleared, rows_by, needs_for, holder_for};
     ghost use Rattle.store_tx.specs.Statements.{HasName, entry_over, branch_out, branch_entry};
     ghost use Rattle.db_core.specs.Sits.{tx_of};
@@ -210,6 +236,7 @@ impl<St: Store, J: Log<St>> Board<St, J> {
         ensures err { OnErr result (self.new ≡ self.old) }
         ensures kept { OnErr result (desk.new ≡ desk.old) }
     {
+        self.steps.reserve(desk.waiting.len() + self.ready)?;
         self.steps.append(&mut desk.waiting)?;
         Ok(())
     }
@@ -230,6 +257,7 @@ impl<St: Store, J: Log<St>> Board<St, J> {
         ensures waiting { OnOk result (desk.new.waiting ≡ []) }
         ensures err { OnErr result (IsLeft self.old.kept desk.old self.new.kept desk.new
             × (self.new.log ≡ self.old.log)) }
+        ensures ready { is_branch stmt.now ≡ false → self.new.ready ≡ self.old.ready }
     {
         self.enter(desk)?;
         let reply = self.serve(&mut desk.session, text, stmt)?;
@@ -243,6 +271,7 @@ impl<St: Store, J: Log<St>> Board<St, J> {
         ensures board { self.new.kept
             ≡ record self.old.kept { rows = without desk.old.session self.old.kept.rows } }
         ensures desk { desk.new ≡ record desk.old { open_tx = None; skipping = false } }
+        ensures ready { self.new.ready ≡ self.old.ready }
     {
         self.locks.release(desk.session.number);
         close(&mut desk.session, false);
@@ -262,9 +291,11 @@ impl<St: Store, J: Log<St>> Board<St, J> {
             (branch_out (dataset_of self.old.kept.now) name.now of.now).reply) }
         ensures desk { desk.new ≡ desk.old }
         ensures err { OnErr result (self.new ≡ self.old) }
+        ensures ready { OnOk result (self.new.ready ≡ 0) }
     {
         let plan = branch_of(&self.store, name, of);
         let answer = carry_out(self.alloc, &mut self.store, &mut self.log, plan)?;
+        self.ready = 0;
         self.locks.release(desk.session.number);
         let (reply, _) = answer.told.into_both();
         Ok(reply)
@@ -285,6 +316,7 @@ impl<St: Store, J: Log<St>> Board<St, J> {
             ≡ record desk.old { open_tx = None; skipping = false }) }
         ensures err { OnErr result (self.new ≡ self.old) }
         ensures kept { OnErr result (desk.new ≡ desk.old) }
+        ensures ready { self.new.ready ≡ self.old.ready }
     {
         let branch = desk.session.current;
         let number = desk.session.number;
@@ -312,6 +344,7 @@ impl<St: Store, J: Log<St>> Board<St, J> {
     pub fn checkpoint(&mut self) -> Result<Reply, AllocError>
         ensures answered { IfOk result (Saved J.Log self.old self.new) }
         ensures err { OnErr result (self.new ≡ self.old) }
+        ensures ready { self.new.ready ≡ self.old.ready }
     {
         let failed = save(&self.store, &mut self.log)?;
         Ok(told_of(failed))

@@ -4,6 +4,7 @@ ghost use Rattle.db_core.specs.Desk.{NewDeskLaw, OtherLinesLaw};
 ghost use Rattle.db_core.specs.Local.{LocalLaw};
 ghost use Rattle.db_core.specs.Marks.{FailedLaw, RefusedLaw};
 ghost use Rattle.db_core.specs.Groups.{AloneLaw, UnmarkedLaw, UnfailedGroupsLaw};
+ghost use Rattle.db_core.specs.Members.{MemberLaw};
 ghost use Rattle.db_core.specs.Accounts.{UnfailedLaw, OneOpeningLaw, NoImageLaw};
 
 /// A line that is read has a room that can be.
@@ -84,4 +85,9 @@ pub fn one_opening_law()
 /// Lines of which none is a checkpoint ask for no image.
 pub fn no_image_law()
     ensures { NoImageLaw }
+{}
+
+/// A line that waits for its batch waits on under lines of other sessions whose needs don't conflict.
+pub fn member_law()
+    ensures { MemberLaw }
 {}

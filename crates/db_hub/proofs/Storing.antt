@@ -35,8 +35,8 @@ module _ {L S V P Q : Type 0} (g : Ghosts L S V P Q) where
     since_told text (Ok y) ran left = λ first e.
         steps_ran g first (record b { kept = entered b.kept k }) c text y agree.entered_stands ran (since_entered first e)
     since_told text (Err x) ran left = ⊎_elim
-        (λ (a : (c.kept ≡ b.kept) × (m ≡ k)). subst (Since named) (λ i. record { kept = sym a.0 i; log = sym left.1 i }) since)
-        (λ (a : (c.kept ≡ entered b.kept k) × (m ≡ record (cleared k) { open_tx = m.open_tx })). subst (Since named) (λ i. record { kept = sym a.0 i; log = sym left.1 i }) since_entered)
+        (λ (a : (c.kept ≡ b.kept) × (m ≡ k)). subst (Since named) (λ i. record { kept = sym a.0 i; log = sym left.1 i; ready = c.ready }) since)
+        (λ (a : (c.kept ≡ entered b.kept k) × (m ≡ record (cleared k) { open_tx = m.open_tx })). subst (Since named) (λ i. record { kept = sym a.0 i; log = sym left.1 i; ready = c.ready }) since_entered)
         left.0
 
     -- by what entering the desk's lines told

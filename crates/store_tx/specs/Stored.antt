@@ -1,6 +1,7 @@
 -- What a log does for a line.
 use Rattle.std.specs.Prelude.{◌≡◌, ◌⊎◌, ◌≤◌, ◌∷◌, ◌++◌, [], ℕ, cond, Bool, true, false, List, Option, Some, None}
 use Rattle.db_value.specs.declared.entry.Entry.{Entry}
+use Rattle.db_value.specs.declared.entry.Entry.TheVariants.{Commit as CommitEntry, Branch as BranchEntry}
 use Rattle.db_value.specs.declared.reply.Reply.{Reply}
 use Rattle.db_value.specs.declared.reply.Reply.TheVariants.{Refused}
 use Rattle.db_value.specs.declared.reply.Refusal.TheVariants.{FaultDisk}
@@ -9,7 +10,7 @@ use Rattle.db_store.specs.Fits.{fits}
 use Rattle.db_store.specs.State.{State, grow}
 use Rattle.db_outside.specs.Device.{Rose}
 use Rattle.stmt_text.specs.declared.stmt.Stmt.{Stmt}
-use Rattle.stmt_text.specs.declared.stmt.Stmt.TheVariants.{Checkpoint}
+use Rattle.stmt_text.specs.declared.stmt.Stmt.TheVariants.{Branch, Checkpoint}
 use Rattle.entry_codec.specs.declared.log.Log.{Ghosts}
 use Rattle.entry_codec.specs.Spelling.{spellings}
 use Rattle.entry_codec.specs.Laws.{IsNamed}
@@ -91,6 +92,17 @@ told_if false r = r
 abbrev pub stored_if : Bool → Option Entry → Option Entry
 stored_if true entry = None
 stored_if false entry = entry
+
+-- whether a statement makes a branch
+abbrev pub is_branch : Stmt → Bool
+is_branch (Branch name origin) = true
+is_branch _ = false
+
+-- A store can install as many prepared commits as before, or more. Where a new branch is added, that isn't told.
+abbrev pub SparesIf : Option Entry → (old new : ℕ) → Type 0
+SparesIf None old new = old ≤ new
+SparesIf (Some (CommitEntry branch second changes)) old new = old ≤ new
+SparesIf (Some (BranchEntry name origin)) old new = Unit {0}
 
 -- ---- what the log does
 

@@ -1,12 +1,12 @@
 //! What a line asks of the log: its entry goes to the log and then to the store, or the state is written
 //! as an image.
-ghost use Rattle.std.specs.Prelude.{◌≡◌, Some, None, true, false, IfOk, OnOk, OnErr};
+ghost use Rattle.std.specs.Prelude.{◌≡◌, ◌≤◌, Some, None, true, false, IfOk, OnOk, OnErr};
 ghost use Rattle.db_store.specs.Fits.{fits};
 ghost use Rattle.db_store.specs.State.{dataset_of};
 ghost use Rattle.entry_codec.specs.Spelling.{spelling};
 ghost use Rattle.entry_codec.specs.Laws.{IsNamed, IsEntry};
 ghost use Rattle.store_tx.specs.Ends.{grown};
-ghost use Rattle.store_tx.specs.Stored.{Stores, entry_called, told_if, stored_if, FitsIf, IsNamedIf};
+ghost use Rattle.store_tx.specs.Stored.{Stores, entry_called, told_if, stored_if, FitsIf, IsNamedIf, SparesIf};
 
 use crate::twice::{Twice, refused};
 use db_outside::{Batch, BatchStop};
@@ -89,6 +89,9 @@ fn add_entry<St: Store>(store: &mut St, entry: &Entry) -> Result<(), AllocError>
     requires fits { fits (dataset_of (St.state store.old)) entry.now ≡ true }
     ensures ok { OnOk result (St.state store.new ≡ grown (St.state store.old) (Some entry.now)) }
     ensures err { OnErr result (St.state store.new ≡ St.state store.old) }
+    ensures spare { OnOk result
+        (SparesIf (Some entry.now) (St.spare store.old) (St.spare store.new)) }
+    ensures spared { OnErr result (St.spare store.old ≤ St.spare store.new) }
 {
     match entry {
         Entry::Commit { .. } => {
@@ -117,6 +120,9 @@ fn store_entry<St: Store, J: Log<St>>(
     ensures stores { IfOk result (λ failed. Stores J.Log (St.state store.old) failed
         (LogCall.Append entry.now) log.old log.new) }
     ensures err { OnErr result ((St.state store.new ≡ St.state store.old) × (log.new ≡ log.old)) }
+    ensures spare { OnOk result
+        (SparesIf (Some entry.now) (St.spare store.old) (St.spare store.new)) }
+    ensures spared { OnErr result (St.spare store.old ≤ St.spare store.new) }
 {
     if log.stores_nothing() {
         add_entry(store, entry)?;
@@ -192,6 +198,9 @@ pub fn carry_out<St: Store, J: Log<St>>(
     ensures stores { IfOk result (λ a. Stores J.Log (St.state store.old) a.failed plan.call log.old
         log.new) }
     ensures err { OnErr result ((St.state store.new ≡ St.state store.old) × (log.new ≡ log.old)) }
+    ensures spare { OnOk result
+        (SparesIf (entry_called plan.call) (St.spare store.old) (St.spare store.new)) }
+    ensures spared { OnErr result (St.spare store.old ≤ St.spare store.new) }
 {
     let Plan { told, call, .. } = plan;
     match call {
