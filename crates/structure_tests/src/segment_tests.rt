@@ -1,5 +1,5 @@
 //! Segments over several pages, and over more than a block of them.
-ghost use Rattle.std.specs.Prelude.{◌≡◌, ◌+◌, ◌^◌, ◌<◌, ◌≤◌, ◌×◌, length, IfOk};
+ghost use Rattle.std.specs.Prelude.{◌≡◌, ◌+◌, ◌^◌, ◌<◌, ◌≤◌, length, IfOk};
 ghost use Rattle.segment.specs.Pages.{AreWide, page_count};
 
 use crate::asserts::same_at;
