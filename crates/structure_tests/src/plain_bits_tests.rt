@@ -1,5 +1,5 @@
 //! Bitmaps against plain loops.
-ghost use Rattle.std.specs.Prelude.{◌≡◌, length, IfOk};
+ghost use Rattle.std.specs.Prelude.{◌≡◌, ◌<◌, ◌≤◌, length, IfOk};
 
 use crate::asserts::{holds, same};
 use plain_bits::Bits;
