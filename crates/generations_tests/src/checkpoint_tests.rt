@@ -98,7 +98,8 @@ fn leaves(
     holds_at(rt, "as written", second, new);
 }
 
-// The same if a pending byte is 1, which opens each gate that is pending, and if it is 7, which opens none.
+// The same if a pending byte is 1, which opens each gate that is pending, and if it is 7, which
+// opens none.
 fn leaves_bytes(
     rt: &impl Abort,
     alloc: Global,
@@ -118,7 +119,8 @@ fn is_at(dataset: &Dataset<MemDisk>, generation: u64, counted: u8, place: u64) -
     dataset.generation() == generation && dataset.counted() == counted && dataset.place() == place
 }
 
-// The call of the second disk, and what is left if pending ranges are as before, and if they are as written.
+// The call of the second disk, and what is left if pending ranges are as before, and if they are as
+// written.
 const STOPS: [(u64, Told, Told); 7] = [
     (2, FIRST, FIRST),
     (3, FIRST, FIRST),
@@ -143,7 +145,8 @@ fn stops_a_checkpoint_at_each_call_by_the_table(rt: HostRuntime) -> Result<(), F
     Ok(())
 }
 
-// The calls of the first disk and of the second, and what is left as pending ranges are as before, and as written.
+// The calls of the first disk and of the second, and what is left as pending ranges are as before,
+// and as written.
 const REPAIRS: [(u64, u64, Told, Told); 5] = [
     (10, 7, FIRST, SECOND),
     (10, 8, FIRST, SECOND),
@@ -152,8 +155,8 @@ const REPAIRS: [(u64, u64, Told, Told); 5] = [
     (14, 10, FIRST_TWO, FIRST_TWO),
 ];
 
-// The disks of a dataset whose checkpoint failed at the eighth call, which is the sync behind the opening of the
-// other file's gate, after one entry more.
+// The disks of a dataset whose checkpoint failed at the eighth call, which is the sync behind the
+// opening of the other file's gate, after one entry more.
 fn repaired(rt: &impl Abort, alloc: Global) -> Option<Pair<MemDisk>> {
     let Some((mut dataset, Err(CheckpointStop::DiskFault))) = tried(alloc, &[8]) else {
         return None;

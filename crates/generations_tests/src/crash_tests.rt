@@ -35,7 +35,8 @@ fn both_appended(alloc: Global, failing: &[u64]) -> Option<(Dataset<MemDisk>, bo
     Some((dataset, first, second))
 }
 
-// The call, and the entries that are left if pending ranges are as before, and if they are as written.
+// The call, and the entries that are left if pending ranges are as before, and if they are as
+// written.
 const STOPS: [(u64, Option<u32>, Option<u32>); 15] = [
     (0, None, None),
     (1, None, None),

@@ -107,7 +107,8 @@ const UNFIT: [u8; 36] = [
     0, 0, 0, 0,
 ];
 
-/// A file of two bodies: its generation, how many bytes of the image it has, and where it is damaged and why, if it is.
+/// A file of two bodies: its generation, how many bytes of the image it has, and where it is
+/// damaged and why, if it is.
 struct Damage {
     name: &'static str,
     generation: u64,

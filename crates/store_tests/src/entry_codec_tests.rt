@@ -47,7 +47,7 @@ fn size_of(alloc: Global, bytes: &[u8]) -> Result<Option<usize>, EntryStop> {
 
 #[rattlefmt::skip]
 const FRONTS: [(&str, &[u8], usize, Option<usize>); 7] = [
-    // what stands at the front          the bytes                                               how many of them  its size
+    // what stands at the front          the bytes, how many of them, its size
     ("a commit",                         &ONE,                                                   36,               Some(36)),
     ("a commit without its last byte",   &ONE,                                                   35,               None),
     ("changes that descend",             &DESCENDING,                                            46,               None),

@@ -59,7 +59,8 @@ fn items(alloc: Global) -> Result<Schema, Fail> {
     Ok(schema)
 }
 
-// Branches and keys: both branches get equal records, and the first record is changed and back on the new one.
+// Branches and keys: both branches get equal records, and the first record is changed and back on
+// the new one.
 const PUTS: [(u32, u64, [i64; 2]); 4] = [
     (0, 8, [5, 5]),
     (1, 8, [5, 5]),

@@ -177,7 +177,8 @@ fn agrees_with_a_tree_in_each_order(rt: HostRuntime) -> Result<(), Fail> {
     Ok(())
 }
 
-// Changes of all keys and of some again, in the order of a step. Each third of them removes its key.
+// Changes of all keys and of some again, in the order of a step. Each third of them removes its
+// key.
 fn many_changes(alloc: Global, round: u32, step: u64) -> Result<Vec<(u64, Place)>, AllocError>
     requires round { round < 3 }
     requires step { step < 10000 }

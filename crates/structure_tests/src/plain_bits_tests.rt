@@ -267,7 +267,8 @@ fn kernels_equal_plain_loops(rt: HostRuntime) -> Result<(), Fail> {
     Ok(())
 }
 
-// The first place, from the last one on, at which a search finds another place than a plain loop, if there is one.
+// The first place, from the last one on, at which a search finds another place than a plain loop,
+// if there is one.
 fn first_wrong(bits: &Bits) -> Option<u32> {
     let mut found = None;
     for from in (0..bits.len()).rev() {
