@@ -1,5 +1,6 @@
 //! A crash at each call of making a dataset and of two appends. The expected counts are written by
 //! hand.
+use crate::asserts::{holds, holds_at};
 use crate::files::{ONE, TWO, Told, appends, batch_of, created, opened};
 use db_memdev::{Fill, MemDisk};
 use generations::{Dataset, OpenStop, Pair};
@@ -34,57 +35,77 @@ fn both_appended(alloc: Global, failing: &[u64]) -> Option<(Dataset<MemDisk>, bo
     Some((dataset, first, second))
 }
 
+// The call, and the entries that are left if pending ranges are as before, and if they are as
+// written.
+const STOPS: [(u64, Option<u32>, Option<u32>); 15] = [
+    (0, None, None),
+    (1, None, None),
+    (2, None, None),
+    (3, None, None),
+    (4, None, None),
+    (5, None, Some(0)),
+    (6, Some(0), Some(0)),
+    (7, Some(0), Some(0)),
+    (8, Some(0), Some(0)),
+    (9, Some(0), Some(1)),
+    (10, Some(1), Some(1)),
+    (11, Some(1), Some(1)),
+    (12, Some(1), Some(1)),
+    (13, Some(1), Some(2)),
+    (14, Some(2), Some(2)),
+];
+
+// A crash at a call leaves so many entries.
+fn leaves(
+    rt: &impl Abort,
+    alloc: Global,
+    disk: &MemDisk,
+    call: u64,
+    fill: Fill,
+    entries: Option<u32>,
+) {
+    holds_at(
+        rt,
+        "the call",
+        call,
+        left(alloc, disk, call, fill) == told(entries),
+    );
+}
+
 #[test]
-#[rattlefmt::skip]
 fn stops_at_each_call_by_the_table(rt: HostRuntime) -> Result<(), Fail> {
-    let alloc = rt.alloc();
-    let Some((dataset, true, true)) = both_appended(alloc, &[]) else {
+    let Some((dataset, true, true)) = both_appended(rt.alloc(), &[]) else {
         return Err("not appended")?;
     };
     let Pair { first, second: _ } = dataset.into_disks();
-    // The call, and the entries that are left if pending ranges are as before, and if they are as written.
-    let cases = [
-        (0u64, None, None),
-        (1, None, None),
-        (2, None, None),
-        (3, None, None),
-        (4, None, None),
-        (5, None, Some(0u32)),
-        (6, Some(0), Some(0)),
-        (7, Some(0), Some(0)),
-        (8, Some(0), Some(0)),
-        (9, Some(0), Some(1)),
-        (10, Some(1), Some(1)),
-        (11, Some(1), Some(1)),
-        (12, Some(1), Some(1)),
-        (13, Some(1), Some(2)),
-        (14, Some(2), Some(2)),
-    ];
-    for (call, before, after) in cases {
-        assert_eq!(rt; left(alloc, &first, call, Fill::Old), told(before), "{call}");
-        assert_eq!(rt; left(alloc, &first, call, Fill::New), told(after), "{call}");
-        assert_eq!(rt; left(alloc, &first, call, Fill::Byte(1)), told(after), "{call}");
-        assert_eq!(rt; left(alloc, &first, call, Fill::Byte(7)), told(before), "{call}");
+    for (call, before, after) in &STOPS {
+        leaves(&rt, rt.alloc(), &first, *call, Fill::Old, *before);
+        leaves(&rt, rt.alloc(), &first, *call, Fill::New, *after);
+        leaves(&rt, rt.alloc(), &first, *call, Fill::Byte(1), *after);
+        leaves(&rt, rt.alloc(), &first, *call, Fill::Byte(7), *before);
     }
     Ok(())
 }
 
+// The repair is the calls 11 and 12, and the second append the next four.
+const REPAIRS: [(u64, Fill, Option<u32>); 5] = [
+    (10, Fill::New, Some(1)),
+    (11, Fill::New, Some(0)),
+    (12, Fill::New, Some(0)),
+    (14, Fill::New, Some(0)),
+    (16, Fill::Old, Some(1)),
+];
+
 #[test]
 fn closes_the_gate_of_a_failed_append_first(rt: HostRuntime) -> Result<(), Fail> {
-    let alloc = rt.alloc();
     // The tenth call is the sync behind the opening of the first record's gate.
-    let Some((dataset, first, second)) = both_appended(alloc, &[10]) else {
-        return Err("not made")?;
+    let Some((dataset, false, true)) = both_appended(rt.alloc(), &[10]) else {
+        return Err("not made, or not as it should")?;
     };
-    assert!(rt; !first);
-    assert!(rt; second);
-    assert_eq!(rt; dataset.place(), 197);
+    holds(&rt, "the place", dataset.place() == 197);
     let Pair { first, second: _ } = dataset.into_disks();
-    // The repair is the calls 11 and 12, and the second append the next four.
-    assert_eq!(rt; left(alloc, &first, 10, Fill::New), told(Some(1)));
-    assert_eq!(rt; left(alloc, &first, 11, Fill::New), told(Some(0)));
-    assert_eq!(rt; left(alloc, &first, 12, Fill::New), told(Some(0)));
-    assert_eq!(rt; left(alloc, &first, 14, Fill::New), told(Some(0)));
-    assert_eq!(rt; left(alloc, &first, 16, Fill::Old), told(Some(1)));
+    for (call, fill, entries) in &REPAIRS {
+        leaves(&rt, rt.alloc(), &first, *call, *fill, *entries);
+    }
     Ok(())
 }

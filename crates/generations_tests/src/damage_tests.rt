@@ -1,7 +1,11 @@
 //! Damaged files. The expected places and causes are written by hand, after the format.
+ghost use Rattle.std.specs.Prelude.{◌≡◌, ◌<◌, length};
+
+use crate::asserts::{holds, holds_at};
 use crate::files::{IMAGE, ONE, TWO, Told, file_of, opened};
 use gate_journal::Cause;
 use generations::OpenStop;
+use std::alloc::Global;
 use std::process::Abort;
 use std::test::Fail;
 
@@ -40,76 +44,122 @@ fn spoilt(at: usize, byte: u8, value: u8) -> Result<Told, OpenStop> {
     }
 }
 
+const VALUES: [u8; 10] = [0, 1, 2, 36, 67, 127, 128, 141, 142, 255];
+
+// The bytes with other values at one place.
+fn reads_spoilt(rt: &impl Abort, alloc: Global, bytes: &mut [u8], at: usize)
+    requires { at < length bytes.old }
+    ensures { length bytes.new ≡ length bytes.old }
+{
+    let byte = bytes[at];
+    for value in &VALUES {
+        bytes[at] = *value;
+        let told = opened(alloc, bytes, b"");
+        holds_at(
+            rt,
+            "the byte at",
+            at as u64,
+            told == Some(spoilt(at, byte, *value)),
+        );
+    }
+    bytes[at] = byte;
+}
+
 #[test]
 fn reads_each_spoilt_byte(rt: HostRuntime) -> Result<(), Fail> {
-    let alloc = rt.alloc();
-    let Some(mut bytes) = file_of(alloc, 1, &IMAGE, &[&ONE]) else {
-        return Err("no file")?;
-    };
-    assert_eq!(rt; bytes.len(), 198);
+    let mut bytes = file_of(rt.alloc(), 1, &IMAGE, &[&ONE]).ok_or("no file")?;
+    assert!(rt; bytes.len() == 198);
     for at in 0..bytes.len() {
-        let byte = bytes[at];
-        for value in [0u8, 1, 2, 36, 67, 127, 128, 141, 142, 255] {
-            bytes[at] = value;
-            assert_eq!(rt;
-                opened(alloc, &bytes, b""),
-                Some(spoilt(at, byte, value)),
-                "{at} {value}"
-            );
-        }
-        bytes[at] = byte;
+        reads_spoilt(&rt, rt.alloc(), &mut bytes, at);
     }
     Ok(())
+}
+
+// What the first so many bytes of such a file tell.
+fn cut(len: usize) -> Result<Told, OpenStop> {
+    match len {
+        0..=56 => Err(OpenStop::NotDataset),
+        57..=123 => damaged(17, Cause::Length),
+        124..=196 => damaged(124, Cause::Length),
+        _ => damaged(197, Cause::Length),
+    }
 }
 
 #[test]
 fn reads_each_cut(rt: HostRuntime) -> Result<(), Fail> {
-    let alloc = rt.alloc();
-    let Some(bytes) = file_of(alloc, 1, &IMAGE, &[&ONE]) else {
-        return Err("no file")?;
-    };
+    let bytes = file_of(rt.alloc(), 1, &IMAGE, &[&ONE]).ok_or("no file")?;
     for len in 0..bytes.len() {
-        let expected = match len {
-            0..=56 => Err(OpenStop::NotDataset),
-            57..=123 => damaged(17, Cause::Length),
-            124..=196 => damaged(124, Cause::Length),
-            _ => damaged(197, Cause::Length),
-        };
-        assert_eq!(rt; opened(alloc, &bytes[..len], b""), Some(expected), "{len}");
+        let told = opened(rt.alloc(), &bytes[..len], b"");
+        holds_at(&rt, "the length", len as u64, told == Some(cut(len)));
     }
     Ok(())
 }
 
-#[test]
+// The entry of `ONE` without its last byte.
+const HALF: [u8; 35] = [
+    1, 0, 0, 0, 0, 0, 1, 0, 0, 0, 0, 2, 1, 0, 0, 0, 0, 0, 0, 0, 1, 0, 0, 0, 0, 0, 0, 0, 1, 0, 0, 0,
+    0, 0, 0,
+];
+
+// The same entry of a branch that isn't there.
+const UNFIT: [u8; 36] = [
+    1, 9, 0, 0, 0, 0, 1, 0, 0, 0, 0, 2, 1, 0, 0, 0, 0, 0, 0, 0, 1, 0, 0, 0, 0, 0, 0, 0, 1, 0, 0, 0,
+    0, 0, 0, 0,
+];
+
+/// A file of two bodies: its generation, how many bytes of the image it has, and where it is
+/// damaged and why, if it is.
+struct Damage {
+    name: &'static str,
+    generation: u64,
+    image: usize,
+    first: &'static [u8],
+    second: &'static [u8],
+    told: Option<(u64, Cause)>,
+}
+
+const LAST: u64 = 9_223_372_036_854_775_808;
+
+const PAST: u64 = 9_223_372_036_854_775_809;
+
 #[rattlefmt::skip]
-fn tells_the_damage_by_the_table(rt: HostRuntime) -> Result<(), Fail> {
-    let alloc = rt.alloc();
-    let half: &[u8] = &ONE[..35];
-    let mut both = ONE;
-    both[1] = 9;
-    let unfit: &[u8] = &both;
-    let one: &[u8] = &ONE;
-    let two: &[u8] = &TWO;
-    let image: &[u8] = &IMAGE;
-    let cases = [
-        // what is wrong                           generation                 image         two bodies    what is told
-        ("nothing",                                1u64,                      image,        one,   two,   Ok((270, 2, 0, 2))),
-        ("the last generation",                    9_223_372_036_854_775_808, image,        one,   two,   Ok((270, 2, 0, 2))),
-        ("generation 0",                           0,                         image,        one,   two,   damaged(9, Cause::Grammar)),
-        ("one past the last generation",           9_223_372_036_854_775_809, image,        one,   two,   damaged(9, Cause::Grammar)),
-        ("no image",                               1,                         &image[..0],  one,   two,   damaged(57, Cause::Grammar)),
-        ("an image without its last byte",         1,                         &image[..66], one,   two,   damaged(123, Cause::Grammar)),
-        ("half an entry in the first body",        1,                         image,        half,  two,   damaged(124, Cause::Grammar)),
-        ("half an entry in the second body",       1,                         image,        one,   half,  damaged(197, Cause::Grammar)),
-        ("an empty body",                          1,                         image,        one,   &one[..0], damaged(197, Cause::Length)),
-        ("an entry of a branch that isn't there",  1,                         image,        one,   unfit, damaged(197, Cause::EntryUnfit)),
-        ("such an entry in front of half an entry", 1,                        image,        unfit, half,  damaged(124, Cause::EntryUnfit)),
-    ];
-    for (name, generation, image, first, second, told) in cases {
-        let Some(bytes) = file_of(alloc, generation, image, &[first, second]) else {
-            return Err("no file")?;
+const DAMAGES: [Damage; 11] = [
+    Damage { name: "nothing",                                generation: 1,    image: 67, first: &ONE,   second: &TWO,   told: None },
+    Damage { name: "the last generation",                    generation: LAST, image: 67, first: &ONE,   second: &TWO,   told: None },
+    Damage { name: "generation 0",                           generation: 0,    image: 67, first: &ONE,   second: &TWO,   told: Some((9, Cause::Grammar)) },
+    Damage { name: "one past the last generation",           generation: PAST, image: 67, first: &ONE,   second: &TWO,   told: Some((9, Cause::Grammar)) },
+    Damage { name: "no image",                               generation: 1,    image: 0,  first: &ONE,   second: &TWO,   told: Some((57, Cause::Grammar)) },
+    Damage { name: "an image without its last byte",         generation: 1,    image: 66, first: &ONE,   second: &TWO,   told: Some((123, Cause::Grammar)) },
+    Damage { name: "half an entry in the first body",        generation: 1,    image: 67, first: &HALF,  second: &TWO,   told: Some((124, Cause::Grammar)) },
+    Damage { name: "half an entry in the second body",       generation: 1,    image: 67, first: &ONE,   second: &HALF,  told: Some((197, Cause::Grammar)) },
+    Damage { name: "an empty body",                          generation: 1,    image: 67, first: &ONE,   second: &[],    told: Some((197, Cause::Length)) },
+    Damage { name: "an entry of a branch that isn't there",  generation: 1,    image: 67, first: &ONE,   second: &UNFIT, told: Some((197, Cause::EntryUnfit)) },
+    Damage { name: "such an entry in front of half an entry", generation: 1,   image: 67, first: &UNFIT, second: &HALF,  told: Some((124, Cause::EntryUnfit)) },
+];
+
+// What opening a file with this damage tells.
+fn opened_with(alloc: Global, damage: &Damage) -> Option<Result<Told, OpenStop>> {
+    let image = IMAGE.get(..damage.image)?;
+    let bytes = file_of(
+        alloc,
+        damage.generation,
+        image,
+        &[damage.first, damage.second],
+    )?;
+    opened(alloc, &bytes, b"")
+}
+
+#[test]
+fn tells_the_damage_by_the_table(rt: HostRuntime) {
+    for damage in &DAMAGES {
+        let told = match damage.told {
+            None => Ok((270, 2, 0, 2)),
+            Some((at, cause)) => damaged(at, cause),
         };
-        assert_eq!(rt; opened(alloc, &bytes, b""), Some(told), "{name}");
+        holds(
+            &rt,
+            damage.name,
+            opened_with(rt.alloc(), damage) == Some(told),
+        );
     }
-    Ok(())
 }

@@ -2,6 +2,8 @@
 #![tactic(auto)]
 
 #[cfg(test)]
+mod asserts;
+#[cfg(test)]
 mod checkpoint_tests;
 #[cfg(test)]
 mod crash_tests;

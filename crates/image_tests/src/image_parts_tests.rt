@@ -1,4 +1,5 @@
 //! Images read and written. The bytes were made by another program.
+use crate::asserts::holds;
 use db_value::VersionPlace;
 use image_parts::{ImageStop, decode, encode};
 use std::test::Fail;
@@ -15,12 +16,9 @@ fn a_new_dataset(rt: HostRuntime) -> Result<(), Fail> {
         .ok()
         .ok_or("the bytes are an image")?;
     let again = encode(rt.alloc(), &image)?;
-    assert_eq!(rt; again.as_slice(), NEW.as_slice());
+    assert!(rt; again.as_slice() == NEW.as_slice());
     for n in 0..67usize {
-        match decode(rt.alloc(), &NEW[..n]) {
-            Err(ImageStop::NotAnImage { at }) => assert_eq!(rt; at, n as u64),
-            _ => assert!(rt; false, "a front is read"),
-        }
+        assert!(rt; fault_of(&rt, &NEW[..n]) == Some(n as u64));
     }
     Ok(())
 }
@@ -64,7 +62,7 @@ pub(crate) fn of_two_branches(rt: &HostRuntime) -> Result<Vec<u8>, Fail> {
 #[test]
 fn two_branches(rt: HostRuntime) -> Result<(), Fail> {
     let bytes = of_two_branches(&rt)?;
-    assert_eq!(rt; bytes.len(), 8411);
+    assert!(rt; bytes.len() == 8411);
     let image = decode(rt.alloc(), &bytes)
         .ok()
         .ok_or("the bytes are an image")?;
@@ -90,27 +88,28 @@ fn fault_with(rt: &HostRuntime, place: usize, value: u8) -> Result<Option<u64>, 
     Ok(fault_of(rt, &bytes))
 }
 
-#[test]
 #[rattlefmt::skip]
+const FAULTS: [(&str, usize, u8, u64); 13] = [
+    // what is wrong, the byte that is changed, its value, where the fault is
+    ("a page with a wrong count", 71, 1, 71),
+    ("a byte behind the records", 4166, 1, 71),
+    ("two relations", 0, 2, 6),
+    ("a head that is no branch", 63, 3, 63),
+    ("a bit past the records", 4195, 4, 4187),
+    ("rows that don't rise", 4203, 0, 4203),
+    ("a row from past the last position", 4175, 2, 4175),
+    ("no segment is the head of master", 4243, 0, 8411),
+    ("two heads of dev", 4243, 2, 8411),
+    ("a key twice in dev@1", 4235, 2, 8411),
+    ("a key twice in master@1", 103, 1, 8411),
+    ("too many segments", 59, 4, 59),
+    ("an origin that isn't made", 33, 9, 46),
+];
+
+#[test]
 fn faults(rt: HostRuntime) -> Result<(), Fail> {
-    let cases = [
-        // what is wrong, the byte that is changed, its value, where the fault is
-        ("a page with a wrong count", 71usize, 1u8, 71u64),
-        ("a byte behind the records", 4166usize, 1u8, 71u64),
-        ("two relations", 0usize, 2u8, 6u64),
-        ("a head that is no branch", 63usize, 3u8, 63u64),
-        ("a bit past the records", 4195usize, 4u8, 4187u64),
-        ("rows that don't rise", 4203usize, 0u8, 4203u64),
-        ("a row from past the last position", 4175usize, 2u8, 4175u64),
-        ("no segment is the head of master", 4243usize, 0u8, 8411u64),
-        ("two heads of dev", 4243usize, 2u8, 8411u64),
-        ("a key twice in dev@1", 4235usize, 2u8, 8411u64),
-        ("a key twice in master@1", 103usize, 1u8, 8411u64),
-        ("too many segments", 59usize, 4u8, 59u64),
-        ("an origin that isn't made", 33usize, 9u8, 46u64),
-    ];
-    for (name, place, value, fault) in cases {
-        assert_eq!(rt; fault_with(&rt, place, value)?, Some(fault), "{name}");
+    for (name, place, value, fault) in &FAULTS {
+        holds(&rt, name, fault_with(&rt, *place, *value)? == Some(*fault));
     }
     Ok(())
 }
@@ -119,7 +118,7 @@ fn faults(rt: HostRuntime) -> Result<(), Fail> {
 fn surplus_bytes(rt: HostRuntime) -> Result<(), Fail> {
     let mut more = of_two_branches(&rt)?;
     more.push(0)?;
-    assert_eq!(rt; fault_of(&rt, &more), Some(8411));
+    assert!(rt; fault_of(&rt, &more) == Some(8411));
     Ok(())
 }
 
@@ -127,27 +126,33 @@ fn at(branch: u32, position: u32) -> VersionPlace {
     VersionPlace { branch, position }
 }
 
+// Where the first fault of the bytes is, if no store is of them.
+fn store_fault_of(rt: &HostRuntime, bytes: &[u8]) -> Option<u64> {
+    match db_image::decode(rt.alloc(), bytes) {
+        Err(ImageStop::NotAnImage { at }) => Some(at),
+        _ => None,
+    }
+}
+
 #[test]
-fn the_store_of_an_image(rt: HostRuntime) -> Result<(), Fail> {
+fn the_store_of_a_new_image(rt: HostRuntime) -> Result<(), Fail> {
     let store = db_image::decode(rt.alloc(), &NEW)
         .ok()
         .ok_or("the bytes are an image")?;
-    assert!(rt; store.is_made(at(0, 0)));
-    assert!(rt; !store.is_made(at(0, 1)));
-    assert!(rt; !store.is_made(at(1, 0)));
+    assert!(rt; store.is_made(at(0, 0)) && !store.is_made(at(0, 1)) && !store.is_made(at(1, 0)));
+    for n in 0..67usize {
+        assert!(rt; store_fault_of(&rt, &NEW[..n]) == Some(n as u64));
+    }
+    Ok(())
+}
+
+#[test]
+fn the_store_of_two_branches(rt: HostRuntime) -> Result<(), Fail> {
     let bytes = of_two_branches(&rt)?;
     let store = db_image::decode(rt.alloc(), &bytes)
         .ok()
         .ok_or("the bytes are an image")?;
-    assert!(rt; store.is_made(at(0, 1)));
-    assert!(rt; store.is_made(at(1, 1)));
-    assert!(rt; !store.is_made(at(0, 2)));
-    assert!(rt; !store.is_made(at(1, 2)));
-    for n in 0..67usize {
-        match db_image::decode(rt.alloc(), &NEW[..n]) {
-            Err(ImageStop::NotAnImage { at }) => assert_eq!(rt; at, n as u64),
-            _ => assert!(rt; false, "a front is read"),
-        }
-    }
+    assert!(rt; store.is_made(at(0, 1)) && store.is_made(at(1, 1)));
+    assert!(rt; !store.is_made(at(0, 2)) && !store.is_made(at(1, 2)));
     Ok(())
 }

@@ -2,6 +2,8 @@
 #![tactic(auto)]
 
 #[cfg(test)]
+mod asserts;
+#[cfg(test)]
 mod image_parts_tests;
 #[cfg(test)]
 mod store_image_tests;

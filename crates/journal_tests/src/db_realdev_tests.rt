@@ -12,13 +12,42 @@ fn can_be_sent<T: Send>(_disk: &T) {}
 fn takes_and_puts(rt: HostRuntime) -> Result<(), Fail> {
     let mut source = RealSource::new(b"abc".as_slice());
     let mut into = [0u8; 2];
-    assert_eq!(rt; source.take(&mut into), Ok(2));
-    assert_eq!(rt; into, *b"ab");
-    assert_eq!(rt; source.take(&mut into), Ok(1));
-    assert_eq!(rt; source.take(&mut into), Ok(0));
+    assert!(rt; source.take(&mut into) == Ok(2));
+    assert!(rt; into == *b"ab");
+    assert!(rt; source.take(&mut into) == Ok(1));
+    assert!(rt; source.take(&mut into) == Ok(0));
     let mut sink = RealSink::new(Vec::new(rt.alloc()));
-    assert_eq!(rt; sink.put(b"xy"), Ok(2));
+    assert!(rt; sink.put(b"xy") == Ok(2));
     Ok(())
+}
+
+// A disk without a file.
+fn is_missing(rt: &impl Abort, disk: &mut RealDisk) {
+    assert!(rt; disk.len() == Ok(0));
+    assert!(rt; disk.write_at(0, b"a") == Err(Failed));
+    assert!(rt; disk.fault_count() == 1);
+}
+
+fn writes(rt: &impl Abort, disk: &mut RealDisk) {
+    assert!(rt; disk.write_at(0, b"abcdef").is_ok());
+    assert!(rt; disk.sync().is_ok());
+    assert!(rt; disk.write_at(2, b"XY").is_ok());
+    assert!(rt; disk.sync().is_ok());
+}
+
+// A disk whose file another one has to itself.
+fn is_locked_out(rt: &impl Abort, disk: &mut RealDisk) {
+    assert!(rt; disk.len() == Err(Failed));
+    assert!(rt; disk.fault_count() == 1);
+}
+
+fn only_reads(rt: &impl Abort, disk: &mut RealDisk) {
+    let mut into = [0u8; 4];
+    assert!(rt; disk.read_at(1, &mut into).is_ok());
+    assert!(rt; into == *b"bXYe");
+    assert!(rt; disk.read_at(4, &mut into) == Err(Failed));
+    assert!(rt; disk.write_at(0, b"a") == Err(Failed));
+    assert!(rt; disk.fault_count() == 2);
 }
 
 #[test]
@@ -27,27 +56,15 @@ fn keeps_what_it_wrote(rt: HostRuntime) -> Result<(), Fail> {
     let _ = fs::remove_file(&rt, path);
     let mut missing = RealDisk::open(&rt, path, Access::Write);
     can_be_sent(&missing);
-    assert_eq!(rt; missing.len(), Ok(0));
-    assert_eq!(rt; missing.write_at(0, b"a"), Err(Failed));
-    assert_eq!(rt; missing.fault_count(), 1);
+    is_missing(&rt, &mut missing);
     let mut disk = RealDisk::open(&rt, path, Access::Create);
-    assert_eq!(rt; disk.write_at(0, b"abcdef"), Ok(()));
-    assert_eq!(rt; disk.sync(), Ok(()));
-    assert_eq!(rt; disk.write_at(2, b"XY"), Ok(()));
-    assert_eq!(rt; disk.sync(), Ok(()));
-    let mut other = RealDisk::open(&rt, path, Access::Read);
-    assert_eq!(rt; other.len(), Err(Failed));
-    assert_eq!(rt; other.fault_count(), 1);
+    writes(&rt, &mut disk);
+    is_locked_out(&rt, &mut RealDisk::open(&rt, path, Access::Read));
     drop(disk);
     let mut reader = RealDisk::open(&rt, path, Access::Read);
     let mut second = RealDisk::open(&rt, path, Access::Read);
-    assert_eq!(rt; second.len(), Ok(6));
-    let mut into = [0u8; 4];
-    assert_eq!(rt; reader.read_at(1, &mut into), Ok(()));
-    assert_eq!(rt; into, *b"bXYe");
-    assert_eq!(rt; reader.read_at(4, &mut into), Err(Failed));
-    assert_eq!(rt; reader.write_at(0, b"a"), Err(Failed));
-    assert_eq!(rt; reader.fault_count(), 2);
+    assert!(rt; second.len() == Ok(6));
+    only_reads(&rt, &mut reader);
     fs::remove_file(&rt, path)?;
     Ok(())
 }

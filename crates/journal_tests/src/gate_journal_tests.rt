@@ -3,6 +3,7 @@ ghost use Rattle.std.specs.Prelude.{◌≡◌, ◌<◌, true, [], length, IfSome
 ghost use Rattle.db_outside.specs.Disk.{InAll};
 ghost use Rattle.gate_journal.specs.Gate.{IsShut};
 
+use crate::asserts::holds_at;
 use db_memdev::{Fill, MemDisk};
 use db_outside::{Batch, Disk, Failed};
 use gate_journal::{Journal, JournalEnd, read_all, sync_all};
@@ -94,50 +95,40 @@ fn read_after(alloc: Global, disk: &MemDisk, call: u64, fill: Fill) -> Option<us
     }
 }
 
+// The call, how many batches are whole, and how many of them if pending ranges are as written.
+const STOPS: [(u64, usize, usize); 16] = [
+    (0, 0, 0),
+    (1, 0, 0),
+    (2, 0, 0),
+    (3, 0, 0),
+    (4, 0, 0),
+    (5, 0, 0),
+    (6, 0, 1),
+    (7, 1, 1),
+    (8, 1, 1),
+    (9, 1, 1),
+    (10, 1, 2),
+    (11, 2, 2),
+    (12, 2, 2),
+    (13, 2, 2),
+    (14, 2, 3),
+    (15, 3, 3),
+];
+
+// A crash at a call leaves so many of the bodies.
+fn leaves(rt: &impl Abort, alloc: Global, disk: &MemDisk, call: u64, fill: Fill, whole: usize) {
+    let is_so = read_after(alloc, disk, call, fill) == Some(whole);
+    holds_at(rt, "the call", call, is_so);
+}
+
 #[test]
 fn leaves_none_or_all_of_a_batch(rt: HostRuntime) -> Result<(), Fail> {
-    let alloc = rt.alloc();
-    let made = three_appended(alloc);
-    assert!(rt; made.is_some());
-    let Some(disk) = made else {
-        return Ok(());
-    };
-    assert_eq!(rt; disk.bytes().len(), 130);
-    // The call, how many batches are whole, and how many of them if pending ranges are as written.
-    let cases = [
-        (0, 0, 0),
-        (1, 0, 0),
-        (2, 0, 0),
-        (3, 0, 0),
-        (4, 0, 0),
-        (5, 0, 0),
-        (6, 0, 1),
-        (7, 1, 1),
-        (8, 1, 1),
-        (9, 1, 1),
-        (10, 1, 2),
-        (11, 2, 2),
-        (12, 2, 2),
-        (13, 2, 2),
-        (14, 2, 3),
-        (15, 3, 3),
-    ];
-    for (call, before, after) in cases {
-        assert_eq!(rt;
-            read_after(alloc, &disk, call, Fill::Old),
-            Some(before),
-            "{call}"
-        );
-        assert_eq!(rt;
-            read_after(alloc, &disk, call, Fill::New),
-            Some(after),
-            "{call}"
-        );
-        assert_eq!(rt;
-            read_after(alloc, &disk, call, Fill::Byte(1)),
-            Some(after),
-            "{call}"
-        );
+    let disk = three_appended(rt.alloc()).ok_or("not appended")?;
+    assert!(rt; disk.bytes().len() == 130);
+    for (call, before, after) in &STOPS {
+        leaves(&rt, rt.alloc(), &disk, *call, Fill::Old, *before);
+        leaves(&rt, rt.alloc(), &disk, *call, Fill::New, *after);
+        leaves(&rt, rt.alloc(), &disk, *call, Fill::Byte(1), *after);
     }
     Ok(())
 }

@@ -2,6 +2,8 @@
 #![tactic(auto)]
 
 #[cfg(test)]
+mod asserts;
+#[cfg(test)]
 mod db_memdev_tests;
 #[cfg(test)]
 mod db_outside_tests;

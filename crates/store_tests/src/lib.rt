@@ -2,6 +2,8 @@
 #![tactic(auto)]
 
 #[cfg(test)]
+mod asserts;
+#[cfg(test)]
 mod entry_codec_tests;
 #[cfg(test)]
 mod field_merge_tests;

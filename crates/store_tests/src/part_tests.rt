@@ -3,6 +3,7 @@ ghost use Rattle.std.specs.Prelude.{◌≡◌, ◌<◌, ◌∷◌, [], length, I
 ghost use Rattle.hybrid_store.specs.Parts.{AreSound};
 ghost use Rattle.hybrid_store.proofs.PartExamples.{head_of_one};
 
+use crate::asserts::holds;
 use crate::graph_tests::{begin, place};
 use commit_history::History;
 use db_store::{Spot, Store, View};
@@ -58,16 +59,23 @@ fn items(alloc: Global) -> Result<Schema, Fail> {
     Ok(schema)
 }
 
-// A branch of the first record. Then both branches get equal records, and the first record is changed there
-// and back on the new one.
+// Branches and keys: both branches get equal records, and the first record is changed and back on
+// the new one.
+const PUTS: [(u32, u64, [i64; 2]); 4] = [
+    (0, 8, [5, 5]),
+    (1, 8, [5, 5]),
+    (1, 7, [2, 1]),
+    (1, 7, [1, 1]),
+];
+
+// A branch of the first record, and then these.
 fn two_branches(alloc: Global, new: HybridStore) -> Result<HybridStore, Fail> {
     let mut store = new;
     put(alloc, &mut store, 0, 7, [1, 1])?;
     begin(&mut store, "dev", place((0, 1)))?;
-    put(alloc, &mut store, 0, 8, [5, 5])?;
-    put(alloc, &mut store, 1, 8, [5, 5])?;
-    put(alloc, &mut store, 1, 7, [2, 1])?;
-    put(alloc, &mut store, 1, 7, [1, 1])?;
+    for (branch, key, fields) in &PUTS {
+        put(alloc, &mut store, *branch, *key, *fields)?;
+    }
     Ok(store)
 }
 
@@ -164,16 +172,34 @@ fn tells(
 ) -> Result<(), Fail> {
     let view = version(store, place(at))?;
     let text = parts_text(alloc, &view)?;
-    assert_eq!(rt; text.as_str(), expected);
+    holds(rt, expected, text.as_str() == expected);
+    Ok(())
+}
+
+#[rattlefmt::skip]
+const PARTS: [((u32, u32), &str); 7] = [
+    // version       parts: segment * 2^32 + records, and its slots
+    ((0, 0), "1:. "),
+    ((0, 1), "1:x 4294967297:. "),
+    ((0, 2), "1:x 4294967297:x "),
+    ((1, 0), "1:x 8589934595:... "),
+    ((1, 1), "1:x 8589934595:x.. "),
+    ((1, 2), "1:. 8589934595:xx. "),
+    ((1, 3), "1:. 8589934595:x.x "),
+];
+
+fn shows_two_branches(rt: &impl Abort, alloc: Global, new: HybridStore) -> Result<(), Fail> {
+    let store = two_branches(alloc, new)?;
+    for (at, expected) in &PARTS {
+        tells(rt, alloc, &store, *at, expected)?;
+    }
     Ok(())
 }
 
 #[test]
-#[rattlefmt::skip]
 fn shows_segments_as_parts(rt: HostRuntime) -> Result<(), Fail> {
     let new = HybridStore::new(rt.alloc(), items(rt.alloc())?)?;
-    let store = two_branches(rt.alloc(), new)?;
-    shows_two_branches(&rt, rt.alloc(), &store)
+    shows_two_branches(&rt, rt.alloc(), new)
 }
 
 // A store that is assembled of the parts of a new one goes on as a new one.
@@ -181,44 +207,40 @@ fn shows_segments_as_parts(rt: HostRuntime) -> Result<(), Fail> {
 fn assembles_parts(rt: HostRuntime) -> Result<(), Fail> {
     let parts = new_parts(rt.alloc(), items(rt.alloc())?)?;
     let new = HybridStore::assemble(rt.alloc(), parts)?;
-    let store = two_branches(rt.alloc(), new)?;
-    shows_two_branches(&rt, rt.alloc(), &store)
+    shows_two_branches(&rt, rt.alloc(), new)
 }
 
-#[rattlefmt::skip]
-fn shows_two_branches(rt: &impl Abort, alloc: Global, store: &HybridStore) -> Result<(), Fail> {
-    let cases = [
-        // version       parts: segment * 2^32 + records, and its slots
-        ((0, 0), "1:. "),
-        ((0, 1), "1:x 4294967297:. "),
-        ((0, 2), "1:x 4294967297:x "),
-        ((1, 0), "1:x 8589934595:... "),
-        ((1, 1), "1:x 8589934595:x.. "),
-        ((1, 2), "1:. 8589934595:xx. "),
-        ((1, 3), "1:. 8589934595:x.x "),
-    ];
-    for (at, expected) in cases {
-        tells(rt, alloc, store, at, expected)?;
-    }
-    Ok(())
+const SPOTS: [(&str, (u32, u32), u64, Option<Spot>); 6] = [
+    (
+        "in the segment below",
+        (0, 2),
+        7,
+        Some(Spot { part: 0, slot: 0 }),
+    ),
+    (
+        "changed in its own",
+        (1, 2),
+        7,
+        Some(Spot { part: 1, slot: 1 }),
+    ),
+    ("and back", (1, 3), 7, Some(Spot { part: 1, slot: 2 })),
+    ("put in its own", (1, 3), 8, Some(Spot { part: 1, slot: 0 })),
+    ("not put yet", (1, 0), 8, None),
+    ("in an empty version", (0, 0), 7, None),
+];
+
+// Where a key of the first relation stands in a version.
+fn found(store: &HybridStore, at: (u32, u32), key: u64) -> Result<Option<Spot>, Fail> {
+    let view = version(store, place(at))?;
+    Ok(view.find(0, key))
 }
 
 #[test]
-#[rattlefmt::skip]
 fn finds_keys_in_parts(rt: HostRuntime) -> Result<(), Fail> {
     let new = HybridStore::new(rt.alloc(), items(rt.alloc())?)?;
     let store = two_branches(rt.alloc(), new)?;
-    let cases = [
-        ((0, 2), 7, Some(Spot { part: 0, slot: 0 })),
-        ((1, 2), 7, Some(Spot { part: 1, slot: 1 })),
-        ((1, 3), 7, Some(Spot { part: 1, slot: 2 })),
-        ((1, 3), 8, Some(Spot { part: 1, slot: 0 })),
-        ((1, 0), 8, None),
-        ((0, 0), 7, None),
-    ];
-    for (at, key, spot) in cases {
-        let view = version(&store, place(at))?;
-        assert_eq!(rt; view.find(0, key), spot);
+    for (name, at, key, spot) in &SPOTS {
+        holds(&rt, name, found(&store, *at, *key)? == *spot);
     }
     Ok(())
 }

@@ -1,6 +1,7 @@
 //! Rows of bits by a worked example, and at the edges of words.
-ghost use Rattle.std.specs.Prelude.{◌≡◌, ◌<◌, length};
+ghost use Rattle.std.specs.Prelude.{◌≡◌, ◌<◌, ◌≤◌, length, IfOk};
 
+use crate::asserts::holds;
 use branch_segments::{BranchSegments, Ids};
 use std::alloc::{AllocError, Global};
 use std::process::Abort;
@@ -21,36 +22,73 @@ fn mark(rows: &mut BranchSegments, branch: u32, segment: u32)
     rows.mark(branch, segment);
 }
 
-#[test]
-fn tells_the_segments_of_branches(rt: HostRuntime) -> Result<(), Fail> {
-    let alloc = rt.alloc();
+// Two branches that have two of three segments each, one of them both.
+fn two_branches(alloc: Global) -> Result<BranchSegments, AllocError>
+    ensures { IfOk result (λ rows. 2 ≤ length rows.rows) }
+{
     let mut rows = BranchSegments::new(alloc);
-    assert_eq!(rt; rows.segments_of(0)?.as_slice().len(), 0);
     rows.reserve(2, 3)?;
     mark(&mut rows, 0, 0);
     mark(&mut rows, 0, 1);
     mark(&mut rows, 1, 0);
     mark(&mut rows, 1, 2);
-    let cases = [
-        ("of the first branch", 0, [0, 1].as_slice()),
-        ("of the second", 1, [0, 2].as_slice()),
-        ("of one without room", 2, [].as_slice()),
-    ];
-    for (name, branch, segments) in cases {
-        assert_eq!(rt; rows.segments_of(branch)?.as_slice(), segments, "{name}");
+    Ok(rows)
+}
+
+fn has(
+    rt: &impl Abort,
+    name: &str,
+    rows: &BranchSegments,
+    branch: u32,
+    segments: &[u32],
+) -> Result<(), AllocError> {
+    holds(rt, name, rows.segments_of(branch)?.as_slice() == segments);
+    Ok(())
+}
+
+fn unites(
+    rt: &impl Abort,
+    alloc: Global,
+    rows: &BranchSegments,
+    branches: &[u32],
+    segments: &[u32],
+) -> Result<(), AllocError> {
+    let all = rows.union(&ids(alloc, branches)?)?;
+    holds(rt, "the segments of several", all.as_slice() == segments);
+    Ok(())
+}
+
+const CASES: [(&str, u32, &[u32]); 3] = [
+    ("of the first branch", 0, &[0, 1]),
+    ("of the second", 1, &[0, 2]),
+    ("of one without room", 2, &[]),
+];
+
+#[test]
+fn tells_the_segments_of_branches(rt: HostRuntime) -> Result<(), Fail> {
+    has(
+        &rt,
+        "without room",
+        &BranchSegments::new(rt.alloc()),
+        0,
+        &[],
+    )?;
+    let rows = two_branches(rt.alloc())?;
+    for (name, branch, segments) in &CASES {
+        has(&rt, name, &rows, *branch, segments)?;
     }
-    let both = rows.union(&ids(alloc, &[1, 0])?)?;
-    assert_eq!(rt; both.as_slice(), [0, 1, 2].as_slice());
-    let none = rows.union(&ids(alloc, &[])?)?;
-    assert_eq!(rt; none.as_slice().len(), 0);
+    unites(&rt, rt.alloc(), &rows, &[1, 0], &[0, 1, 2])?;
+    unites(&rt, rt.alloc(), &rows, &[], &[])?;
+    Ok(())
+}
+
+#[test]
+fn a_copy_keeps_its_segments(rt: HostRuntime) -> Result<(), Fail> {
+    let mut rows = two_branches(rt.alloc())?;
     rows.reserve(3, 130)?;
     let copy = rows.duplicate()?;
     mark(&mut rows, 1, 129);
-    assert_eq!(rt; rows.segments_of(1)?.as_slice(), [0, 2, 129].as_slice());
-    assert_eq!(rt;
-        copy.segments_of(1)?.as_slice(),
-        [0, 2].as_slice(),
-        "of the copy"
-    );
+    has(&rt, "with one more", &rows, 1, &[0, 2, 129])?;
+    has(&rt, "of the copy", &copy, 1, &[0, 2])?;
     Ok(())
 }

@@ -1,4 +1,8 @@
 //! Histories against a plain fold over their deltas.
+ghost use Rattle.std.specs.Prelude.{◌<◌};
+ghost use Rattle.std.specs.List.{All};
+
+use crate::asserts::{holds, holds_at, same};
 use commit_history::{Delta, History};
 use plain_bits::Bits;
 use std::alloc::{AllocError, Global};
@@ -21,18 +25,15 @@ fn bits_of(alloc: Global, values: &[bool]) -> Result<Bits, AllocError> {
 // A delta whose length and places look random.
 fn scattered(alloc: Global, seed: u32) -> Result<Bits, AllocError> {
     let mut x = seed.wrapping_mul(2_654_435_761) ^ 2_463_534_242;
-    let len = x % 300;
-    let mut bits = Bits::new(alloc);
-    bits.grow(len)?;
-    for place in 0..len {
+    let len = (x % 300) as usize;
+    let mut values = [false; 300];
+    for value in &mut values {
         x ^= x << 13;
         x ^= x >> 17;
         x ^= x << 5;
-        if x % 5 == 0 && place < bits.len() {
-            bits.set(place);
-        }
+        *value = x % 5 == 0;
     }
-    Ok(bits)
+    bits_of(alloc, &values[..len])
 }
 
 // Changes the places of a delta one by one.
@@ -66,91 +67,104 @@ fn push(history: &mut History, delta: Bits) -> Result<(), AllocError> {
     Ok(())
 }
 
-fn is_at(history: &History, n: u32, plain: &[bool]) -> Result<bool, AllocError> {
-    if history.len() < n {
-        return Ok(false);
-    }
-    let bits = history.at(n)?;
-    Ok(is_same(&bits, plain))
-}
-
-#[test]
-fn combines_two_deltas(rt: HostRuntime) -> Result<(), Fail> {
-    let alloc = rt.alloc();
-    let mut history = History::new(alloc);
-    push(&mut history, bits_of(alloc, &[true, false, true])?)?;
-    push(&mut history, bits_of(alloc, &[false, true, true])?)?;
-    assert_eq!(rt; history.len(), 2);
-    assert!(rt; is_at(&history, 0, &[])?, "at 0");
-    assert!(rt; is_at(&history, 1, &[true, false, true])?, "at 1");
-    assert!(rt; is_at(&history, 2, &[true, true, false])?, "at 2");
+// The bitmap of a history after n commits.
+fn is_at(
+    rt: &impl Abort,
+    name: &str,
+    history: &History,
+    n: u32,
+    plain: &[bool],
+) -> Result<(), AllocError> {
+    let is = n <= history.len() && is_same(&history.at(n)?, plain);
+    holds_at(rt, name, u64::from(n), is);
     Ok(())
 }
 
 #[test]
-fn combines_as_a_plain_fold_up_to_100(rt: HostRuntime) -> Result<(), Fail> {
-    let alloc = rt.alloc();
+fn combines_two_deltas(rt: HostRuntime) -> Result<(), Fail> {
+    let mut history = History::new(rt.alloc());
+    for values in &[[true, false, true], [false, true, true]] {
+        push(&mut history, bits_of(rt.alloc(), values)?)?;
+    }
+    assert!(rt; history.len() == 2);
+    is_at(&rt, "at", &history, 0, &[])?;
+    is_at(&rt, "at", &history, 1, &[true, false, true])?;
+    is_at(&rt, "at", &history, 2, &[true, true, false])?;
+    Ok(())
+}
+
+// A history of deltas that look random.
+fn scattered_history(alloc: Global, count: u32) -> Result<History, AllocError> {
     let mut history = History::new(alloc);
-    for n in 0..100 {
+    for n in 0..count {
         push(&mut history, scattered(alloc, n)?)?;
     }
+    Ok(history)
+}
+
+#[test]
+fn combines_as_a_plain_fold_up_to_100(rt: HostRuntime) -> Result<(), Fail> {
+    let history = scattered_history(rt.alloc(), 100)?;
     let copy = history.duplicate()?;
-    let mut plain = Vec::new(alloc);
-    for n in 0..100 {
-        assert!(rt; is_at(&history, n, &plain)?, "at {n}");
-        assert!(rt; is_at(&copy, n, &plain)?, "the copy at {n}");
-        fold(&mut plain, &scattered(alloc, n)?)?;
+    let mut plain = Vec::new(rt.alloc());
+    for n in 0..101 {
+        is_at(&rt, "at", &history, n, &plain)?;
+        is_at(&rt, "the copy at", &copy, n, &plain)?;
+        fold(&mut plain, &scattered(rt.alloc(), n)?)?;
     }
-    assert!(rt; is_at(&history, 100, &plain)?, "at 100");
     Ok(())
 }
 
 // The least lengths at which a level gets its first composite, or its second.
 const TURNS: [u32; 9] = [255, 256, 257, 511, 512, 4_095, 4_096, 4_097, 4_200];
 
+// A delta of four places, each of them true at every second, third, fifth or seventh commit.
+fn in_turn(alloc: Global, n: u32) -> Result<Bits, AllocError> {
+    bits_of(alloc, &[n % 2 == 0, n % 3 == 0, n % 5 == 0, n % 7 == 0])
+}
+
 #[test]
 fn combines_long_histories_as_a_plain_fold(rt: HostRuntime) -> Result<(), Fail> {
-    let alloc = rt.alloc();
-    let mut history = History::new(alloc);
-    let mut plain = Vec::new(alloc);
+    let mut history = History::new(rt.alloc());
+    let mut plain = Vec::new(rt.alloc());
     for n in 1..4_201 {
-        let values = [n % 2 == 0, n % 3 == 0, n % 5 == 0, n % 7 == 0];
-        let delta = bits_of(alloc, &values)?;
+        let delta = in_turn(rt.alloc(), n)?;
         fold(&mut plain, &delta)?;
         push(&mut history, delta)?;
         if TURNS.contains(&n) {
-            assert!(rt; is_at(&history, n, &plain)?, "at {n}");
+            is_at(&rt, "at", &history, n, &plain)?;
         }
     }
     Ok(())
 }
 
+// The bitmap of a history's delta of these places.
+fn placed(rt: &impl Abort, alloc: Global, len: u32, places: &[u32]) -> Result<Bits, AllocError>
+    requires { All (λ place. place < len) places.now }
+{
+    let mut history = History::new(alloc);
+    let next = history.ready_delta(Delta::of_places(alloc, len, places)?)?;
+    history.push(next);
+    holds(rt, "the length", history.delta(0).len() == len);
+    history.delta(0).bits(alloc)
+}
+
+const PLACES: [(&str, u32, Option<u32>); 4] = [
+    ("the first place", 0, Some(3)),
+    ("the next word", 4, Some(64)),
+    ("its neighbour", 65, Some(65)),
+    ("the last place", 66, Some(129)),
+];
+
 #[test]
 fn keeps_a_delta_by_its_places(rt: HostRuntime) -> Result<(), Fail> {
-    let alloc = rt.alloc();
-    let mut history = History::new(alloc);
-    let delta = Delta::of_places(alloc, 130, &[3, 64, 65, 129])?;
-    let next = history.ready_delta(delta)?;
-    history.push(next);
-    let bits = history.delta(0).bits(alloc)?;
-    assert_eq!(rt;
-        (history.delta(0).len(), bits.len(), bits.count()),
-        (130, 130, 4)
-    );
-    let cases = [
-        ("the first place", 0, Some(3)),
-        ("the next word", 4, Some(64)),
-        ("its neighbour", 65, Some(65)),
-        ("the last place", 66, Some(129)),
-    ];
-    for (name, from, found) in cases {
-        assert_eq!(rt; bits.next_one(from), found, "{name}");
+    let bits = placed(&rt, rt.alloc(), 130, &[3, 64, 65, 129])?;
+    assert!(rt; bits.len() == 130 && bits.count() == 4);
+    for (name, from, found) in &PLACES {
+        same(&rt, name, bits.next_one(*from), *found);
     }
-    let twice = Delta::of_places(alloc, 70, &[1, 69, 1])?;
-    assert_eq!(rt;
-        twice.bits(alloc)?.next_one(0),
-        Some(69),
-        "a place that stands there twice"
-    );
+    let twice = placed(&rt, rt.alloc(), 70, &[1, 69, 1])?;
+    let is = twice.next_one(0) == Some(69);
+    holds(&rt, "a place that stands there twice", is);
     Ok(())
 }

@@ -2,6 +2,8 @@
 #![tactic(auto)]
 
 #[cfg(test)]
+mod asserts;
+#[cfg(test)]
 mod branch_segments_tests;
 #[cfg(test)]
 mod commit_history_tests;

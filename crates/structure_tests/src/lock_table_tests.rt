@@ -1,4 +1,5 @@
 //! Sessions that ask and release, step by step.
+use crate::asserts::{same, same_at};
 use lock_table::*;
 use std::alloc::{AllocError, Global};
 use std::process::Abort;
@@ -27,35 +28,46 @@ fn ask(
     Ok(locks.ask(session, &Needs::of(needs)))
 }
 
-#[test]
+// A step without needs is a release.
+fn step(
+    rt: &impl Abort,
+    alloc: Global,
+    locks: &mut Locks,
+    session: u32,
+    needs: &[(u32, bool)],
+) -> Result<Option<Ask>, AllocError> {
+    if needs.is_empty() {
+        locks.release(session);
+        return Ok(None);
+    }
+    let answer = ask(rt, alloc, locks, session, needs)?;
+    Ok(Some(answer))
+}
+
 #[rattlefmt::skip]
+const STEPS: [(&str, u32, &[(u32, bool)], Option<Ask>); 14] = [
+    ("a first sharer",                 1, &[(1, SHARED)],                          Some(Ask::Granted)),
+    ("exclusive beside a sharer",      2, &[(0, SHARED), (1, ALONE)],              Some(Ask::Held { lock: 1, by: 1 })),
+    ("the sharer is gone",             1, &[],                                     None),
+    ("what was held before",           2, &[(0, SHARED), (1, ALONE)],              Some(Ask::Granted)),
+    ("shared behind an exclusive one", 1, &[(1, SHARED)],                          Some(Ask::Held { lock: 1, by: 2 })),
+    ("its own needs never conflict",   2, &[(1, SHARED), (1, ALONE)],              Some(Ask::Granted)),
+    ("two share the catalogue",        9, &[(0, SHARED)],                          Some(Ask::Granted)),
+    ("an upgrade past a sharer",       2, &[(0, ALONE)],                           Some(Ask::Held { lock: 0, by: 9 })),
+    ("the last branch",                5, &[(1024, ALONE)],                        Some(Ask::Granted)),
+    ("the least lock first",           7, &[(1024, ALONE), (1, SHARED), (0, ALONE)], Some(Ask::Held { lock: 0, by: 2 })),
+    ("the least session first",        3, &[(0, ALONE)],                           Some(Ask::Held { lock: 0, by: 2 })),
+    ("a release takes its own alone",  2, &[],                                     None),
+    ("the other sharer stays",         3, &[(0, ALONE)],                           Some(Ask::Held { lock: 0, by: 9 })),
+    ("held changed nothing",           4, &[(1, ALONE)],                           Some(Ask::Granted)),
+];
+
+#[test]
 fn asks_by_the_table(rt: HostRuntime) -> Result<(), Fail> {
-    // A step without needs is a release.
-    let steps = [
-        ("a first sharer",                 1, [(1, SHARED)].as_slice(),            Some(Ask::Granted)),
-        ("exclusive beside a sharer",      2, [(0, SHARED), (1, ALONE)].as_slice(),  Some(Ask::Held { lock: 1, by: 1 })),
-        ("the sharer is gone",             1, [].as_slice(),                     None),
-        ("what was held before",           2, [(0, SHARED), (1, ALONE)].as_slice(),  Some(Ask::Granted)),
-        ("shared behind an exclusive one", 1, [(1, SHARED)].as_slice(),            Some(Ask::Held { lock: 1, by: 2 })),
-        ("its own needs never conflict",   2, [(1, SHARED), (1, ALONE)].as_slice(),  Some(Ask::Granted)),
-        ("two share the catalogue",        9, [(0, SHARED)].as_slice(),            Some(Ask::Granted)),
-        ("an upgrade past a sharer",       2, [(0, ALONE)].as_slice(),             Some(Ask::Held { lock: 0, by: 9 })),
-        ("the last branch",                5, [(1024, ALONE)].as_slice(),          Some(Ask::Granted)),
-        ("the least lock first",           7, [(1024, ALONE), (1, SHARED), (0, ALONE)].as_slice(), Some(Ask::Held { lock: 0, by: 2 })),
-        ("the least session first",        3, [(0, ALONE)].as_slice(),             Some(Ask::Held { lock: 0, by: 2 })),
-        ("a release takes its own alone",  2, [].as_slice(),                     None),
-        ("the other sharer stays",         3, [(0, ALONE)].as_slice(),             Some(Ask::Held { lock: 0, by: 9 })),
-        ("held changed nothing",           4, [(1, ALONE)].as_slice(),             Some(Ask::Granted)),
-    ];
     let mut locks = Locks::new(rt.alloc())?;
-    for (name, session, needs, answer) in steps {
-        let got = if needs.is_empty() {
-            locks.release(session);
-            None
-        } else {
-            Some(ask(&rt, rt.alloc(), &mut locks, session, needs)?)
-        };
-        assert_eq!(rt; got, answer, "{name}");
+    for (name, session, needs, answer) in &STEPS {
+        let got = step(&rt, rt.alloc(), &mut locks, *session, needs)?;
+        same(&rt, name, got, *answer);
     }
     Ok(())
 }
@@ -65,10 +77,8 @@ fn has_room_for_every_need(rt: HostRuntime) -> Result<(), Fail> {
     let mut locks = Locks::new(rt.alloc())?;
     for session in 1..=64 {
         for lock in 0..LOCKS {
-            assert_eq!(rt;
-                ask(&rt, rt.alloc(), &mut locks, session, &[(lock, SHARED)])?,
-                Ask::Granted
-            );
+            let got = ask(&rt, rt.alloc(), &mut locks, session, &[(lock, SHARED)])?;
+            same_at(&rt, "the lock", u64::from(lock), got, Ask::Granted);
         }
     }
     let needs = Needs::of(Vec::new(rt.alloc()));

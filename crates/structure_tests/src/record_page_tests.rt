@@ -2,10 +2,12 @@
 ghost use Rattle.std.specs.Prelude.{◌≡◌, ◌<◌, ◌≤◌, length, IfOk};
 ghost use Rattle.record_page.specs.Page.{record_at};
 
+use crate::asserts::{holds, same};
 use db_value::{Fields, Record, Steps};
 use record_page::{Page, PageFull, capacity_of};
 use std::alloc::{AllocError, Global};
 use std::marker::Brand;
+use std::process::Abort;
 use std::sync::ledger::{Blank, Ledger};
 use std::test::Fail;
 
@@ -65,62 +67,85 @@ const BY_HAND: [u8; 64] = [
     0, 0, 0, 0, 0, 0, 0, 128,                       5, 0, 0, 0, 0, 0, 0, 0,
 ];
 
+// The first place of a byte that isn't as written by hand, with zeros after what was written.
+fn first_wrong(bytes: &[u8]) -> Option<usize> {
+    for place in 0..bytes.len() {
+        let expected = if place < 64 { BY_HAND[place] } else { 0 };
+        if bytes[place] != expected {
+            return Some(place);
+        }
+    }
+    None
+}
+
 #[test]
 fn spells_two_records_as_by_hand(rt: HostRuntime) -> Result<(), Fail> {
     let page = two_records(rt.alloc())?;
-    let bytes = page.bytes();
-    assert_eq!(rt; bytes.len(), 4096);
-    for (place, byte) in bytes.iter().enumerate() {
-        let wanted = if place < 64 { BY_HAND[place] } else { 0 };
-        assert_eq!(rt; *byte, wanted, "the byte at {place}");
-    }
+    assert!(rt; page.bytes().len() == 4096);
+    same(&rt, "the bytes", first_wrong(page.bytes()), None);
     Ok(())
+}
+
+// Whether the second of two records is read as it was put.
+fn is_second(page: &Page) -> bool {
+    if page.len() != 2 {
+        return false;
+    }
+    let row = read(page, 1);
+    row.key == u64::MAX && row.fields.as_slice() == [i64::MIN, 5].as_slice()
 }
 
 #[test]
 fn reads_what_it_spelled(rt: HostRuntime) -> Result<(), Fail> {
     let page = two_records(rt.alloc())?;
-    let again = Page::of(rt.alloc(), page.bytes())?;
     let copied = page.duplicate()?;
-    assert_eq!(rt; copied.bytes(), page.bytes());
-    match again {
-        Some(again) => {
-            assert_eq!(rt; again.len(), 2);
-            if again.len() == 2 {
-                let row = read(&again, 1);
-                assert_eq!(rt; row.key, u64::MAX);
-                assert_eq!(rt; row.fields.as_slice(), [i64::MIN, 5].as_slice());
-            }
-        }
-        None => assert!(rt; false, "the bytes are a page"),
-    }
+    assert!(rt; copied.bytes() == page.bytes());
+    let is_so = match Page::of(rt.alloc(), page.bytes())? {
+        Some(again) => is_second(&again),
+        None => false,
+    };
+    assert!(rt; is_so);
     Ok(())
 }
 
-#[test]
 #[rattlefmt::skip]
-fn refuses_spoilt_bytes(rt: HostRuntime) -> Result<(), Fail> {
-    let cases = [
-        // what is wrong                       place  byte
-        ("more records than a page holds",     0,     171),
-        ("256 records",                        1,     1),
-        ("no fields",                          2,     0),
-        ("16 fields",                          2,     16),
-        ("the first zero of the head",         3,     1),
-        ("the last zero of the head",          15,    1),
-        ("the first byte after the records",   64,    1),
-        ("the last byte",                      4095,  1),
-    ];
-    let page = two_records(rt.alloc())?;
-    for (name, place, byte) in cases {
-        let mut bytes = Vec::from_slice(rt.alloc(), page.bytes())?;
-        if place < bytes.len() {
-            bytes[place] = byte;
-        }
-        assert!(rt; Page::of(rt.alloc(), &bytes)?.is_none(), "{name}");
+const SPOILT: [(&str, usize, u8); 8] = [
+    // what is wrong                       place  byte
+    ("more records than a page holds",     0,     171),
+    ("256 records",                        1,     1),
+    ("no fields",                          2,     0),
+    ("16 fields",                          2,     16),
+    ("the first zero of the head",         3,     1),
+    ("the last zero of the head",          15,    1),
+    ("the first byte after the records",   64,    1),
+    ("the last byte",                      4095,  1),
+];
+
+// Whether the bytes are a page.
+fn are_page(alloc: Global, bytes: &[u8]) -> Result<bool, AllocError> {
+    Ok(Page::of(alloc, bytes)?.is_some())
+}
+
+// Whether they still are with another byte at a place.
+fn are_page_with(alloc: Global, bytes: &[u8], place: usize, byte: u8) -> Result<bool, AllocError> {
+    let mut bytes = Vec::from_slice(alloc, bytes)?;
+    if place < bytes.len() {
+        bytes[place] = byte;
     }
-    assert!(rt; Page::of(rt.alloc(), &page.bytes()[1..])?.is_none(), "4,095 bytes");
-    assert!(rt; Page::of(rt.alloc(), page.bytes())?.is_some(), "all of them");
+    are_page(alloc, &bytes)
+}
+
+#[test]
+fn refuses_spoilt_bytes(rt: HostRuntime) -> Result<(), Fail> {
+    let page = two_records(rt.alloc())?;
+    let bytes = page.bytes();
+    for (name, place, byte) in &SPOILT {
+        let is = are_page_with(rt.alloc(), bytes, *place, *byte)?;
+        holds(&rt, name, !is);
+    }
+    holds(&rt, "all of them", are_page(rt.alloc(), bytes)?);
+    assert!(rt; bytes.len() == 4096);
+    holds(&rt, "4,095 bytes", !are_page(rt.alloc(), &bytes[1..])?);
     Ok(())
 }
 
@@ -137,23 +162,29 @@ fn taken(page: &mut Page, row: &Record) -> u16
     300
 }
 
+const HELD: [(u8, u16); 3] = [(1, 255), (2, 170), (15, 31)];
+
+// A page of records of so many fields holds so many.
+fn fills(rt: &impl Abort, alloc: Global, fields: u8, records: u16) -> Result<(), AllocError>
+    requires some { 0 < fields }
+    requires few { fields ≤ 15 }
+{
+    let mut page = Page::new(alloc, fields)?;
+    let count = taken(&mut page, &zeros_of(fields));
+    let is_so = count == records && page.len() == records;
+    assert!(rt;
+        is_so && capacity_of(fields) == records as usize,
+        "{fields} fields"
+    );
+    Ok(())
+}
+
 #[test]
-#[rattlefmt::skip]
 fn holds_as_many_records_as_4080_bytes(rt: HostRuntime) -> Result<(), Fail> {
-    let cases = [
-        // fields  records
-        (1,        255),
-        (2,        170),
-        (15,       31),
-    ];
-    for (fields, records) in cases {
-        if fields == 0 || fields > 15 {
-            continue;
+    for (fields, records) in &HELD {
+        if 0 < *fields && *fields <= 15 {
+            fills(&rt, rt.alloc(), *fields, *records)?;
         }
-        let mut page = Page::new(rt.alloc(), fields)?;
-        assert_eq!(rt; taken(&mut page, &zeros_of(fields)), records, "{fields} fields");
-        assert_eq!(rt; page.len(), records, "{fields} fields");
-        assert_eq!(rt; capacity_of(fields), records as usize, "{fields} fields");
     }
     Ok(())
 }

@@ -2,10 +2,12 @@
 ghost use Rattle.std.specs.Prelude.{◌≡◌, ◌+◌, ◌^◌, ◌<◌, ◌≤◌, length, IfOk};
 ghost use Rattle.segment.specs.Pages.{AreWide, page_count};
 
+use crate::asserts::same_at;
 use db_value::{Fields, Record, Records, Steps};
 use segment::Segment;
 use std::alloc::{AllocError, Global};
 use std::marker::Brand;
+use std::process::Abort;
 use std::sync::ledger::{Blank, Ledger};
 use std::test::Fail;
 
@@ -77,29 +79,50 @@ fn in_pages(segment: &Segment) -> u64 {
     count
 }
 
-#[test]
 #[rattlefmt::skip]
+const FILLED: [(u8, u32, u32); 8] = [
+    // fields  records  pages
+    (15,       0,       0),
+    (15,       31,      1),
+    (15,       32,      2),
+    (15,       63,      3),
+    (2,        340,     2),
+    (1,        16320,   64),
+    (1,        16321,   65),
+    (1,        33000,   130),
+];
+
+// A segment of so many records has them, each in its slot.
+fn is_filled(rt: &impl Abort, name: &str, segment: &Segment, records: u32) {
+    let count = u64::from(records);
+    same_at(rt, name, count, segment.len(), records);
+    same_at(rt, name, count, right(segment), records);
+}
+
+fn fills(
+    rt: &impl Abort,
+    alloc: Global,
+    fields: u8,
+    records: u32,
+    pages: u32,
+) -> Result<(), AllocError>
+    requires some { 0 < fields }
+    requires few { fields ≤ 15 }
+{
+    let segment = segment_of(alloc, fields, records)?;
+    let count = u64::from(records);
+    is_filled(rt, "the records", &segment, records);
+    same_at(rt, "the pages", count, segment.pages(), pages);
+    same_at(rt, "in all pages", count, in_pages(&segment), count);
+    Ok(())
+}
+
+#[test]
 fn fills_pages_one_after_another(rt: HostRuntime) -> Result<(), Fail> {
-    let cases = [
-        // fields  records  pages
-        (15,       0,       0),
-        (15,       31,      1),
-        (15,       32,      2),
-        (15,       63,      3),
-        (2,        340,     2),
-        (1,        16320,   64),
-        (1,        16321,   65),
-        (1,        33000,   130),
-    ];
-    for (fields, records, pages) in cases {
-        if fields == 0 || fields > 15 {
-            continue;
+    for (fields, records, pages) in &FILLED {
+        if 0 < *fields && *fields <= 15 {
+            fills(&rt, rt.alloc(), *fields, *records, *pages)?;
         }
-        let segment = segment_of(rt.alloc(), fields, records)?;
-        assert_eq!(rt; segment.len(), records, "{records} of {fields}");
-        assert_eq!(rt; segment.pages(), pages, "{records} of {fields}");
-        assert_eq!(rt; in_pages(&segment), u64::from(records), "{records} of {fields}");
-        assert_eq!(rt; right(&segment), records, "{records} of {fields}");
     }
     Ok(())
 }
@@ -127,27 +150,40 @@ fn grown(
     Ok(now)
 }
 
-#[test]
 #[rattlefmt::skip]
+const GROWN: [(u8, u32, u32); 5] = [
+    // fields  records  more at a time
+    (15,       0,       1),
+    (15,       30,      1),
+    (15,       1984,    1),
+    (1,        16300,   1),
+    (1,        200,     331),
+];
+
+fn grows(
+    rt: &impl Abort,
+    alloc: Global,
+    fields: u8,
+    records: u32,
+    by: u32,
+) -> Result<(), AllocError>
+    requires some { 0 < fields }
+    requires few { fields ≤ 15 }
+    requires small { (records < 2 ^ 16) × (by < 2 ^ 16) }
+{
+    let before = segment_of(alloc, fields, records)?;
+    let after = grown(alloc, &before, fields, records, by)?;
+    is_filled(rt, "before", &before, records);
+    is_filled(rt, "after", &after, records + 100 * by);
+    Ok(())
+}
+
+#[test]
 fn leaves_the_segment_before_as_it_was(rt: HostRuntime) -> Result<(), Fail> {
-    let cases = [
-        // fields  records  more at a time
-        (15,       0,       1),
-        (15,       30,      1),
-        (15,       1984,    1),
-        (1,        16300,   1),
-        (1,        200,     331),
-    ];
-    for (fields, records, by) in cases {
-        if fields == 0 || fields > 15 || records > 20000 || by > 400 {
-            continue;
+    for (fields, records, by) in &GROWN {
+        if 0 < *fields && *fields <= 15 && *records < 20000 && *by < 400 {
+            grows(&rt, rt.alloc(), *fields, *records, *by)?;
         }
-        let before = segment_of(rt.alloc(), fields, records)?;
-        let after = grown(rt.alloc(), &before, fields, records, by)?;
-        assert_eq!(rt; before.len(), records, "{records} of {fields}");
-        assert_eq!(rt; right(&before), records, "{records} of {fields}");
-        assert_eq!(rt; after.len(), records + 100 * by, "{records} of {fields}");
-        assert_eq!(rt; right(&after), records + 100 * by, "{records} of {fields}");
     }
     Ok(())
 }
@@ -206,27 +242,48 @@ fn first_wrong_before(segment: &Segment, turn: u32) -> u32 {
     segment.len()
 }
 
-#[test]
 #[rattlefmt::skip]
+const KEYS: [(u32, u32); 6] = [
+    // keys  records at a time, a hundred times
+    (1,      1),
+    (7,      1),
+    (7,      64),
+    (50,     3),
+    (640,    7),
+    (5000,   31),
+];
+
+fn finds_slots(rt: &impl Abort, alloc: Global, keys: u32, by: u32) -> Result<(), AllocError>
+    requires some { 0 < keys }
+    requires by { by < 400 }
+{
+    let segment = grown_in_turn(alloc, keys, by)?;
+    let number = u64::from(keys);
+    same_at(rt, "the records", number, segment.len(), 100 * by);
+    same_at(
+        rt,
+        "the last",
+        number,
+        first_wrong_last(&segment, keys),
+        keys,
+    );
+    same_at(
+        rt,
+        "the ones before",
+        number,
+        first_wrong_before(&segment, keys),
+        100 * by,
+    );
+    same_at(rt, "a key past them", number, segment.last(number), None);
+    Ok(())
+}
+
+#[test]
 fn finds_the_slots_of_keys(rt: HostRuntime) -> Result<(), Fail> {
-    let cases = [
-        // keys  records at a time, a hundred times
-        (1,      1),
-        (7,      1),
-        (7,      64),
-        (50,     3),
-        (640,    7),
-        (5000,   31),
-    ];
-    for (keys, by) in cases {
-        if keys == 0 || by > 400 {
-            continue;
+    for (keys, by) in &KEYS {
+        if 0 < *keys && *by < 400 {
+            finds_slots(&rt, rt.alloc(), *keys, *by)?;
         }
-        let segment = grown_in_turn(rt.alloc(), keys, by)?;
-        assert_eq!(rt; segment.len(), 100 * by, "{by} of {keys}");
-        assert_eq!(rt; first_wrong_last(&segment, keys), keys, "{by} of {keys}");
-        assert_eq!(rt; first_wrong_before(&segment, keys), 100 * by, "{by} of {keys}");
-        assert_eq!(rt; segment.last(u64::from(keys)), None, "{by} of {keys}");
     }
     Ok(())
 }

@@ -1,4 +1,5 @@
 //! Frames placed, set and given back.
+use crate::asserts::same;
 use std::test::Fail;
 use work_region::{Region, RegionFull};
 
@@ -9,15 +10,15 @@ fn is_sent_to_threads<T: Send>(_value: &T) {}
 fn is_full_exactly_at_its_size(rt: HostRuntime) -> Result<(), Fail> {
     let mut region = Region::take(rt.alloc(), 2)?;
     is_sent_to_threads(&region);
-    assert_eq!(rt; region.free(), 2, "nothing is placed yet");
+    same(&rt, "nothing is placed yet", region.free(), 2);
 
     let _first = region.place(10u64).expect(&rt, "a first frame");
     let second = region.place(20).expect(&rt, "a second frame");
-    assert_eq!(rt; region.free(), 0, "both are out");
-    assert_eq!(rt; region.place(30).err(), Some(RegionFull), "a third");
+    same(&rt, "both are out", region.free(), 0);
+    same(&rt, "a third", region.place(30).err(), Some(RegionFull));
 
     region.give_back(second);
-    assert_eq!(rt; region.free(), 1, "one was given back");
+    same(&rt, "one was given back", region.free(), 1);
     Ok(())
 }
 
@@ -28,12 +29,12 @@ fn frames_keep_their_items(rt: HostRuntime) -> Result<(), Fail> {
     let left = region.place(10u64).expect(&rt, "a first frame");
     let right = region.place(20).expect(&rt, "a second frame");
     region.set(&right, 21);
-    assert_eq!(rt; region.get(&left), 10, "the other frame, after a set");
-    assert_eq!(rt; region.get(&right), 21, "the frame that was set");
+    same(&rt, "the other frame, after a set", region.get(&left), 10);
+    same(&rt, "the frame that was set", region.get(&right), 21);
 
     region.give_back(left);
     let again = region.place(30).expect(&rt, "a frame again");
-    assert_eq!(rt; region.get(&again), 30, "the item that was placed last");
+    same(&rt, "the item that was placed last", region.get(&again), 30);
     Ok(())
 }
 
@@ -43,7 +44,7 @@ fn hands_out_65536_frames(rt: HostRuntime) -> Result<(), Fail> {
     for item in 0..65_536u64 {
         let _frame = region.place(item).expect(&rt, "a frame that is free");
     }
-    assert_eq!(rt; region.free(), 0, "all are out");
-    assert_eq!(rt; region.place(7).err(), Some(RegionFull), "one more");
+    same(&rt, "all are out", region.free(), 0);
+    same(&rt, "one more", region.place(7).err(), Some(RegionFull));
     Ok(())
 }

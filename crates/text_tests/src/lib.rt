@@ -2,6 +2,8 @@
 #![tactic(auto)]
 
 #[cfg(test)]
+mod asserts;
+#[cfg(test)]
 mod db_value_tests;
 #[cfg(test)]
 mod load_maker_tests;

@@ -4,6 +4,7 @@ ghost use Rattle.std.specs.List.{All};
 ghost use Rattle.reply_text.specs.Rows.{HasNames};
 ghost use Rattle.reply_text.specs.Reply.{NamesItsRows};
 
+use crate::asserts::holds;
 use db_value::{
     Fields, LayoutLine, ListOf, Live, LogLine, Marked, Name, Pair, Positions, Record, Refusal,
     Reply, Schema, SharedList, VersionName,
@@ -53,9 +54,9 @@ fn answers(
 ) -> Result<(), Fail> {
     let (schema, _) = Schema::read(alloc, b"relation items a b\nend\n")?;
     let text = ListOf::of(Vec::from_slice(alloc, line.as_bytes())?);
-    assert!(rt; names_its_rows(reply), "{line}: a position without a name");
+    assert!(rt; names_its_rows(reply));
     let bytes = write_reply(alloc, &schema, &text, reply)?;
-    assert!(rt; bytes.as_slice() == expected.as_bytes(), "{line}");
+    holds(rt, line, bytes.as_slice() == expected.as_bytes());
     Ok(())
 }
 
@@ -106,23 +107,88 @@ fn answers_rows(
     answers(rt, alloc, line, &reply, text)
 }
 
+// A line that made a version.
+fn answers_made(
+    rt: &impl Abort,
+    alloc: Global,
+    line: &str,
+    branch: &str,
+    position: u32,
+    expected: &str,
+) -> Result<(), Fail> {
+    let branch = name(branch)?;
+    answers(rt, alloc, line, &Reply::Made { branch, position }, expected)
+}
+
 #[test]
-#[rattlefmt::skip]
-fn answers_changes_and_gets(rt: HostRuntime) -> Result<(), Fail> {
-    let replies = [
-        ("1 begin",               Reply::Done,                                               "> 1 begin\nok\n"),
-        ("1 insert items 1 1 1",  Reply::Made { branch: name("master")?, position: 1 },      "> 1 insert items 1 1 1\nok master@1\n"),
-        ("2 branch dev of master", Reply::Made { branch: name("dev")?, position: 0 },        "> 2 branch dev of master\nok dev@0\n"),
-        ("1 get items 0",         Reply::One { row: None },                                  "> 1 get items 0\nnone\n"),
-        ("1 get items 1",         Reply::One { row: Some(row(1, &[11, -21])?) },             "> 1 get items 1\nrow 1 11 -21\n"),
-        ("1 get ends 18446744073709551615", Reply::One { row: Some(row(u64::MAX, &[i64::MIN, i64::MAX])?) },
-            "> 1 get ends 18446744073709551615\nrow 18446744073709551615 -9223372036854775808 9223372036854775807\n"),
-        ("hello",                 Reply::Refused { why: Refusal::Line },                     "> hello\nrefused 1 bad line\n"),
-    ];
-    for (line, reply, expected) in replies {
-        answers(&rt, rt.alloc(), line, &reply, expected)?;
-    }
-    Ok(())
+fn answers_changes(rt: HostRuntime) -> Result<(), Fail> {
+    let alloc = rt.alloc();
+    answers(&rt, alloc, "1 begin", &Reply::Done, "> 1 begin\nok\n")?;
+    let refused = Reply::Refused { why: Refusal::Line };
+    answers(
+        &rt,
+        alloc,
+        "hello",
+        &refused,
+        "> hello\nrefused 1 bad line\n",
+    )?;
+    let line = "1 insert items 1 1 1";
+    answers_made(
+        &rt,
+        alloc,
+        line,
+        "master",
+        1,
+        "> 1 insert items 1 1 1\nok master@1\n",
+    )?;
+    let line = "2 branch dev of master";
+    answers_made(
+        &rt,
+        alloc,
+        line,
+        "dev",
+        0,
+        "> 2 branch dev of master\nok dev@0\n",
+    )
+}
+
+// A line that found a record.
+fn answers_one(
+    rt: &impl Abort,
+    alloc: Global,
+    line: &str,
+    key: u64,
+    values: &[i64],
+    expected: &str,
+) -> Result<(), Fail> {
+    let row = Some(row(key, values)?);
+    answers(rt, alloc, line, &Reply::One { row }, expected)
+}
+
+#[test]
+fn answers_gets(rt: HostRuntime) -> Result<(), Fail> {
+    let alloc = rt.alloc();
+    let none = Reply::One { row: None };
+    answers(
+        &rt,
+        alloc,
+        "1 get items 0",
+        &none,
+        "> 1 get items 0\nnone\n",
+    )?;
+    let line = "1 get items 1";
+    answers_one(
+        &rt,
+        alloc,
+        line,
+        1,
+        &[11, -21],
+        "> 1 get items 1\nrow 1 11 -21\n",
+    )?;
+    let line = "1 get ends 18446744073709551615";
+    let ends =
+        "> 1 get ends 18446744073709551615\nrow 18446744073709551615 -9223372036854775808 9223372036854775807\n";
+    answers_one(&rt, alloc, line, u64::MAX, &[i64::MIN, i64::MAX], ends)
 }
 
 #[test]
@@ -219,7 +285,7 @@ fn made(branch: &str, position: u64, first: VersionName) -> Result<LogLine, Fail
 }
 
 #[test]
-fn answers_logs_and_graphs(rt: HostRuntime) -> Result<(), Fail> {
+fn answers_logs(rt: HostRuntime) -> Result<(), Fail> {
     let alloc = rt.alloc();
     let origin = version("master", Some(1))?;
     let branch = name("dev")?;
@@ -229,16 +295,24 @@ fn answers_logs_and_graphs(rt: HostRuntime) -> Result<(), Fail> {
         whole: false,
     };
     let text = "> 1 log dev\ndev@0 is master@1\npositions 1\n";
-    answers(&rt, alloc, "1 log dev", &log, text)?;
-    let merge = LogLine::Made {
+    answers(&rt, alloc, "1 log dev", &log, text)
+}
+
+fn merged() -> Result<LogLine, Fail> {
+    Ok(LogLine::Made {
         at: version("master", Some(3))?,
         first: version("master", Some(2))?,
         second: Some(version("dev", Some(1))?),
-    };
+    })
+}
+
+#[test]
+fn answers_graphs(rt: HostRuntime) -> Result<(), Fail> {
+    let alloc = rt.alloc();
     let origin = version("master", Some(1))?;
     let branch = name("dev")?;
     let lines = vec![in alloc;
-        merge,
+        merged()?,
         made("master", 2, version("master", Some(1))?)?,
         made("master", 1, version("master", Some(0))?)?,
         LogLine::Root,
@@ -296,39 +370,63 @@ fn answers_segments(rt: HostRuntime) -> Result<(), Fail> {
     answers(&rt, alloc, "1 segments", &layout, text)
 }
 
-#[test]
+fn refuses(rt: &impl Abort, alloc: Global, why: Refusal, text: &str) -> Result<(), Fail> {
+    let mut expected = String::from_str(alloc, "> 1 commit\nrefused ")?;
+    expected.push_str(text)?;
+    expected.push('\n')?;
+    answers(
+        rt,
+        alloc,
+        "1 commit",
+        &Reply::Refused { why },
+        expected.as_str(),
+    )
+}
+
 #[rattlefmt::skip]
-fn tells_each_refusal(rt: HostRuntime) -> Result<(), Fail> {
-    let items = name("items")?;
-    let dev = name("dev")?;
-    let a = name("a")?;
-    let refusals = [
-        (Refusal::Line,                                               "1 bad line"),
-        (Refusal::NoRelation { relation: name("nothing")? },          "2 no relation nothing"),
-        (Refusal::NoColumn { column: name("z")? },                    "3 no column z"),
-        (Refusal::NoBranch { branch: dev },                           "4 no branch dev"),
-        (Refusal::NoVersion { branch: name("master")?, position: 9 }, "5 no version master@9"),
-        (Refusal::KeyThere { relation: items, key: 1 },               "6 key there items 1"),
-        (Refusal::KeyMissing { relation: items, key: u64::MAX },      "7 key missing items 18446744073709551615"),
-        (Refusal::Held { lock: name("master")?, by: 1 },              "8 held master by 1"),
-        (Refusal::Held { lock: Name::catalogue(), by: 64 },           "8 held catalogue by 64"),
-        (Refusal::Conflict { relation: items, key: 1, field: Some(a) }, "9 conflict items 1 a"),
-        (Refusal::Conflict { relation: items, key: 1, field: None },  "9 conflict items 1 *"),
-        (Refusal::InTransaction,                                      "10 in transaction"),
-        (Refusal::NoTransaction,                                      "11 no transaction"),
-        (Refusal::Room { room: 2 },                                   "12 room 2"),
-        (Refusal::NotFirst,                                           "13 not first"),
-        (Refusal::BranchThere { branch: name("master")? },            "14 branch there master"),
-        (Refusal::BranchesFull,                                       "15 branches full"),
-        (Refusal::VersionsFull { branch: dev },                       "16 versions full dev"),
-        (Refusal::TableFull { relation: items },                      "17 table full items"),
-        (Refusal::Skipped,                                            "18 skipped"),
-        (Refusal::FaultDisk,                                          "19 fault disk"),
-        (Refusal::ValueCount { relation: items, columns: 2 },         "21 value count items 2"),
-    ];
-    for (why, text) in refusals {
-        let expected = format!(in rt.alloc(); "> 1 commit\nrefused {text}\n")?;
-        answers(&rt, rt.alloc(), "1 commit", &Reply::Refused { why }, expected.as_str())?;
+const PLAIN: [(Refusal, &str); 8] = [
+    (Refusal::Line,          "1 bad line"),
+    (Refusal::InTransaction, "10 in transaction"),
+    (Refusal::NoTransaction, "11 no transaction"),
+    (Refusal::Room { room: 2 }, "12 room 2"),
+    (Refusal::NotFirst,      "13 not first"),
+    (Refusal::BranchesFull,  "15 branches full"),
+    (Refusal::Skipped,       "18 skipped"),
+    (Refusal::FaultDisk,     "19 fault disk"),
+];
+
+#[test]
+fn tells_each_refusal_without_a_name(rt: HostRuntime) -> Result<(), Fail> {
+    for (why, text) in &PLAIN {
+        refuses(&rt, rt.alloc(), *why, text)?;
     }
     Ok(())
+}
+
+#[test]
+#[rattlefmt::skip]
+fn tells_each_refusal_of_a_name(rt: HostRuntime) -> Result<(), Fail> {
+    let (dev, nothing) = (name("dev")?, name("nothing")?);
+    let alloc = rt.alloc();
+    refuses(&rt, alloc, Refusal::NoRelation { relation: nothing },          "2 no relation nothing")?;
+    refuses(&rt, alloc, Refusal::NoColumn { column: nothing },              "3 no column nothing")?;
+    refuses(&rt, alloc, Refusal::NoBranch { branch: dev },                  "4 no branch dev")?;
+    refuses(&rt, alloc, Refusal::NoVersion { branch: dev, position: 9 },    "5 no version dev@9")?;
+    refuses(&rt, alloc, Refusal::Held { lock: dev, by: 1 },                 "8 held dev by 1")?;
+    refuses(&rt, alloc, Refusal::Held { lock: Name::catalogue(), by: 64 },  "8 held catalogue by 64")?;
+    refuses(&rt, alloc, Refusal::BranchThere { branch: dev },               "14 branch there dev")?;
+    refuses(&rt, alloc, Refusal::VersionsFull { branch: dev },              "16 versions full dev")
+}
+
+#[test]
+#[rattlefmt::skip]
+fn tells_each_refusal_of_a_relation(rt: HostRuntime) -> Result<(), Fail> {
+    let (relation, a) = (name("items")?, name("a")?);
+    let alloc = rt.alloc();
+    refuses(&rt, alloc, Refusal::KeyThere { relation, key: 1 },               "6 key there items 1")?;
+    refuses(&rt, alloc, Refusal::KeyMissing { relation, key: u64::MAX },      "7 key missing items 18446744073709551615")?;
+    refuses(&rt, alloc, Refusal::Conflict { relation, key: 1, field: Some(a) }, "9 conflict items 1 a")?;
+    refuses(&rt, alloc, Refusal::Conflict { relation, key: 1, field: None },  "9 conflict items 1 *")?;
+    refuses(&rt, alloc, Refusal::TableFull { relation },                      "17 table full items")?;
+    refuses(&rt, alloc, Refusal::ValueCount { relation, columns: 2 },         "21 value count items 2")
 }

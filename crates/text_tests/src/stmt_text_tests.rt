@@ -1,4 +1,5 @@
 //! Lines in the grammar, and lines that miss it by little. Sessions and values are written by hand.
+use crate::asserts::holds;
 use db_value::{Op, Prefer};
 use std::alloc::Global;
 use std::process::Abort;
@@ -196,27 +197,18 @@ fn is_bad(
     text: &[u8],
     session: u32,
 ) -> Result<(), Fail> {
-    match read_line(alloc, text) {
-        Err(stop) => {
-            assert!(rt; stop == LineStop::BadLine { session }, "{name}: {stop:?}");
-        }
-        Ok(_line) => {
-            assert!(rt; false, "{name}: it is read");
-        }
-    }
+    let is_so = match read_line(alloc, text) {
+        Err(stop) => stop == LineStop::BadLine { session },
+        Ok(_) => false,
+    };
+    holds(rt, name, is_so);
     Ok(())
 }
 
 fn is_good(rt: &impl Abort, alloc: Global, name: &str, text: &[u8]) -> Result<(), Fail> {
-    match read_line(alloc, text) {
-        Err(stop) => {
-            assert!(rt; false, "{name}: {stop:?}");
-        }
-        Ok(line) => {
-            let written = write_line(alloc, &line)?;
-            assert!(rt; written.as_slice() == text, "{name}: another text");
-        }
-    }
+    let line = read_line(alloc, text)?;
+    let written = write_line(alloc, &line)?;
+    holds(rt, name, written.as_slice() == text);
     Ok(())
 }
 
@@ -263,16 +255,22 @@ fn reads_and_writes_each_form(rt: HostRuntime) -> Result<(), Fail> {
     are_good(&rt, rt.alloc(), GOOD_READINGS)
 }
 
+const BAD: [&str; 8] = [
+    LINES_OF_NO_SESSION,
+    BAD_VERBS,
+    BAD_BRANCHES,
+    BAD_CHANGES,
+    BAD_UPDATES,
+    BAD_GETS,
+    BAD_SCANS,
+    BAD_PAIRS_OF_VERSIONS,
+];
+
 #[test]
 fn refuses_near_misses_with_their_session(rt: HostRuntime) -> Result<(), Fail> {
-    are_bad(&rt, rt.alloc(), LINES_OF_NO_SESSION)?;
-    are_bad(&rt, rt.alloc(), BAD_VERBS)?;
-    are_bad(&rt, rt.alloc(), BAD_BRANCHES)?;
-    are_bad(&rt, rt.alloc(), BAD_CHANGES)?;
-    are_bad(&rt, rt.alloc(), BAD_UPDATES)?;
-    are_bad(&rt, rt.alloc(), BAD_GETS)?;
-    are_bad(&rt, rt.alloc(), BAD_SCANS)?;
-    are_bad(&rt, rt.alloc(), BAD_PAIRS_OF_VERSIONS)?;
+    for rows in &BAD {
+        are_bad(&rt, rt.alloc(), rows)?;
+    }
     is_bad(&rt, rt.alloc(), "no bytes", b"".as_slice(), 0)?;
     is_bad(&rt, rt.alloc(), "no text", b"4 on \xff".as_slice(), 4)
 }
@@ -311,11 +309,11 @@ fn long_line(alloc: Global, last: &str) -> Result<String, Fail> {
 fn refuses_a_line_past_4096_bytes(rt: HostRuntime) -> Result<(), Fail> {
     let last = "abcdefghijklmnopqrstuvwxyz012345 >= -922337203685477580";
     let full = long_line(rt.alloc(), last)?;
-    assert_eq!(rt; full.len(), 4096);
+    assert!(rt; full.len() == 4096);
     is_good(&rt, rt.alloc(), "a line of 4,096 bytes", full.as_bytes())?;
     let last = "abcdefghijklmnopqrstuvwxyz012345 >= -9223372036854775808";
     let longer = long_line(rt.alloc(), last)?;
-    assert_eq!(rt; longer.len(), 4097);
+    assert!(rt; longer.len() == 4097);
     is_bad(
         &rt,
         rt.alloc(),
@@ -402,6 +400,11 @@ fn reads_the_values_of_a_line(rt: HostRuntime) -> Result<(), Fail> {
     assert!(rt; has_update_of_two(&update));
     let join = read_line(rt.alloc(), b"1 join items notes dev old")?;
     assert!(rt; has_join_without_condition(&join));
+    Ok(())
+}
+
+#[test]
+fn reads_a_room_and_a_side(rt: HostRuntime) -> Result<(), Fail> {
     let begin = read_line(rt.alloc(), b"1 begin 65536")?;
     assert!(rt; matches!(begin.stmt, Stmt::Begin { room: Some(65536) }));
     let merge = read_line(rt.alloc(), b"1 merge dev right")?;
@@ -427,14 +430,11 @@ x
 fn takes_an_input_apart(rt: HostRuntime) -> Result<(), Fail> {
     let sections = sections_of(rt.alloc(), THREE_SESSIONS.as_bytes())?;
     let sections = sections.as_slice();
-    assert_eq!(rt; sections.len(), 3);
-    assert_eq!(rt; sections[0].session, 0);
-    assert_eq!(rt; sections[1].session, 1);
-    assert_eq!(rt; sections[2].session, 2);
+    assert!(rt; sections.len() == 3);
+    assert!(rt; sections[0].session == 0 && sections[1].session == 1 && sections[2].session == 2);
     let lines = sections[2].lines.as_slice();
-    assert_eq!(rt; lines.len(), 2);
-    assert_eq!(rt; lines[0].line, 2);
-    assert_eq!(rt; lines[1].line, 6);
+    assert!(rt; lines.len() == 2);
+    assert!(rt; lines[0].line == 2 && lines[1].line == 6);
     assert!(rt; lines[1].text.as_slice() == b"2 commit".as_slice());
     Ok(())
 }
