@@ -26,7 +26,7 @@ use Rattle.db_core.proofs.NamedReplies.{replied_named, seat_named}
 use Rattle.db_core.proofs.Worlds.{Ok, ok_next, ok_opening}
 use Rattle.db_core.proofs.Seating.{open_as, ok_led, ok_after, after_all}
 use Rattle.db_core.proofs.Standing.{all_roomy, led_of, agree_there, agrees_bare}
-use Rattle.db_core.proofs.OtherDesks.{Names, names_after, room_behind, sits_after}
+use Rattle.db_core.proofs.OtherDesks.{Names, names_after, room_behind, sits_after, other_lines_law}
 use Rattle.db_core.proofs.Members.{says, settled_stands}
 use Rattle.db_core.proofs.Shutting.{member_stays, shut_next}
 
@@ -144,9 +144,13 @@ step_law c before behind s stands is =
 
 -- ---- members of other sessions, and the step of one
 
+-- its line is of its session
+pub member_session : (z : Bool) (w : World) (m : AtMember) → WaitsIn w m → (said_of m.line z).session ≡ m.session
+member_session z w m h = ap (λ (t : Said). t.session) (says w m h z)
+
 pub settled_others : (z : Bool) (w : World) (ms : List AtMember) (s : ℕ) → AllWaitIn w ms → HasNone s ms → AllOthers s (saids (member_steps z ms))
 settled_others z w [] s all none = tt
-settled_others z w (m ∷ more) s all none = (λ e. none.0 (sym (ap (λ (t : Said). t.session) (says w m all.0 z)) ∙ e), settled_others z w more s all.1 none.1)
+settled_others z w (m ∷ more) s all none = (λ e. none.0 (sym (member_session z w m all.0) ∙ e), settled_others z w more s all.1 none.1)
 
 waits_before : (w : World) (before behind : List AtMember) → AllWaitIn w (before ++ behind) → AllWaitIn w before
 waits_before w [] behind all = tt
@@ -178,7 +182,7 @@ settled_law z b before m behind all apart =
     let rest : AllWaitIn w (m ∷ behind) = waits_behind w before (m ∷ behind) all in
     record {
       steps = ap (λ (t : List Step). b.steps ++ t) (map-append (member_step z) before (m ∷ behind)) ∙ sym (append_assoc b.steps (member_steps z before) (member_steps z (m ∷ behind)));
-      session = ap (λ (t : Said). t.session) (says w m rest.0 z);
+      session = member_session z w m rest.0;
       others_before = settled_others z w before m.session (waits_before w before (m ∷ behind) all) (none_before m before behind apart);
       others_behind = settled_others z w behind m.session rest.1 (none_behind m before behind apart);
     }
@@ -201,6 +205,18 @@ module _ (z : Bool) (b : Kept) (stands : Stands b) where
       ∙ ap (λ (t : List Said). saids b.steps ++ t) (map-append said_step (member_steps z before) (member_steps z (m ∷ behind))))
       (subst (λ (s : ℕ). AllOthers s (saids (member_steps z before))) same among.others_before)
       (subst (λ (s : ℕ). AllOthers s (saids (member_steps z behind))) same among.others_behind)
+
+  -- what its line is told
+  pub settled_told : (before : List AtMember) (m : AtMember) (behind : List AtMember) → AllWaitIn u (before ++ m ∷ behind) → AllApart (before ++ m ∷ behind)
+      → IsToldIn (after (opening b.opening) (saids (b.steps ++ member_steps z before))) (member_step z m)
+  settled_told before m behind all apart =
+      step_law (settled_board z b u (before ++ m ∷ behind)) (b.steps ++ member_steps z before) (member_steps z behind) (member_step z m)
+      (settled_stands z (before ++ m ∷ behind) b stands all apart) (settled_law z b before m behind all apart).steps
+
+  -- that of another session
+  pub settled_other : (ms : List AtMember) (k : AtDesk) → AllWaitIn u ms → AllApart ms → HasNone k.session ms → Agrees b k → Agrees (settled_board z b u ms) k
+  settled_other ms k all apart none a =
+      other_lines_law b (settled_board z b u ms) k (saids (member_steps z ms)) a (settled_stands z ms b stands all apart) refl (map-append said_step b.steps (member_steps z ms)) (settled_others z u ms k.session all none)
 
   -- that of a session whose line waits on
   pub settled_awaits : (ms : List AtMember) (text : List ℕ) (k : AtDesk) → AllWaitIn u ms → HasNone k.session ms
