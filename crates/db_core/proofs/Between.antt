@@ -1,6 +1,6 @@
 -- Lines that come while members of a batch wait: those that are answered, and those that join.
 use Rattle.std.proofs.Common.{◌≡◌, ◌≤◌, ◌∙◌, ◌||◌, ℕ, nat_lt, is_some, Bool, true, false, cond, List, [], ◌∷◌, ◌++◌, Option, Some, None, refl, sym, ap, subst, arith}
-use Rattle.std.proofs.lemmas.Bool.{true≢false, false≢true, or_left, or_right}
+use Rattle.std.proofs.lemmas.Bool.{true≢false, or_left, or_right, or_parts}
 use Rattle.db_value.specs.declared.entry.Entry.{Entry}
 use Rattle.db_value.specs.declared.entry.Entry.TheVariants.{Commit as CommitEntry, Branch as BranchEntry}
 use Rattle.db_value.specs.declared.reply.Reply.{Reply}
@@ -41,7 +41,8 @@ use Rattle.db_core.proofs.Standing.{seated_agree, roomy_line, said_marked}
 use Rattle.db_core.proofs.Serving.{world_next}
 use Rattle.db_core.proofs.Nexts.{state_next}
 use Rattle.db_core.proofs.Committing.{asks_of}
-use Rattle.db_core.proofs.Offering.{waits_now, two_of, spared_of, offered_entered, offered_next, offered_none}
+use Rattle.db_core.proofs.Batches.{offered_none}
+use Rattle.db_core.proofs.Offering.{waits_now, two_of, spared_of, offered_entered, offered_next}
 
 -- ---- a line with an entry that is no commit is a `branch`
 
@@ -94,13 +95,9 @@ none_asked w st table n cur sk tx x roomy h goes alone none = none_called (call_
 
 -- ---- whether members are settled first
 
-pub none_of_both : (a b : Bool) → (a || b) ≡ false → (a ≡ false) × (b ≡ false)
-none_of_both false b e = (refl, e)
-none_of_both true b e = absurd (true≢false e)
-
 pub must_hinders : (rows : List Row) (ns : List Need) (x : Stmt) (ms : List AtMember) → must_settle rows ns x ms ≡ false → is_hindered rows ns ms ≡ false
 must_hinders rows ns x [] e = refl
-must_hinders rows ns x (m ∷ more) e = (none_of_both (is_alone x) (is_hindered rows ns (m ∷ more)) e).1
+must_hinders rows ns x (m ∷ more) e = (or_parts (is_alone x) (is_hindered rows ns (m ∷ more)) e).1
 
 pub settles_must : (b : Kept) (k : AtDesk) (text : List ℕ) (x : Stmt) (q : AtQueue) (ms : List AtMember) → must_settle b.rows (needs_for b k x) x ms ≡ true → settles_first b k text x q ms ≡ true
 settles_must b k text x q [] e = e
@@ -114,7 +111,7 @@ pub settles_not : (b : Kept) (k : AtDesk) (text : List ℕ) (x : Stmt) (q : AtQu
     → settles_first b k text x q ms ≡ false
 settles_not b k text x q [] e fits = refl
 settles_not b k text x q (m ∷ more) e fits =
-    ap (λ (a : Bool). a || overflows q.waiting (entry_called (call_now (entered b k) text))) e ∙ fits (none_of_both (is_alone x) (is_hindered b.rows (needs_for b k x) (m ∷ more)) e).0
+    ap (λ (a : Bool). a || overflows q.waiting (entry_called (call_now (entered b k) text))) e ∙ fits (or_parts (is_alone x) (is_hindered b.rows (needs_for b k x) (m ∷ more)) e).0
 
 -- ---- what is left as it was
 
@@ -186,10 +183,10 @@ module _ (b : Kept) (k : AtDesk) (a : Agrees b k) (text : List ℕ) (x : Stmt) (
     -- it is answered
     pub offered_answered : (r r2 : ℕ) (c : Kept) (q : AtQueue) (ks : List (Member St V P Q)) (failed : Bool) (reply : Reply) → k.skipping ≡ false → must_settle b.rows (needs_for b k x) x (members_of ks) ≡ false → HasNone s (members_of ks)
         → (AsksCommit (call_with w s (Some x)) → ⊥) → IsAnswered (entered b k) c text failed reply → Stands c → (is_alone x ≡ false → r2 ≡ r) → AreOffered Prepares r b q ks → AreOffered Prepares r2 c q ks
-    offered_answered r r2 c q [] failed reply goes must none asks answered stands ready o = offered_none Prepares r r2 b c q o
+    offered_answered r r2 c q [] failed reply goes must none asks answered stands ready o = offered_none {St = St} {V = V} {P = P} {Q = Q} Prepares r2 c q [] refl o.batch
     offered_answered r r2 c q (j ∷ more) failed reply goes must none asks answered stands ready o =
         let ms : List AtMember = members_of (j ∷ more) in
-        let two = none_of_both (is_alone x) (is_hindered b.rows (needs_for b k x) ms) must in
+        let two = or_parts (is_alone x) (is_hindered b.rows (needs_for b k x) ms) must in
         let same : r2 ≡ r = ready two.0 in
         let y : Said = said_of text failed in
         let said : y ≡ marked s x failed = said_marked text s x failed line in

@@ -1,6 +1,6 @@
 -- Members of a batch that waits, as lines are offered.
 use Rattle.std.proofs.Common.{◌≡◌, ⊎_elim, inl, inr, ℕ, suc, ◌<◌, ◌≤◌, ◌+◌, ◌==◌, ◌||◌, Bool, true, false, cond, List, [], ◌∷◌, ◌++◌, map, length, Option, Some, None, refl, sym, ap, ◌∙◌, subst, arith, append_assoc}
-use Rattle.std.proofs.lemmas.Bool.{true≢false, and_from, eq-eqb}
+use Rattle.std.proofs.lemmas.Bool.{true≢false, and_from, or_parts, eq-eqb}
 use Rattle.std.proofs.lemmas.List.{append-nil, map-append, length-append}
 use Rattle.std.proofs.lemmas.List.Elements.{All-push}
 use Rattle.std.specs.List.{All}
@@ -337,20 +337,12 @@ module _ {St V P Q : Type 0} (Prepares : P → State → Entry → Type 0) where
       (subst (λ (u : World). AllWaitIn u (members_of ks)) (sym world) (spared_next w ok y room (members_of ks) o.each spared))
       (ap (λ (u : World). entries_now u (members_of ks)) world ∙ entries_spared w ok y room (members_of ks) o.each spared) o
 
-  -- where none waits
-  pub offered_none : (r r2 : ℕ) (b c : Kept) (q : AtQueue) → AreOffered {St = St} {V = V} {P = P} {Q = Q} Prepares r b q [] → AreOffered {St = St} {V = V} {P = P} {Q = Q} Prepares r2 c q []
-  offered_none r r2 b c q o = record { batch = o.batch; few = o.few; entries = tt; each = tt; apart = tt; tickets = o.tickets; prepared = tt; room = omega arith }
-
 -- ---- what the loops over the members decide
-
-none_of_both : (a b : Bool) → (a || b) ≡ false → (a ≡ false) × (b ≡ false)
-none_of_both false b e = (refl, e)
-none_of_both true b e = absurd (true≢false e)
 
 unblocked : (ns : List Need) (m n : Need) → conflicts ns m ≡ false → Has ns n → n.lock ≡ m.lock → (n.exclusive || m.exclusive) ≡ true → ⊥
 unblocked [] m n free has same alone = has
 unblocked (k ∷ ks) m n free has same alone =
-    let two = none_of_both (conflict k m) (conflicts ks m) free in
+    let two = or_parts (conflict k m) (conflicts ks m) free in
     ⊎_elim
     (λ (e : k ≡ n). true≢false (sym (and_from (n.lock == m.lock) (n.exclusive || m.exclusive) (eq-eqb n.lock m.lock same) alone) ∙ subst (λ (z : Need). conflict z m ≡ false) e two.0))
     (λ (g : Has ks n). unblocked ks m n two.1 g same alone)
@@ -359,7 +351,7 @@ unblocked (k ∷ ks) m n free has same alone =
 unhindered : (ns ms : List Need) → any_conflict ns ms ≡ false → NoneConflict ns ms
 unhindered ns [] free = λ n m hn hm same alone. hm
 unhindered ns (k ∷ ks) free = λ n m hn hm same alone.
-    let two = none_of_both (conflicts ns k) (any_conflict ns ks) free in
+    let two = or_parts (conflicts ns k) (any_conflict ns ks) free in
     ⊎_elim
     (λ (e : k ≡ m). unblocked ns m n (subst (λ (z : Need). conflicts ns z ≡ false) e two.0) hn same alone)
     (λ (g : Has ks m). unhindered ns ks two.1 n m hn g same alone)
@@ -369,14 +361,14 @@ unhindered ns (k ∷ ks) free = λ n m hn hm same alone.
 pub two_of : (rows : List Row) (n : AtMember) (ms : List AtMember) → is_hindered rows n.needs ms ≡ false → HasNone n.session ms → AllTwo ms n
 two_of rows n [] free none = tt
 two_of rows n (m ∷ more) free none =
-    let two = none_of_both (any_conflict n.needs m.needs || holds m.session n.needs rows) (is_hindered rows n.needs more) free in
-    let own = none_of_both (any_conflict n.needs m.needs) (holds m.session n.needs rows) two.0 in
+    let two = or_parts (any_conflict n.needs m.needs || holds m.session n.needs rows) (is_hindered rows n.needs more) free in
+    let own = or_parts (any_conflict n.needs m.needs) (holds m.session n.needs rows) two.0 in
     (record { sessions = λ e. none.0 (sym e); needs = unhindered n.needs m.needs own.0 }, two_of rows n more two.1 none.1)
 
 pub spared_of : (rows : List Row) (w : World) (y : Said) (ms : List AtMember) → is_hindered rows (line_needs w y.session y.stmt) ms ≡ false → HasNone y.session ms → AllSpared w y ms
 spared_of rows w y [] free none = tt
 spared_of rows w y (m ∷ more) free none =
     let ns : List Need = line_needs w y.session y.stmt in
-    let two = none_of_both (any_conflict ns m.needs || holds m.session ns rows) (is_hindered rows ns more) free in
-    let own = none_of_both (any_conflict ns m.needs) (holds m.session ns rows) two.0 in
+    let two = or_parts (any_conflict ns m.needs || holds m.session ns rows) (is_hindered rows ns more) free in
+    let own = or_parts (any_conflict ns m.needs) (holds m.session ns rows) two.0 in
     ((none.0, turned ns m.needs (unhindered ns m.needs own.0)), spared_of rows w y more two.1 none.1)

@@ -24,10 +24,11 @@ use Rattle.db_core.specs.Order.{Said, said_of, reply_in}
 use Rattle.db_core.specs.Laws.{AllHaveRoom}
 use Rattle.db_core.specs.Kept.{Kept, Logged, Stands, world_of}
 use Rattle.db_core.specs.Answered.{Ran, call_now}
-use Rattle.db_core.specs.Desk.{AtDesk, IsDeskOf, entered, cleared, needs_for, IsSameIf}
+use Rattle.db_core.specs.Sits.{heard}
+use Rattle.db_core.specs.Desk.{AtDesk, Agrees, IsDeskOf, entered, cleared, needs_for, waits, IsSameIf}
 use Rattle.db_core.specs.Groups.{AsksCommit}
 use Rattle.db_core.specs.Members.{AtMember, WaitsIn, AreTwo}
-use Rattle.db_core.specs.Waiting.{at_member}
+use Rattle.db_core.specs.Waiting.{at_member, members_of, AreOffered}
 
 -- ---- whether the members that wait are settled first
 
@@ -67,6 +68,14 @@ settles_first b k text x q (m ∷ more) = must_settle b.rows (needs_for b k x) x
 abbrev pub HasNone : ℕ → List AtMember → Type 0
 HasNone s [] = Unit {0}
 HasNone s (m ∷ more) = (m.session ≡ s → ⊥) × HasNone s more
+
+-- A line of a desk may be offered: board, desk, queue and members agree, the line was read as this statement and isn't local, and no member is of its session.
+pub record MayOffer {St V P Q : Type 0} (Prepares : P → State → Entry → Type 0) (ready : ℕ) (b : Kept) (k : AtDesk) (text : List ℕ) (x : Stmt) (q : AtQueue) (ks : List (Member St V P Q)) : Type 0 where
+  pub agree : Agrees b k
+  pub line : said_of text false ≡ heard k.session x
+  pub local : waits k (Some x) ≡ false
+  pub offered : AreOffered Prepares ready b q ks
+  pub alone : HasNone k.session (members_of ks)
 
 -- ---- the commit of a line
 

@@ -1,4 +1,5 @@
 use Rattle.std.proofs.Common.{◌≡◌, ◌∙◌, ◌<◌, ℕ, is_some, not, length, refl, ap, sym, subst, true, false, Bool, List, [], Option, Some, None}
+use Rattle.std.proofs.lemmas.Bool.{or_parts}
 use Rattle.std.specs.List.{All}
 use Rattle.db_store.specs.State.{State, dataset_of}
 use Rattle.lock_table.specs.declared.need.Need.{Need}
@@ -22,7 +23,7 @@ use Rattle.db_core.proofs.Answering.{seated_as}
 use Rattle.db_core.proofs.Standing.{seated_agree, agree_there, roomy_line}
 use Rattle.db_core.proofs.Offering.{offered_entered}
 use Rattle.db_core.proofs.Joining.{some_full, not_true, not_false}
-use Rattle.db_core.proofs.Between.{none_of_both, alone_branch, rightly_answered, rightly_ticketed, rightly_full, may_join, offered_answered}
+use Rattle.db_core.proofs.Between.{alone_branch, rightly_answered, rightly_ticketed, rightly_full, may_join, offered_answered}
 use Rattle.db_core.proofs.board.Board.offer.Goals as goal
 
 pub commit_of-requires-clause-seated : goal.commit_of-requires-clause-seated
@@ -40,7 +41,7 @@ commit_of-requires-clause-seated g c =
 pub commit_of-requires-clause-goes : goal.commit_of-requires-clause-goes
 commit_of-requires-clause-goes g c =
     let k : AtDesk = c.args.desk.now in
-    ap (λ (x : AtDesk). x.skipping) c.desk.view_is ∙ (none_of_both k.skipping (answers k.schema k.open_tx c.args.stmt.now) c.requires.local).0
+    ap (λ (x : AtDesk). x.skipping) c.desk.view_is ∙ (or_parts k.skipping (answers k.schema k.open_tx c.args.stmt.now) c.requires.local).0
 
 pub commit_of-requires-clause-line : goal.commit_of-requires-clause-line
 commit_of-requires-clause-line g c =
@@ -81,7 +82,7 @@ returns-in-None-clause-which g c =
     c.as_slice-asked.ensures ∙ c.in_ok-needs.ensures ∙ (λ i. asked_at (dataset_of (ap (λ (y : Kept). y.now) v i)) (ap (λ (y : AtDesk). y.current) u i) (ap (λ (y : AtDesk). y.open_tx) u i) x) in
     let must : must_settle b.rows (needs_for b k x) x ms ≡ false =
     (λ i. must_settle (sym (ap (λ (y : Kept). y.rows) v) i) (sym nq i) x (members_of (sym c.as_slice.ensures.value i))) ∙ sym c.must_settle.ensures ∙ c.if-must_settle.false in
-    let goes : k.skipping ≡ false = (none_of_both k.skipping (answers k.schema k.open_tx x) c.requires.local).0 in
+    let goes : k.skipping ≡ false = (or_parts k.skipping (answers k.schema k.open_tx x) c.requires.local).0 in
     let w : World = world_of (entered b k) in
     let seated : Seated w (g.St.Store.state c.self.inside.store) c.self.inside.locks.rows c.desk.inside.session.number c.desk.inside.session.current c.desk.inside.session.skipping c.desk.inside.session.tx =
     seated_as w b.now (g.St.Store.state c.self.inside.store) b.rows c.self.inside.locks.rows k.session c.desk.inside.session.number k.current c.desk.inside.session.current k.skipping c.desk.inside.session.skipping k.open_tx c.desk.inside.session.tx
@@ -106,7 +107,7 @@ returns-in-None-clause-offered g c =
     c.as_slice-asked.ensures ∙ c.in_ok-needs.ensures ∙ (λ i. asked_at (dataset_of (ap (λ (y : Kept). y.now) v i)) (ap (λ (y : AtDesk). y.current) u i) (ap (λ (y : AtDesk). y.open_tx) u i) x) in
     let must : must_settle b.rows (needs_for b k x) x ms ≡ false =
     (λ i. must_settle (sym (ap (λ (y : Kept). y.rows) v) i) (sym nq i) x (members_of (sym c.as_slice.ensures.value i))) ∙ sym c.must_settle.ensures ∙ c.if-must_settle.false in
-    let goes : k.skipping ≡ false = (none_of_both k.skipping (answers k.schema k.open_tx x) c.requires.local).0 in
+    let goes : k.skipping ≡ false = (or_parts k.skipping (answers k.schema k.open_tx x) c.requires.local).0 in
     let w : World = world_of (entered b k) in
     let seated : Seated w (g.St.Store.state c.self.inside.store) c.self.inside.locks.rows c.desk.inside.session.number c.desk.inside.session.current c.desk.inside.session.skipping c.desk.inside.session.tx =
     seated_as w b.now (g.St.Store.state c.self.inside.store) b.rows c.self.inside.locks.rows k.session c.desk.inside.session.number k.current c.desk.inside.session.current k.skipping c.desk.inside.session.skipping k.open_tx c.desk.inside.session.tx
