@@ -1,5 +1,5 @@
 -- A line that joins a batch.
-use Rattle.std.proofs.Common.{◌≡◌, ◌<◌, ◌≤◌, ◌+◌, ◌∙◌, ℕ, nat_lt, not, Bool, true, false, List, [], ◌∷◌, ◌++◌, length, Option, None, Some, refl, sym, ap, subst, arith}
+use Rattle.std.proofs.Common.{◌≡◌, ◌<◌, ◌≤◌, ◌+◌, ◌∙◌, ℕ, not, Bool, true, false, List, [], ◌∷◌, ◌++◌, length, None, Some, refl, sym, ap, subst, arith}
 use Rattle.std.proofs.lemmas.Bool.{ltb-false, ltb-true}
 use Rattle.std.proofs.lemmas.List.{length-append}
 use Rattle.db_value.specs.declared.entry.Entry.{Entry}
@@ -14,7 +14,6 @@ use Rattle.entry_codec.specs.Laws.{IsNamed, IsEntry}
 use Rattle.lock_table.specs.declared.need.Need.{Need}
 use Rattle.reply_text.specs.Reply.{NamesItsRows}
 use Rattle.flush_queue.specs.Queue.{AtQueue, next_ticket}
-use Rattle.store_tx.specs.declared.stored.LogCall.TheVariants.{Append}
 use Rattle.store_tx.specs.Stored.{entry_called}
 use Rattle.store_tx.proofs.OwnLines.{called_of}
 use Rattle.store_tx.proofs.Storing.{entry_few}

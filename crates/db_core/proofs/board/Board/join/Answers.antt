@@ -1,4 +1,4 @@
-use Rattle.std.proofs.Common.{◌≡◌, ◌∙◌, ◌≤◌, ◌+◌, ◌++◌, ◌∷◌, [], ℕ, nat_lt, not, is_some, length, true, ap, refl, sym, subst, List, Option, None, Some}
+use Rattle.std.proofs.Common.{◌≡◌, ◌∙◌, ◌≤◌, ◌+◌, ◌++◌, ◌∷◌, [], ℕ, nat_lt, not, is_some, length, true, ap, sym, subst, List, Option}
 use Rattle.std.specs.Prelude.{IfSome}
 use Rattle.db_outside.specs.Record.{most_body}
 use Rattle.entry_codec.specs.Spelling.{spelling}
@@ -9,9 +9,8 @@ use Rattle.db_store.specs.State.{State, dataset_of}
 use Rattle.store_tx.proofs.Storing.{few_fit}
 use Rattle.db_core.specs.declared.member.Member.{Member}
 use Rattle.db_core.specs.Kept.{Kept, Logged}
-use Rattle.db_core.specs.Desk.{AtDesk, cleared, entered}
+use Rattle.db_core.specs.Desk.{AtDesk, entered}
 use Rattle.db_core.specs.Waiting.{AreOffered, at_member, members_of}
-use Rattle.db_core.specs.Members.{AtMember}
 use Rattle.db_core.proofs.Logging.{kept_is}
 use Rattle.db_core.proofs.Joining.{join_commit, join_fits, join_named, short_of, few_of, ticketed, offered_joined}
 use Rattle.db_core.proofs.board.Board.join.Goals as goal
