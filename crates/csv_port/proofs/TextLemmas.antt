@@ -98,11 +98,10 @@ one_digit : 49 ∷ [] ≡ decimal 1
 one_digit = sym (decimal-digits_value own (49 ∷ []) refl (omega arith) (λ e. refl) (omega arith))
 
 -- its parts, one behind another
-pub spelled : (relation : List ℕ) (row : Record) → (((([] ++ codes "1 insert ") ++ relation) ++ 32 ∷ []) ++ decimal row.key) ++ flat_map (λ v. 32 ∷ signed_decimal v) row.fields ≡ text_by (insert_row relation row)
+pub spelled : (relation : List ℕ) (row : Record) → ((([] ++ codes "1 insert ") ++ relation) ++ 32 ∷ []) ++ (decimal row.key ++ flat_map (λ v. 32 ∷ signed_decimal v) row.fields) ≡ text_by (insert_row relation row)
 spelled relation row =
     let tail : List ℕ = flat_map (λ v. 32 ∷ signed_decimal v) row.fields in
-    append_assoc ((codes "1 insert " ++ relation) ++ 32 ∷ []) (decimal row.key) tail
-    ∙ append_assoc (codes "1 insert " ++ relation) (32 ∷ []) (decimal row.key ++ tail)
+    append_assoc (codes "1 insert " ++ relation) (32 ∷ []) (decimal row.key ++ tail)
     ∙ append_assoc (codes "1 insert ") relation (32 ∷ (decimal row.key ++ tail))
     ∙ ap (λ (xs : List ℕ). codes "1 insert " ++ relation ++ 32 ∷ (decimal row.key ++ xs)) (words_of row.fields)
     ∙ ap (λ (one : List ℕ). one ++ behind_spaces (codes "insert" ∷ relation ∷ decimal row.key ∷ map signed_decimal row.fields)) one_digit

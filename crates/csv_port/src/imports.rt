@@ -7,9 +7,9 @@ ghost use Rattle.csv_port.specs.Import.{count_named, import_told, lines_told, st
 ghost use Rattle.csv_port.specs.Ran.{RanStmt, RunsToEnd, RunsFirst, StopsAs};
 ghost use Rattle.csv_port.specs.Laws.{CanImport};
 
+use crate::numbers::push_numbers;
 use crate::rows::{MOST_ROWS, read_rows};
 use crate::stop::ImportStop;
-use crate::written::{push_behind, push_key};
 use db_core::Core;
 use db_store::Store;
 use db_value::{LineText, ListOf, Name, Record, Records, Refusal, Reply, Schema};
@@ -58,8 +58,7 @@ fn insert_text(mut text: Vec<u8>, relation: &Name, row: &Record) -> Result<LineT
     text.extend_from_slice(b"1 insert ")?;
     text.extend_from_slice(relation.as_bytes())?;
     text.push(b' ')?;
-    push_key(&mut text, row.key)?;
-    push_behind(&mut text, b' ', row.fields.as_slice())?;
+    push_numbers(&mut text, b' ', row)?;
     Ok(ListOf::of(text))
 }
 

@@ -1,13 +1,11 @@
 //! Rows as text.
-ghost use Rattle.std.specs.Prelude.{◌≡◌, ◌<◌, ◌++◌, ◌∷◌, length, IfOk, OnOk};
-ghost use Rattle.std.specs.List.{flat_map};
-ghost use Rattle.std.specs.Fmt.{decimal, signed_decimal};
+ghost use Rattle.std.specs.Prelude.{◌≡◌, ◌<◌, ◌++◌, length, IfOk, OnOk};
 ghost use Rattle.db_store.specs.Table.{relation_at, rows_of};
 ghost use Rattle.csv_port.specs.Written.{row_text, rows_text};
 
+use crate::numbers::push_numbers;
 use db_store::{View, list_all};
 use db_value::{ListOf, Record, Records, Steps};
-use itoa::Buffer;
 use std::alloc::{AllocError, Global};
 use std::marker::Brand;
 use std::sync::ledger::{Blank, Ledger};
@@ -15,37 +13,10 @@ use std::sync::ledger::{Blank, Ledger};
 /// The bytes of a text of CSV.
 pub type CsvBytes = ListOf<u8>;
 
-pub(crate) fn push_key(out: &mut Vec<u8>, key: u64) -> Result<(), AllocError>
-    ensures { OnOk result (out.new.items ≡ out.old.items ++ decimal key) }
-{
-    let mut digits = Buffer::new();
-    out.extend_from_slice(digits.format(key).as_bytes())
-}
-
-fn push_value(out: &mut Vec<u8>, value: i64) -> Result<(), AllocError>
-    ensures { OnOk result (out.new.items ≡ out.old.items ++ signed_decimal value) }
-{
-    let mut digits = Buffer::new();
-    out.extend_from_slice(digits.format(value).as_bytes())
-}
-
-// Values, each behind a byte.
-pub(crate) fn push_behind(out: &mut Vec<u8>, mark: u8, values: &[i64]) -> Result<(), AllocError>
-    ensures { OnOk result (out.new.items
-        ≡ out.old.items ++ flat_map (λ v. mark ∷ signed_decimal v) values.now) }
-{
-    for value in values {
-        out.push(mark)?;
-        push_value(out, *value)?;
-    }
-    Ok(())
-}
-
 fn push_row(out: &mut Vec<u8>, row: &Record) -> Result<(), AllocError>
     ensures { OnOk result (out.new.items ≡ out.old.items ++ row_text row.now) }
 {
-    push_key(out, row.key)?;
-    push_behind(out, b',', row.fields.as_slice())?;
+    push_numbers(out, b',', row)?;
     out.push(b'\n')?;
     Ok(())
 }

@@ -35,13 +35,13 @@ from_lock m (k ∷ ks) r h = ⊎_elim
     (has_parts (map (row_of m) k.grants) (rows_from (suc m) ks) r h)
 
 -- the rows of one lock are among those of all
-part_has : (ks : List LockGrants) (i m l : ℕ) (d : LockGrants) (r : Row) → l ≡ m + i → i < length ks → Has (map (row_of l) (get_or ks i d).grants) r → Has (rows_from m ks) r
+pub part_has : (ks : List LockGrants) (i m l : ℕ) (d : LockGrants) (r : Row) → l ≡ m + i → i < length ks → Has (map (row_of l) (get_or ks i d).grants) r → Has (rows_from m ks) r
 part_has [] i m l d r e lt h = absurd (omega arith)
 part_has (k ∷ ks) zero m l d r e lt h = has_left (map (row_of m) k.grants) (rows_from (suc m) ks) r (let same : l ≡ m = omega (arith, e) in subst (λ (x : ℕ). Has (map (row_of x) k.grants) r) same h)
 part_has (k ∷ ks) (suc i) m l d r e lt h = has_right (map (row_of m) k.grants) (rows_from (suc m) ks) r (part_has ks i (suc m) l d r (omega (arith, e)) (omega (arith, lt)) h)
 
 -- a row of this lock is among its rows
-has_part : (ks : List LockGrants) (i m l : ℕ) (d : LockGrants) (r : Row) → l ≡ m + i → i < length ks → r.need.lock ≡ l → Has (rows_from m ks) r → Has (map (row_of l) (get_or ks i d).grants) r
+pub has_part : (ks : List LockGrants) (i m l : ℕ) (d : LockGrants) (r : Row) → l ≡ m + i → i < length ks → r.need.lock ≡ l → Has (rows_from m ks) r → Has (map (row_of l) (get_or ks i d).grants) r
 has_part [] i m l d r e lt s h = absurd (omega arith)
 has_part (k ∷ ks) zero m l d r e lt s h = ⊎_elim
     (λ (a : Has (map (row_of m) k.grants) r). let same : m ≡ l = omega (arith, e) in subst (λ (x : ℕ). Has (map (row_of x) k.grants) r) same a)

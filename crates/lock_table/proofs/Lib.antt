@@ -3,3 +3,4 @@ pub mod Added
 pub mod Kept
 pub mod Rooms
 pub mod Marked
+pub mod Holding

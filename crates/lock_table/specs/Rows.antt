@@ -35,3 +35,8 @@ abbrev pub holder : ℕ → List Need → List Row → Option (ℕ × ℕ)
 holder session needs [] = None
 holder session needs (r ∷ rs) =
     cond (blocks session needs r) (Some (lesser (r.need.lock, r.session) (holder session needs rs))) (holder session needs rs)
+
+-- a row of the session conflicts with one of the needs
+abbrev pub holds : ℕ → List Need → List Row → Bool
+holds session needs [] = false
+holds session needs (r ∷ rs) = (r.session == session && conflicts needs r.need) || holds session needs rs

@@ -1,6 +1,6 @@
 //! The rows of one lock.
 ghost use Rattle.std.specs.Prelude.{◌≡◌, ◌≤◌, ◌<◌, true, false, [], ◌∷◌, map, length, OnOk};
-ghost use Rattle.lock_table.specs.Rows.{lesser, holder};
+ghost use Rattle.lock_table.specs.Rows.{lesser, holder, holds};
 ghost use Rattle.lock_table.specs.Kept.{row_of, same_grant, has_grant, with_grant, without_grants};
 
 use crate::need::Need;
@@ -55,6 +55,13 @@ impl Lock {
         least_holder(self.grants.as_slice(), session, need)
     }
 
+    /// Does a grant of the session conflict with the need?
+    pub fn holds(&self, session: u32, need: Need) -> bool
+        ensures { result ≡ holds session (need ∷ []) (map (row_of need.lock) self.now.grants) }
+    {
+        has_conflict(self.grants.as_slice(), session, need)
+    }
+
     /// Gives the grant, unless it is there.
     pub fn grant(&mut self, grant: Grant)
         requires { has_grant grant self.old.grants ≡ false
@@ -103,6 +110,17 @@ fn is_granted(grants: &[Grant], grant: Grant) -> bool
 {
     for other in grants {
         if is_same(*other, grant) {
+            return true;
+        }
+    }
+    false
+}
+
+fn has_conflict(grants: &[Grant], session: u32, need: Need) -> bool
+    ensures { result ≡ holds session (need ∷ []) (map (row_of need.lock) grants.now) }
+{
+    for grant in grants {
+        if grant.session == session && (need.exclusive || grant.exclusive) {
             return true;
         }
     }

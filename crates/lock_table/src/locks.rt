@@ -1,6 +1,6 @@
 //! The table of locks.
 ghost use Rattle.std.specs.Prelude.{◌≡◌, ◌<◌, ◌≤◌, ℕ, [], map, All, OnOk, OnErr, IfOk};
-ghost use Rattle.lock_table.specs.Rows.{Table, holder};
+ghost use Rattle.lock_table.specs.Rows.{Table, holder, holds};
 ghost use Rattle.lock_table.specs.Grants.{IsAdmitted, granted, added, without, joined};
 ghost use Rattle.lock_table.specs.Answer.{answer_of};
 ghost use Rattle.lock_table.specs.Kept.{Grows, without_grants};
@@ -113,6 +113,20 @@ impl Locks {
             }
         }
         least
+    }
+
+    /// Would a request be held by this session?
+    pub fn holds(&self, session: u32, needs: &[Need]) -> bool
+        requires { All (λ n. n.lock < LOCKS) needs.now }
+        ensures { result ≡ holds session needs.now self.now.rows }
+    {
+        let locks = self.locks.as_slice();
+        for need in needs {
+            if locks[need.lock as usize].holds(session, *need) {
+                return true;
+            }
+        }
+        false
     }
 
     fn grant(&mut self, session: u32, need: Need)

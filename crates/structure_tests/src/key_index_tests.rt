@@ -108,6 +108,41 @@ fn agrees_with_a_tree_in_each_order(rt: HostRuntime) -> Result<(), Fail> {
 }
 
 #[test]
+fn makes_many_changes_at_once(rt: HostRuntime) -> Result<(), Fail> {
+    let mut index = KeyIndex::new(rt.alloc());
+    let mut tree = BTreeMap::new(rt.alloc());
+    for (round, step) in [(0u64, 1), (1, 7), (2, KEYS - 1)] {
+        let mut changes = Vec::new(rt.alloc());
+        for i in 0..KEYS + 50 {
+            let key = i * step % KEYS;
+            let place = if (i + round) % 3 == 0 {
+                None
+            } else {
+                Some((i as u32, round as u32))
+            };
+            changes.push((key, place))?;
+            match place {
+                Some(place) => {
+                    tree.insert(key, place)?;
+                }
+                None => {
+                    tree.remove(&key);
+                }
+            }
+        }
+        index = index.with_changes(&changes_of(rt.alloc(), &changes)?)?;
+        for key in 0..KEYS + 2 {
+            assert_eq!(rt;
+                index.find(key),
+                tree.get(&key).copied(),
+                "round {round}, {key}"
+            );
+        }
+    }
+    Ok(())
+}
+
+#[test]
 #[tactic(auto, using(key_index::proofs::Touches::touches))]
 #[rattlefmt::skip]
 fn takes_one_key_in_room_for_one(rt: HostRuntime) -> Result<(), Fail> {
@@ -140,5 +175,19 @@ fn takes_65536_keys(rt: HostRuntime) -> Result<(), Fail> {
         assert_eq!(rt; overlay.find(7, key).copied(), Some(key + 1), "at {key}");
     }
     assert_eq!(rt; overlay.find(6, 0).copied(), None, "in another relation");
+    Ok(())
+}
+
+#[test]
+#[tactic(auto, using(key_index::proofs::Touches::touches))]
+fn puts_an_item_only_where_there_is_none(rt: HostRuntime) -> Result<(), Fail> {
+    let mut overlay = Overlay::with_room(rt.alloc(), 1)?;
+    assert_eq!(rt; overlay.put_new(0, 5, 10u64), None, "a key without an item");
+    assert_eq!(rt; overlay.put_new(0, 5, 11), Some(10), "a key with one");
+    assert_eq!(rt;
+        overlay.find(0, 5).copied(),
+        Some(10),
+        "the item that stayed"
+    );
     Ok(())
 }
