@@ -17,8 +17,8 @@ loop-change-preserved c =
     let split : puts (drop i cs) c.args.relation ≡ one ++ rest = puts_drop cs c.args.relation i z c.loop-change-test.true ∙ ap (λ (x : Change). puts (x ∷ []) c.args.relation ++ rest) (sym here) in
     let all = ap (λ (xs : List Record). length xs) split in
     let n = length-append one rest in
-    let put = c.count_put.ensures.count in
-    let one_more = c.count_put.ensures.few in
+    let put = c.count_put-count.ensures.count in
+    let one_more = c.count_put-count.ensures.few in
     let before = c.loop-change.invariant.count in
     let few = c.loop-change.invariant.few in
     record { count = omega (arith, all, n, put, before); few = omega (arith, few, one_more) }
