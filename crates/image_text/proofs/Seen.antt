@@ -108,23 +108,36 @@ page_after columns count seen bytes =
 abbrev moved : ℕ → List Record → List ℕ → Read (ℕ × List Record)
 moved more rows rest = Ok ((more, rows), rest)
 
+-- a page behind its first test, and behind its records
+abbrev page_here : ℕ → ℕ → List ℕ → Read (List Record) → Read (ℕ × List Record)
+page_here columns more bytes rows = at_fault bytes (drop 4096 bytes) rows >>= λ r. moved (more - on_page columns more) r.0 r.1
+
+abbrev page_if : ℕ → ℕ → List ℕ → Read (List Record) → Result (Unit {0}) ℕ → Read (ℕ × List Record)
+page_if columns more bytes rows there = there >>= λ u. page_here columns more bytes rows
+
+is_there : (bytes : List ℕ) → 4096 ≤ length bytes → enough 4096 bytes ≡ Ok tt
+is_there bytes long = rw (le-ltb (length bytes) 4096 long) refl
+
+is_short : (bytes : List ℕ) → length bytes < 4096 → enough 4096 bytes ≡ Err 0
+is_short bytes short = rw (lt-ltb (length bytes) 4096 short) refl
+
 pub page_read : (columns more : ℕ) (seen rows : List Record) (bytes : List ℕ) → 4096 ≤ length bytes → page_in columns (on_page columns more) [] (take 4096 bytes) ≡ Ok (rows, [])
     → next_page columns (more, seen) bytes ≡ Ok ((more - on_page columns more, seen ++ rows), drop 4096 bytes)
 unfolding next_page
 page_read columns more seen rows bytes long e =
     let read : page_in columns (on_page columns more) seen (take 4096 bytes) ≡ Ok (seen ++ rows, []) = page_after columns (on_page columns more) seen (take 4096 bytes) ∙ ap (after seen) e in
-    rw (le-ltb (length bytes) 4096 long, read) refl
+    ap (page_if columns more bytes (page_in columns (on_page columns more) seen (take 4096 bytes))) (is_there bytes long) ∙ ap (page_here columns more bytes) read
 
 pub page_failed : (columns more fault : ℕ) (seen : List Record) (bytes : List ℕ) → 4096 ≤ length bytes → page_in columns (on_page columns more) [] (take 4096 bytes) ≡ Err fault
     → next_page columns (more, seen) bytes ≡ Err (length bytes)
 unfolding next_page
 page_failed columns more fault seen bytes long e =
     let read : page_in columns (on_page columns more) seen (take 4096 bytes) ≡ Err fault = page_after columns (on_page columns more) seen (take 4096 bytes) ∙ ap (after seen) e in
-    rw (le-ltb (length bytes) 4096 long, read) refl
+    ap (page_if columns more bytes (page_in columns (on_page columns more) seen (take 4096 bytes))) (is_there bytes long) ∙ ap (page_here columns more bytes) read
 
-pub page_ended : (columns : ℕ) (s : ℕ × List Record) (bytes : List ℕ) → length bytes < 4096 → next_page columns s bytes ≡ Err 0
+pub page_ended : (columns more : ℕ) (seen : List Record) (bytes : List ℕ) → length bytes < 4096 → next_page columns (more, seen) bytes ≡ Err 0
 unfolding next_page
-page_ended columns s bytes short = rw (lt-ltb (length bytes) 4096 short) refl
+page_ended columns more seen bytes short = ap (page_if columns more bytes (page_in columns (on_page columns more) seen (take 4096 bytes))) (is_short bytes short)
 
 -- ---- the fields of records that are read
 
@@ -180,3 +193,7 @@ page_wide columns count rows bytes rest e = (page_rows columns count bytes (rows
 
 pub page_counted : (columns count : ℕ) (rows : List Record) (bytes rest : List ℕ) → page_in columns count [] bytes ≡ Ok (rows, rest) → length rows ≡ count
 page_counted columns count rows bytes rest e = (page_rows columns count bytes (rows, rest) e).counted
+
+-- two numbers of fields that some records have are one
+pub same_width : (n m : ℕ) (rows : List Record) → 0 < length rows → AreWide n rows → AreWide m rows → n ≡ m
+same_width n m rows some a b = sym (a 0 some) ∙ b 0 some

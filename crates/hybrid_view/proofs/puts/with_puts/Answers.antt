@@ -1,4 +1,4 @@
-use Rattle.std.proofs.Common.{◌≡◌, ◌+◌, ◌<◌, ◌≤◌, ◌^◌, ◌++◌, ◌∷◌, [], ℕ, List, length, drop, get_or, append_assoc, arith, ap, sym, ◌∙◌, subst}
+use Rattle.std.proofs.Common.{◌≡◌, ◌+◌, ◌++◌, ◌∷◌, [], ℕ, List, length, drop, get_or, append_assoc, arith, ap, sym, ◌∙◌, subst}
 use Rattle.std.specs.Prelude.{IfOk}
 use Rattle.std.proofs.lemmas.List.{append-nil, length-append}
 use Rattle.db_value.specs.declared.record.Record.{Record}
@@ -50,7 +50,7 @@ loop-change-preserved c =
     let rest : List Record = puts (drop (i + 1) cs) c.args.relation in
     let here : z ≡ get_or cs i z = c.change-item.is in
     let split : puts (drop i cs) c.args.relation ≡ one ++ rest = puts_drop cs c.args.relation i z c.loop-change-test.true ∙ ap (λ (x : Change). puts (x ∷ []) c.args.relation ++ rest) (sym here) in
-    let next : c.in_ok-with_put.field-0 ≡ record c.loop-change.longer { records = own ++ one } = c.in_ok-with_put.ensures in
+    let next = c.in_ok-longer-2.ensures in
     record {
       fields = ap (λ (r : Rows). r.fields) next ∙ inv.fields;
       records = ap (λ (r : Rows). r.records ++ rest) next ∙ append_assoc own one rest ∙ ap (λ (xs : List Record). own ++ xs) (sym split) ∙ inv.records;
