@@ -1,12 +1,11 @@
 -- Records are read after others as they are read after none, and each has so many fields.
-use Rattle.std.proofs.Common.{◌≡◌, ℕ, zero, suc, ◌+◌, ◌-◌, ◌<◌, ◌≤◌, List, [], ◌∷◌, ◌++◌, length, take, drop, Result, Ok, Err, refl, sym, ap, subst, ◌∙◌, append_assoc, arith}
+use Rattle.std.proofs.Common.{◌≡◌, ℕ, zero, suc, ◌+◌, ◌-◌, ◌<◌, ◌≤◌, List, [], ◌∷◌, ◌++◌, length, take, drop, Result, Ok, Err, refl, sym, ap, subst, ◌∙◌, append_assoc, arith, inl, inr}
 use Rattle.std.specs.Prelude.{◌==◌}
 use Rattle.std.specs.Int.{w16, w64}
-use Rattle.std.proofs.lemmas.Bool.{lt-ltb, le-ltb}
-use Rattle.std.proofs.lemmas.List.{append-nil, length-append}
+use Rattle.std.proofs.lemmas.Bool.{cases_lt, lt-ltb, le-ltb}
+use Rattle.std.proofs.lemmas.List.{append-nil, length-append, get_or_append_left, get_or-append_right}
 use Rattle.db_value.specs.declared.record.Record.{Record}
 use Rattle.segment.specs.Pages.{AreWide}
-use Rattle.segment.proofs.PageLemmas.{wide_append}
 use Rattle.image_text.specs.Reading.{◌>>=◌, Read, test, enough, repeat, byte_at, number_at, are_zero, next_value, next_record, page_in, at_fault, next_page, on_page}
 use Rattle.image_text.proofs.Loop.{bind_ok, ok_is, values_counted}
 
@@ -108,6 +107,9 @@ page_after columns count seen bytes =
 abbrev moved : ℕ → List Record → List ℕ → Read (ℕ × List Record)
 moved more rows rest = Ok ((more, rows), rest)
 
+abbrev fault_at : ℕ → Read (ℕ × List Record)
+fault_at n = Err n
+
 -- a page behind its first test, and behind its records
 abbrev page_here : ℕ → ℕ → List ℕ → Read (List Record) → Read (ℕ × List Record)
 page_here columns more bytes rows = at_fault bytes (drop 4096 bytes) rows >>= λ r. moved (more - on_page columns more) r.0 r.1
@@ -121,14 +123,14 @@ is_there bytes long = rw (le-ltb (length bytes) 4096 long) refl
 is_short : (bytes : List ℕ) → length bytes < 4096 → enough 4096 bytes ≡ Err 0
 is_short bytes short = rw (lt-ltb (length bytes) 4096 short) refl
 
-pub page_read : (columns more : ℕ) (seen rows : List Record) (bytes : List ℕ) → 4096 ≤ length bytes → page_in columns (on_page columns more) [] (take 4096 bytes) ≡ Ok (rows, [])
+page_read : (columns more : ℕ) (seen rows : List Record) (bytes : List ℕ) → 4096 ≤ length bytes → page_in columns (on_page columns more) [] (take 4096 bytes) ≡ Ok (rows, [])
     → next_page columns (more, seen) bytes ≡ Ok ((more - on_page columns more, seen ++ rows), drop 4096 bytes)
 unfolding next_page
 page_read columns more seen rows bytes long e =
     let read : page_in columns (on_page columns more) seen (take 4096 bytes) ≡ Ok (seen ++ rows, []) = page_after columns (on_page columns more) seen (take 4096 bytes) ∙ ap (after seen) e in
     ap (page_if columns more bytes (page_in columns (on_page columns more) seen (take 4096 bytes))) (is_there bytes long) ∙ ap (page_here columns more bytes) read
 
-pub page_failed : (columns more fault : ℕ) (seen : List Record) (bytes : List ℕ) → 4096 ≤ length bytes → page_in columns (on_page columns more) [] (take 4096 bytes) ≡ Err fault
+page_failed : (columns more fault : ℕ) (seen : List Record) (bytes : List ℕ) → 4096 ≤ length bytes → page_in columns (on_page columns more) [] (take 4096 bytes) ≡ Err fault
     → next_page columns (more, seen) bytes ≡ Err (length bytes)
 unfolding next_page
 page_failed columns more fault seen bytes long e =
@@ -140,6 +142,13 @@ unfolding next_page
 page_ended columns more seen bytes short = ap (page_if columns more bytes (page_in columns (on_page columns more) seen (take 4096 bytes))) (is_short bytes short)
 
 -- ---- the fields of records that are read
+
+wide_append : (columns : ℕ) (xs ys : List Record) → AreWide columns xs → AreWide columns ys → AreWide columns (xs ++ ys)
+wide_append columns xs ys a b i h =
+    elim (cases_lt i (length xs)) [
+      | inl lt ↦ subst (λ (r : Record). length r.fields ≡ columns) (sym (get_or_append_left xs ys (record { key = 0; fields = [] }) i lt)) (a i lt)
+      | inr le ↦ subst (λ (r : Record). length r.fields ≡ columns) (sym (get_or-append_right xs ys (length xs) i (record { key = 0; fields = [] }) refl le)) (b (i - length xs) (omega (arith, length-append xs ys, h, le)))
+    ]
 
 wide_one : (columns : ℕ) (row : Record) → length row.fields ≡ columns → AreWide columns (row ∷ [])
 wide_one columns row e zero h = e
@@ -156,7 +165,8 @@ record_read columns seen bytes x wide e =
     let key = bind_ok (number_at w64 bytes) (λ key. repeat next_value columns [] key.1 >>= λ fields. given (seen ++ record { key = key.0; fields = fields.0 } ∷ []) fields.1) x e in
     let f = bind_ok (repeat next_value columns [] key.0.1) (λ fields. given (seen ++ record { key = key.0.0; fields = fields.0 } ∷ []) fields.1) x key.2 in
     let row : Record = record { key = key.0.0; fields = f.0.0 } in
-    let own : length row.fields ≡ columns = values_counted columns [] key.0.1 f.0.0 f.0.1 f.1 in
+    let all = values_counted columns [] key.0.1 f.0.0 f.0.1 f.1 in
+    let own : length row.fields ≡ columns = omega (arith, all) in
     subst (λ (y : List Record × List ℕ). AreRead columns (length seen + 1) y.0) (ok_is (seen ++ row ∷ [], f.0.1) x f.2)
     (record { wide = wide_append columns seen (row ∷ []) wide (wide_one columns row own); counted = length-append seen (row ∷ []) })
 
@@ -186,14 +196,42 @@ page_rows columns count bytes x e =
     let z = bind_ok (test (are_zero (take 13 f.0.1)) f.0.1) (λ blank. rows_in columns count [] (drop 13 f.0.1)) x h.2 in
     let rows = bind_ok (repeat (next_record columns) count [] (drop 13 f.0.1)) ended x z.2 in
     let d = bind_ok (test (are_zero rows.0.1) rows.0.1) (λ d. given rows.0.0 none) x rows.2 in
-    subst (λ (y : List Record × List ℕ). AreRead columns count y.0) (ok_is (rows.0.0, none) x d.2) (records_read columns count [] (drop 13 f.0.1) rows.0 (no_rows columns) rows.1)
+    let r = records_read columns count [] (drop 13 f.0.1) rows.0 (no_rows columns) rows.1 in
+    let all = r.counted in
+    let own : AreRead columns count rows.0.0 = record { wide = r.wide; counted = omega (arith, all) } in
+    subst (λ (y : List Record × List ℕ). AreRead columns count y.0) (ok_is (rows.0.0, none) x d.2) own
 
-pub page_wide : (columns count : ℕ) (rows : List Record) (bytes rest : List ℕ) → page_in columns count [] bytes ≡ Ok (rows, rest) → AreWide columns rows
-page_wide columns count rows bytes rest e = (page_rows columns count bytes (rows, rest) e).wide
+-- ---- a page as the reader reads it
 
-pub page_counted : (columns count : ℕ) (rows : List Record) (bytes rest : List ℕ) → page_in columns count [] bytes ≡ Ok (rows, rest) → length rows ≡ count
-page_counted columns count rows bytes rest e = (page_rows columns count bytes (rows, rest) e).counted
+-- the same page, read after no records
+as_alone : (columns more count : ℕ) (fresh : List Record) (bytes page : List ℕ) → fresh ≡ [] → count ≡ on_page columns more → page ≡ take 4096 bytes
+    → page_in columns count fresh page ≡ page_in columns (on_page columns more) [] (take 4096 bytes)
+as_alone columns more count fresh bytes page empty here front =
+    ap (λ (rows : List Record). page_in columns count rows page) empty
+    ∙ ap (λ (n : ℕ). page_in columns n [] page) here
+    ∙ ap (λ (b : List ℕ). page_in columns (on_page columns more) [] b) front
 
--- two numbers of fields that some records have are one
-pub same_width : (n m : ℕ) (rows : List Record) → 0 < length rows → AreWide n rows → AreWide m rows → n ≡ m
-same_width n m rows some a b = sym (a 0 some) ∙ b 0 some
+pub failed_here : (columns more count fault left : ℕ) (seen fresh : List Record) (bytes page : List ℕ) → page_in columns count fresh page ≡ Err fault → fresh ≡ [] → count ≡ on_page columns more → page ≡ take 4096 bytes
+    → left ≡ length bytes → 4096 ≤ left → next_page columns (more, seen) bytes ≡ Err left
+failed_here columns more count fault left seen fresh bytes page e empty here front all long =
+    page_failed columns more fault seen bytes (omega (arith, all, long)) (sym (as_alone columns more count fresh bytes page empty here front) ∙ e) ∙ ap fault_at (sym all)
+
+pub read_here : (columns more count : ℕ) (seen fresh rows all : List Record) (bytes page rest : List ℕ) → page_in columns count fresh page ≡ Ok (rows, []) → fresh ≡ [] → count ≡ on_page columns more → page ≡ take 4096 bytes
+    → rest ≡ drop 4096 bytes → 4096 ≤ length bytes → all ≡ seen ++ rows → next_page columns (more, seen) bytes ≡ Ok ((more - count, all), rest)
+read_here columns more count seen fresh rows all bytes page rest e empty here front behind long put =
+    page_read columns more seen rows bytes long (sym (as_alone columns more count fresh bytes page empty here front) ∙ e)
+    ∙ ap (λ (n : ℕ). moved (more - n) (seen ++ rows) (drop 4096 bytes)) (sym here)
+    ∙ ap (λ (xs : List Record). moved (more - count) xs (drop 4096 bytes)) (sym put)
+    ∙ ap (moved (more - count) all) (sym behind)
+
+pub wide_here : (columns count fields : ℕ) (fresh rows all : List Record) (page rest : List ℕ) → page_in columns count fresh page ≡ Ok (rows, rest) → fresh ≡ [] → all ≡ rows → fields ≡ columns → AreWide fields all
+wide_here columns count fields fresh rows all page rest e empty same width =
+    let read : page_in columns count [] page ≡ Ok (rows, rest) = ap (λ (seen : List Record). page_in columns count seen page) (sym empty) ∙ e in
+    subst (λ (xs : List Record). AreWide fields xs) (sym same) (subst (λ (n : ℕ). AreWide n rows) (sym width) (page_rows columns count page (rows, rest) read).wide)
+
+pub counted_here : (columns count : ℕ) (fresh rows : List Record) (page rest : List ℕ) → page_in columns count fresh page ≡ Ok (rows, rest) → fresh ≡ [] → length rows ≡ count
+counted_here columns count fresh rows page rest e empty =
+    (page_rows columns count page (rows, rest) (ap (λ (seen : List Record). page_in columns count seen page) (sym empty) ∙ e)).counted
+
+pub closed_here : (total : Read (ℕ × List Record)) (more : ℕ) (rows kept : List Record) (rest : List ℕ) → total ≡ Ok ((more, rows), rest) → kept ≡ rows → total ≡ Ok ((more, kept), rest)
+closed_here total more rows kept rest e same = e ∙ ap (λ (xs : List Record). moved more xs rest) (sym same)

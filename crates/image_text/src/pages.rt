@@ -4,7 +4,7 @@ ghost use Rattle.image_text.specs.Reading.{Gives, repeat, next_value, next_recor
 
 use crate::image::Stop;
 use crate::numbers::Reader;
-use crate::records::put_rows;
+use crate::records::{PagedRecords, put_rows};
 use db_value::{Fields, Record};
 use segment::{LongerSegment, Segment};
 use std::alloc::Global;
@@ -144,7 +144,7 @@ impl<'a> Reader<'a> {
     }
 
     // Puts the records of the next page after others, and tells how many are still to come behind it.
-    #[tactic(auto, using(crate::proofs::Seen::page_read, crate::proofs::Seen::page_failed, crate::proofs::Seen::page_ended))]
+    #[tactic(auto, using(crate::proofs::Seen::page_ended))]
     fn next_page(
         &mut self,
         columns: u8,
@@ -199,9 +199,9 @@ impl<'a> Reader<'a> {
         columns: u8,
         pages: u32,
         count: u32,
-    ) -> Result<(u32, LongerSegment), Stop>
+    ) -> Result<(u32, PagedRecords), Stop>
         requires { (0 < columns) × (columns ≤ 15) }
-        ensures { Gives (λ x. ((x.0, x.1.records), self.new.rest.now)) result
+        ensures { Gives (λ x. ((x.0, x.1), self.new.rest.now)) result
             (repeat (next_page columns) pages (count, []) self.old.rest.now) }
     {
         let mut values: Vec<i64> = Vec::new(alloc);
@@ -214,6 +214,7 @@ impl<'a> Reader<'a> {
             more = after;
             longer = all;
         }
-        Ok((more, longer))
+        let records = PagedRecords::of(longer.closed()?);
+        Ok((more, records))
     }
 }

@@ -6,7 +6,6 @@ ghost use Rattle.image_text.specs.Reading.{Gives, repeat, has_room, next_segment
 use crate::image::{Image, SegmentPart, Stop};
 use crate::numbers::Reader;
 use crate::pages::pages_for;
-use crate::records::PagedRecords;
 use crate::versions::last_of;
 use db_value::{ListOf, Relation};
 use std::alloc::Global;
@@ -45,8 +44,7 @@ impl<'a> Reader<'a> {
         if !has_room(lasts, head, count) {
             return Err(Stop::Fault(left));
         }
-        let (_more, longer) = self.pages(alloc, columns, pages_for(columns, count), count)?;
-        let records = PagedRecords::of(longer.closed()?);
+        let (_more, records) = self.pages(alloc, columns, pages_for(columns, count), count)?;
         let left = self.left();
         let rows = self.u32()?;
         if rows as usize > lasts.len() {
