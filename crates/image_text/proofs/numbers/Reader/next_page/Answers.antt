@@ -31,14 +31,14 @@ pub returns-clause-exact : goal.returns-clause-exact
 returns-clause-exact c =
     let left = c.left-left.ensures in
     let long = c.if-left-lt-PAGE.false in
-    read_here c.args.columns c.args.more c.on_page-count.result c.args.longer.records c.clear.new.self.items c.page_in.new.records.items c.in_ok-all.all.records c.args.self.now.rest.now c.split_at.result.0.now c.split_at.result.1.now
+    read_here c.args.columns c.args.more c.on_page-count.result c.args.longer.records c.clear.new.self.items c.page_in.new.records.items c.in_ok-all-in-Ok.all.records c.args.self.now.rest.now c.split_at.result.0.now c.split_at.result.1.now
     c.in-Ok.ensures c.clear.ensures.items c.on_page-count.ensures.exact c.split_at.ensures.front c.split_at.ensures.back (omega (arith, left, long))
-    (ap (λ (r : Rows). r.records) c.in_ok-all.ensures ∙ ap (λ (xs : List Record). c.args.longer.records ++ xs) c.deref.ensures.value)
+    (ap (λ (r : Rows). r.records) c.in_ok-all-in-Ok.ensures ∙ ap (λ (xs : List Record). c.args.longer.records ++ xs) c.deref.ensures.value)
 
 pub returns-clause-count : goal.returns-clause-count
 returns-clause-count c =
     let rows = counted_here c.args.columns c.on_page-count.result c.clear.new.self.items c.page_in.new.records.items c.split_at.result.0.now [] c.in-Ok.ensures c.clear.ensures.items in
-    let all = ap (λ (r : Rows). length r.records) c.in_ok-all.ensures in
+    let all = ap (λ (r : Rows). length r.records) c.in_ok-all-in-Ok.ensures in
     let put = length-append c.args.longer.records c.deref.result.now in
     let same = ap (λ (xs : List Record). length xs) c.deref.ensures.value in
     let here = c.on_page-count.ensures.within in

@@ -8,7 +8,7 @@ use Rattle.image_text.proofs.numbers.Reader.pages.Goals as goal
 pub loop-preserved : goal.loop-preserved
 loop-preserved c = record {
   read = goes_on (next_page c.args.columns) c.args.pages c.loop.counter (c.loop.more, c.loop.longer.records) (c.in_ok-after.after, c.in_ok-after.all.records) c.loop.self.rest.now c.next_page.new.self.rest.now
-  (repeat (next_page c.args.columns) c.args.pages (c.args.count, []) c.args.self.now.rest.now) c.loop-test.true c.in_ok-after.ensures.exact c.loop.invariant.read;
+      (repeat (next_page c.args.columns) c.args.pages (c.args.count, []) c.args.self.now.rest.now) c.loop-test.true c.in_ok-after.ensures.exact c.loop.invariant.read;
   fields = c.in_ok-after.ensures.fields;
   count = c.in_ok-after.ensures.count ∙ c.loop.invariant.count;
 }
