@@ -1,4 +1,4 @@
--- What changes put, and the deltas of rows.
+-- What changes make of an index, and the deltas of rows.
 use Rattle.std.proofs.Common.{◌≡◌, ◌⊎◌, inl, inr, ℕ, zero, suc, ◌+◌, ◌<◌, ◌≤◌, ◌==◌, ◌&&◌, nat_lt, not, cond, Bool, true, false, List, [], ◌∷◌, ◌++◌, length, drop, get_or, Option, Some, None, refl, arith, ap, sym, ◌∙◌, subst}
 use Rattle.std.proofs.lemmas.List.{get_or_append_left, get_or_push, get_or_past}
 use Rattle.std.proofs.lemmas.Bool.{cases_lt, lt-ltb, le-ltb}
@@ -19,18 +19,6 @@ use Rattle.commit_history.specs.Runs.{Next, next_of}
 use Rattle.bit_rows.specs.Short.{shortest}
 use Rattle.bit_rows.specs.Rows.{KeptRow, no_next, next_at, kept_row_at}
 use Rattle.bit_rows.specs.Differences.{difference_of, IsNext}
-
-put_first : (b : Bool) (key : ℕ) (f : Option (List Value)) (rest : List Record) → put_before b key f rest ≡ put_before b key f [] ++ rest
-put_first true key (Some f) rest = refl
-put_first true key None rest = refl
-put_first false key f rest = refl
-
-pub puts_drop : (cs : List Change) (r i : ℕ) (z : Change) → i < length cs → puts (drop i cs) r ≡ puts (get_or cs i z ∷ []) r ++ puts (drop (i + 1) cs) r
-puts_drop [] r i z h = absurd (omega (arith, h))
-puts_drop (c ∷ cs) r zero z h = put_first (c.relation == r) c.key c.fields (puts cs r)
-puts_drop (c ∷ cs) r (suc i) z h =
-    let one : suc (i + 1) ≡ suc i + 1 = omega arith in
-    puts_drop cs r i z (omega (arith, h)) ∙ ap (λ k. puts (get_or cs i z ∷ []) r ++ puts (drop k (c ∷ cs)) r) one
 
 spot_first : (b : Bool) (head next key : ℕ) (f : Option (List Value)) (cs : List Change) (r : ℕ) → spot_before b head next key f (λ n. spots head n cs r)
     ≡ spot_before b head next key f (λ n. []) ++ spots head (next + length (put_before b key f [])) cs r

@@ -9,40 +9,11 @@ ghost use Rattle.bit_rows.specs.Differences.{difference_of, IsNext, AreNext, Are
 
 use crate::rows::{BitRow, BitRows, NextDeltas};
 use commit_history::NextDelta;
-use db_value::{Change, ListOf, Record, Records};
+use db_value::Change;
 use hybrid_view::{LivePart, LiveRelation, difference, strikes};
 use key_index::{SpotChange, SpotChanges};
 use plain_bits::Bits;
 use std::alloc::{AllocError, Global};
-
-// The record that a change puts into a relation, if it does.
-fn put_row(rows: &mut Vec<Record>, change: &Change, relation: u8) -> Result<(), AllocError>
-    ensures { OnOk result (rows.new.items ≡ rows.old.items ++ puts (change.now ∷ []) relation) }
-{
-    if change.relation != relation {
-        return Ok(());
-    }
-    match change.fields {
-        None => Ok(()),
-        Some(fields) => {
-            let key = change.key;
-            rows.push(Record { key, fields })?;
-            Ok(())
-        }
-    }
-}
-
-/// The records that changes put into a relation.
-#[tactic(auto, using(crate::proofs::ChangedLemmas::puts_drop))]
-pub fn rows_put(alloc: Global, changes: &[Change], relation: u8) -> Result<Records, AllocError>
-    ensures { IfOk result (λ rows. rows ≡ puts changes.now relation) }
-{
-    let mut rows = Vec::new(alloc);
-    for change in changes {
-        put_row(&mut rows, change, relation)?;
-    }
-    Ok(ListOf::of(rows))
-}
 
 // What a change makes of the index of a relation, where the slot of the head that it puts a record into
 // is the next one. Then tells the slot behind.

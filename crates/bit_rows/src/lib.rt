@@ -23,7 +23,7 @@ mod seen;
 mod told;
 
 pub use begun::{more_of, rows_begun};
-pub use changed::{next_deltas, rows_put, spots_of};
+pub use changed::{next_deltas, spots_of};
 pub use kept::{KeptSegment, KeptSegments, same_lists};
 pub use lane::HybridLane;
 pub use more::MoreRows;

@@ -10,9 +10,9 @@ ghost use Rattle.db_image.specs.Images.{row_image, rows_image, head_image, segme
 use crate::image_deltas::deltas_image;
 use crate::image_records::fits_its_types;
 use db_store::{Store, blank_record};
-use db_value::{ListOf, Record, Records, Steps};
+use db_value::{ListOf, Steps};
 use hybrid_store::HybridStore;
-use image_text::{RowPart as RowRead, SegmentPart as SegmentRead};
+use image_text::{PagedRecords, RowPart as RowRead, SegmentPart as SegmentRead};
 use segment::Segment;
 use std::alloc::{AllocError, Global};
 use std::marker::Brand;
@@ -81,38 +81,30 @@ fn rows_image(
     Ok(ListOf::of(rows))
 }
 
-// The records of a segment, where nobody counts the steps. Their numbers have the ranges of their types.
-fn records_counted<L: Ledger>(
-    alloc: Global,
-    segment: &Segment,
-    blank: Blank,
-) -> Result<Vec<Record>, AllocError>
+// The numbers of a segment's records have the ranges of their types. It does nothing.
+fn fit_their_types<L: Ledger>(segment: &Segment, blank: Blank)
     requires name { blank.name ≡ L.name }
     requires parts { blank.parts ≡ L.parts }
     requires some { 0 < L.parts }
-    ensures value { IfOk result (λ records. records.items ≡ segment.now.records) }
-    ensures ranged { IfOk result (λ records. All IsRanged records.items) }
+    ensures { All IsRanged segment.now.records }
 {
     let mut steps = Steps::<L>::open(blank);
     let mut row = blank_record();
-    let mut records = Vec::with_capacity(alloc, segment.len() as usize)?;
     for slot in 0..segment.len() {
         segment.read(slot, &mut row, &mut steps);
         fits_its_types(&row);
-        records.push(row)?;
     }
-    Ok(records)
 }
 
-// The records of a segment.
-fn records_image(alloc: Global, segment: &Segment) -> Result<Records, AllocError>
+// The records of a segment, on the same pages.
+fn records_image(segment: &Segment) -> Result<PagedRecords, AllocError>
     ensures value { IfOk result (λ records. records ≡ segment.now.records) }
     ensures ranged { IfOk result (λ records. All IsRanged records) }
     ensures few { length segment.now.records < 2 ^ 32 }
 {
     let _count = segment.len();
-    let records = records_counted::<Brand>(alloc, segment, Blank::new(1))?;
-    Ok(ListOf::of(records))
+    fit_their_types::<Brand>(segment, Blank::new(1));
+    Ok(PagedRecords::of(segment.duplicate()?))
 }
 
 // How an image tells the branch whose head a segment is.
@@ -141,7 +133,7 @@ fn segment_image(
     ensures ranged { IfOk result AreRanged }
 {
     let head = head_image(store.head(relation, index));
-    let records = records_image(alloc, store.segment(relation, index))?;
+    let records = records_image(store.segment(relation, index))?;
     let rows = rows_image(alloc, store, relation, index)?;
     Ok(SegmentRead {
         head,

@@ -6,7 +6,6 @@ ghost use Rattle.db_image.specs.Parts.{head_part, segment_with, Fits};
 use crate::rows::rows_of;
 use hybrid_store::SegmentPart;
 use image_text::SegmentPart as SegmentRead;
-use segment::Segment;
 use std::alloc::{AllocError, Global};
 
 // The branch that a number tells.
@@ -32,12 +31,8 @@ pub fn segment_of(
     requires fits { Fits fields part.now }
     ensures { IfOk result (λ made. made ≡ segment_with relation fields part.now) }
 {
-    let records = Segment::new(alloc, fields)?.extended(&part.records)?;
-    let rows = rows_of(
-        alloc,
-        part.rows.as_slice(),
-        part.records.as_slice().len() as u32,
-    )?;
+    let records = part.records.as_segment(alloc, fields)?;
+    let rows = rows_of(alloc, part.rows.as_slice(), part.records.len())?;
     Ok(SegmentPart {
         relation,
         head: head_of(part.head),

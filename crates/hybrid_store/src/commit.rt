@@ -23,9 +23,9 @@ ghost use Rattle.hybrid_store.specs.Stored.{head_number, touched_in, AllNextIn, 
 
 use crate::heads::{head_of_rows, own_records};
 use crate::store::HybridStore;
-use bit_rows::{KeptSegments, NextDeltas, next_deltas, rows_put, spots_of};
+use bit_rows::{KeptSegments, NextDeltas, next_deltas, spots_of};
 use db_value::{Change, VersionPlace};
-use hybrid_view::{HybridView, LiveRelation, LiveTable};
+use hybrid_view::{HybridView, LiveRelation, LiveTable, PutRows};
 use segment::Segment;
 use std::alloc::{AllocError, Global};
 use std::sync::Arc;
@@ -132,7 +132,7 @@ impl HybridStore {
             return Err(AllocError);
         }
         let old = self.lived(branch, relation);
-        let rows = rows_put(self.alloc, changes, relation)?;
+        let rows = PutRows::of(changes, relation);
         let spots = spots_of(self.alloc, head, from, changes, relation)?;
         let count = self.count_with(branch, relation, changes);
         let new = old.after(self.alloc, places, head, &rows, &spots, count)?;

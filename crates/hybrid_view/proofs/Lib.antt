@@ -11,3 +11,4 @@ pub mod EmptyLemmas
 pub mod SpotLemmas
 pub mod WalkLemmas
 pub mod AnewLemmas
+pub mod PutLemmas

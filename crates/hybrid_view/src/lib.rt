@@ -12,16 +12,18 @@
 //! | `specs/Spots.antt`, `src/spots.rt` | the places of live records, and an index that is made anew of them |
 //! | `specs/Deltas.antt` | the slots that a bitmap stands for |
 //! | `src/part.rt`, `src/live.rt`, `src/view.rt` | a part, what there is of a relation, and the view |
-//! | `src/commit.rt` | the bits of a commit |
+//! | `src/commit.rt`, `src/puts.rt` | the bits of a commit, and the records that it puts into a relation |
 #![tactic(auto)]
 
 mod commit;
 mod live;
 mod part;
+mod puts;
 mod spots;
 mod view;
 
 pub use commit::{cleared, difference, put_bits, strikes};
 pub use live::LiveRelation;
 pub use part::LivePart;
+pub use puts::PutRows;
 pub use view::{HybridView, LiveTable};

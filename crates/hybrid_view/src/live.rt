@@ -11,9 +11,10 @@ ghost use Rattle.db_store.specs.LaidOut.{times};
 ghost use Rattle.key_index.specs.Places.{with_changes};
 
 use crate::part::LivePart;
+use crate::puts::PutRows;
 use crate::spots::index_anew;
 use db_store::Spot;
-use db_value::{Change, Records};
+use db_value::Change;
 use key_index::{KeyIndex, SpotChanges};
 use std::alloc::{AllocError, Global};
 use std::marker::Model;
@@ -235,7 +236,7 @@ impl LiveRelation {
         alloc: Global,
         places: &[Option<(u32, u32)>],
         head: u32,
-        rows: &Records,
+        rows: &PutRows<'_>,
     ) -> Result<Vec<LivePart>, AllocError>
         requires fields { EachOf head self.now.pieces (λ p. AreWide p.rows.fields rows.now) }
         requires few { EachOf head self.now.pieces (λ p.
@@ -257,7 +258,7 @@ impl LiveRelation {
         alloc: Global,
         places: &[Option<(u32, u32)>],
         head: u32,
-        rows: &Records,
+        rows: &PutRows<'_>,
         spots: &SpotChanges,
         count: u32,
     ) -> Result<LiveRelation, AllocError>

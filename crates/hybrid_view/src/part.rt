@@ -7,7 +7,8 @@ ghost use Rattle.segment.specs.Pages.{AreWide};
 ghost use Rattle.hybrid_view.specs.Live.{part_of, has_live, slot_in};
 
 use crate::commit::{cleared, put_bits, strikes};
-use db_value::{Record, Records, Steps};
+use crate::puts::PutRows;
+use db_value::{Record, Steps};
 use plain_bits::Bits;
 use segment::Segment;
 use std::alloc::{AllocError, Global};
@@ -182,7 +183,7 @@ impl LivePart {
         &self,
         alloc: Global,
         places: &[Option<(u32, u32)>],
-        rows: &Records,
+        rows: &PutRows<'_>,
     ) -> Result<LivePart, AllocError>
         requires covers { length self.now.bits ≤ length self.now.rows.records }
         requires fields { AreWide self.now.rows.fields rows.now }
@@ -190,7 +191,7 @@ impl LivePart {
         ensures { IfOk result (λ p. Next places.now self.now.segment rows.now self.now p) }
     {
         let from = self.records.len();
-        let records = self.records.extended(rows)?;
+        let records = rows.behind(&self.records)?;
         let mut bits = cleared(&self.bits, self.segment, places)?;
         put_bits(&mut bits, from, records.len())?;
         Ok(LivePart {
@@ -206,7 +207,7 @@ impl LivePart {
         alloc: Global,
         places: &[Option<(u32, u32)>],
         head: u32,
-        rows: &Records,
+        rows: &PutRows<'_>,
     ) -> Result<LivePart, AllocError>
         requires covers { length self.now.bits ≤ length self.now.rows.records }
         requires fields { self.now.segment ≡ head → AreWide self.now.rows.fields rows.now }

@@ -172,7 +172,7 @@ impl Walk {
             (turned (get_or part.now.rows lane no_row) n)
             self.old.bits.items self.new.bits.items }
     {
-        let size = part.records.as_slice().len();
+        let size = part.records.len() as usize;
         match delta_at(part.rows.as_slice(), lane, n) {
             None => {}
             Some(delta) => self.apply(numbers, base, size, delta),
@@ -193,7 +193,7 @@ impl Walk {
         let mut base = 0usize;
         'segments: for i in 0..segments.len() {
             self.step_in(numbers, base, &segments[i], lanes[i], n);
-            base += segments[i].records.as_slice().len();
+            base += segments[i].records.len() as usize;
         }
     }
 
@@ -251,22 +251,13 @@ fn numbers_of(alloc: Global, keys: &[u64]) -> Result<Vec<usize>, AllocError>
     Ok(numbers)
 }
 
-fn put_keys(keys: &mut Vec<u64>, part: &SegmentPart) -> Result<(), AllocError>
-    ensures { OnOk result (keys.new.items ≡ keys.old.items ++ own_keys part.now) }
-{
-    for row in part.records.as_slice() {
-        keys.push(row.key)?;
-    }
-    Ok(())
-}
-
 // The keys of all records, segment by segment.
 fn keys_of(alloc: Global, segments: &[SegmentPart]) -> Result<Vec<u64>, AllocError>
     ensures { IfOk result (λ keys. keys.items ≡ all_keys segments.now) }
 {
     let mut keys: Vec<u64> = Vec::new(alloc);
     for part in segments {
-        put_keys(&mut keys, part)?;
+        part.records.put_keys(&mut keys)?;
     }
     Ok(keys)
 }

@@ -241,8 +241,9 @@ fn put_segment(out: &mut Vec<u8>, columns: u8, segment: &SegmentPart) -> Result<
     ensures { OnOk result (out.new.items ≡ out.old.items ++ segment_bytes columns segment.now) }
 {
     out.extend_from_slice(&segment.head.to_le_bytes())?;
-    out.extend_from_slice(&(segment.records.as_slice().len() as u32).to_le_bytes())?;
-    put_pages(out, columns, segment.records.as_slice())?;
+    out.extend_from_slice(&segment.records.len().to_le_bytes())?;
+    let rows = segment.records.listed(*out.allocator())?;
+    put_pages(out, columns, rows.as_slice())?;
     put_rows(out, segment.rows.as_slice())
 }
 

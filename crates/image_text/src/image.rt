@@ -2,7 +2,8 @@
 ghost use Rattle.std.specs.Prelude.{◌≡◌};
 ghost use Rattle.image_text.specs.declared.image.Stop.TheVariants.{Memory};
 
-use db_value::{ListOf, Name, Records, Relation, VersionPlace};
+use crate::records::PagedRecords;
+use db_value::{ListOf, Name, Relation, VersionPlace};
 use std::alloc::{AllocError, AllocFailed};
 
 /// A branch: its name, and the version from which it was made.
@@ -38,7 +39,7 @@ pub struct RowPart {
 #[derive(Drop)]
 pub struct SegmentPart {
     pub head: u32,
-    pub records: Records,
+    pub records: PagedRecords,
     pub rows: ListOf<RowPart>,
 }
 

@@ -11,6 +11,7 @@
 //! | `src/image.rt` | the parts of an image |
 //! | `src/numbers.rt` | a reader, and how it reads numbers |
 //! | `src/names.rt`, `src/versions.rt` | how relations, branches and versions are read |
+//! | `src/records.rt` | the records of a segment, on its pages |
 //! | `src/pages.rt`, `src/rows.rt` | how records and rows of bits are read |
 //! | `src/reading.rt` | how segments, and all parts, are read |
 //! | `src/laws.rt` | what is read is spelled so |
@@ -22,10 +23,12 @@ mod names;
 mod numbers;
 mod pages;
 mod reading;
+mod records;
 mod rows;
 mod versions;
 
 pub use image::{BranchPart, Delta, Image, MadeVersion, RowPart, SegmentPart, Stop};
 pub use pages::{on_page, pages_for};
 pub use reading::parts;
+pub use records::PagedRecords;
 pub use versions::{is_there, last_of, zeros};

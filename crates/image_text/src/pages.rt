@@ -1,10 +1,12 @@
 //! How pages of records are read.
-ghost use Rattle.std.specs.Prelude.{◌≡◌, ◌≤◌, ◌<◌, ◌-◌, [], length};
+ghost use Rattle.std.specs.Prelude.{◌≡◌, ◌≤◌, ◌<◌, ◌-◌, ◌+◌, ◌^◌, [], length, IfOk};
 ghost use Rattle.image_text.specs.Reading.{Gives, repeat, next_value, next_record, are_zero, page_in, capacity, on_page, next_page, pages_for};
 
 use crate::image::Stop;
 use crate::numbers::Reader;
+use crate::records::{PagedRecords, put_rows};
 use db_value::{Fields, Record};
+use segment::{LongerSegment, Segment};
 use std::alloc::Global;
 
 const PAGE: usize = 4096;
@@ -141,18 +143,24 @@ impl<'a> Reader<'a> {
         Ok(())
     }
 
-    // The next page, and how many records are still to come behind it.
-    #[tactic(auto, unfolding(crate::specs::Reading::next_page))]
+    // Puts the records of the next page after others, and tells how many are still to come behind it.
+    #[tactic(auto, using(crate::proofs::Seen::page_ended))]
     fn next_page(
         &mut self,
         columns: u8,
         more: u32,
         values: &mut Vec<i64>,
-        records: &mut Vec<Record>,
-    ) -> Result<u32, Stop>
-        requires { (0 < columns) × (columns ≤ 15) }
-        ensures { Gives (λ x. ((x, records.new.items), self.new.rest.now)) result
-            (next_page columns (more, records.old.items) self.old.rest.now) }
+        rows: &mut Vec<Record>,
+        longer: LongerSegment,
+    ) -> Result<(u32, LongerSegment), Stop>
+        requires columns { (0 < columns) × (columns ≤ 15) }
+        requires fields { longer.fields ≡ columns }
+        requires few { length longer.records + more < 2 ^ 32 }
+        ensures exact { Gives (λ x. ((x.0, x.1.records), self.new.rest.now)) result
+            (next_page columns (more, longer.records) self.old.rest.now) }
+        ensures fields { IfOk result (λ x. x.1.fields ≡ columns) }
+        ensures count { IfOk result (λ x.
+            length x.1.records + x.0 ≡ length longer.records + more) }
     {
         let left = self.left();
         if left < PAGE {
@@ -161,13 +169,25 @@ impl<'a> Reader<'a> {
         let (page, rest) = self.rest.split_at(PAGE);
         let count = on_page(columns, more);
         let mut reader = Reader { rest: page };
-        match reader.page_in(columns, count, values, records) {
+        rows.clear();
+        match reader.page_in(columns, count, values, rows) {
             Err(Stop::Memory) => Err(Stop::Memory),
             Err(Stop::Fault(_)) => Err(Stop::Fault(left)),
             Ok(()) => {
                 self.rest = rest;
-                Ok(more - count)
+                let all = put_rows(longer, rows)?;
+                Ok((more - count, all))
             }
+        }
+    }
+
+    // No more of so many records than the bytes that are left can have.
+    fn room_for(&self, count: u32) -> usize {
+        let most = self.left() / 16;
+        if most < count as usize {
+            most
+        } else {
+            count as usize
         }
     }
 
@@ -179,17 +199,22 @@ impl<'a> Reader<'a> {
         columns: u8,
         pages: u32,
         count: u32,
-    ) -> Result<(u32, Vec<Record>), Stop>
+    ) -> Result<(u32, PagedRecords), Stop>
         requires { (0 < columns) × (columns ≤ 15) }
-        ensures { Gives (λ x. ((x.0, x.1.items), self.new.rest.now)) result
+        ensures { Gives (λ x. ((x.0, x.1), self.new.rest.now)) result
             (repeat (next_page columns) pages (count, []) self.old.rest.now) }
     {
         let mut values: Vec<i64> = Vec::new(alloc);
-        let mut records: Vec<Record> = Vec::new(alloc);
+        let mut rows: Vec<Record> = Vec::new(alloc);
+        let room = self.room_for(count);
+        let mut longer = Segment::new(alloc, columns)?.longer(room)?;
         let mut more = count;
         for _ in 0..pages {
-            more = self.next_page(columns, more, &mut values, &mut records)?;
+            let (after, all) = self.next_page(columns, more, &mut values, &mut rows, longer)?;
+            more = after;
+            longer = all;
         }
+        let records = PagedRecords::of(longer.closed()?);
         Ok((more, records))
     }
 }

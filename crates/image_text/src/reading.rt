@@ -51,7 +51,6 @@ impl<'a> Reader<'a> {
             return Err(Stop::Fault(left));
         }
         let rows = ListOf::of(self.rows(alloc, lasts, count, rows)?);
-        let records = ListOf::of(records);
         segments.push(SegmentPart {
             head,
             records,

@@ -5,7 +5,7 @@ use Rattle.std.specs.declared.sync.Arc.{Arc}
 use Rattle.std.specs.List.{Contains}
 use Rattle.std.specs.List.Sorted.{IsPermutation}
 use Rattle.std.proofs.lemmas.Bool.{cases_lt}
-use Rattle.std.proofs.lemmas.List.{get_or_append_left, get_or-append-add}
+use Rattle.std.proofs.lemmas.List.{get_or_append_left, get_or_push, length_push}
 use Rattle.std.proofs.lemmas.List.Elements.{All-append, All-contains, All-nil, All-push, All-weaker, Contains-append_left, Contains-append_right, Contains-push}
 use Rattle.std.proofs.lemmas.List.Sorted.{All-permutation, Contains-permutation}
 use Rattle.db_value.specs.declared.record.Record.{Record}
@@ -13,6 +13,7 @@ use Rattle.record_page.specs.Page.{record_at}
 use Rattle.segment.specs.declared.slot.KeyedSlot.{KeyedSlot}
 use Rattle.segment.specs.declared.run.Run.{Run}
 use Rattle.segment.specs.Keys.{AreOf, AreRuns, AreSlots, IsLastIn, LacksKey, runs_of}
+use Rattle.segment.specs.declared.keys.Runs.{Runs}
 use Rattle.segment.specs.declared.keys.KeySlots.{KeySlots}
 use Rattle.segment.specs.Slots.{IsGreatest}
 
@@ -81,10 +82,6 @@ of_more records from to slots is = record {
 
 key_stays : (records more : List Record) (slot : ℕ) → slot < length records → (record_at (records ++ more) slot).key ≡ (record_at records slot).key
 key_stays records more slot h = ap (λ (r : Record). r.key) (get_or_append_left records more no_row slot h)
-
--- the key of one of the further records
-pub key_after : (records more : List Record) (len at : ℕ) → length records ≡ len → (record_at (records ++ more) (len + at)).key ≡ (record_at more at).key
-key_after records more len at e = subst (λ (n : ℕ). (record_at (records ++ more) (n + at)).key ≡ (record_at more at).key) e (ap (λ (r : Record). r.key) (get_or-append-add records more at no_row))
 
 pub of_longer : (records more : List Record) (from to : ℕ) (slots : List KeyedSlot) → to ≤ length records → AreOf records from to slots → AreOf (records ++ more) from to slots
 of_longer records more from to slots w is = record {
@@ -155,3 +152,26 @@ slots_with_run records slots run older from none runs is = record {
   newest = subst (λ (n : ℕ). AreOf records n (length records) slots.newest.items) (sym from) (subst (AreOf records (length records) (length records)) (sym none) (of_none records (length records)));
   runs = subst (λ (n : ℕ). AreRuns records (runs_of slots) n) (sym from) (subst (λ (rs : List Run). AreRuns records rs (length records)) (sym runs) is);
 }
+
+-- one slot more
+pub slots_more : (keys next : KeySlots) (records : List Record) (row : Record) → next.runs ≡ keys.runs → next.from ≡ keys.from
+    → next.newest.items ≡ keys.newest.items ++ record { key = row.key; slot = length records } ∷ [] → AreSlots keys records → AreSlots next (records ++ row ∷ [])
+slots_more keys next records row runs from newest is = record {
+  newest = subst (λ (n : ℕ). AreOf all n (length all) next.newest.items) (sym from)
+      (subst (λ (n : ℕ). AreOf all keys.from n next.newest.items) (sym count)
+      (subst (AreOf all keys.from (length records + 1)) (sym newest)
+      (subst (λ (k : ℕ). AreOf all keys.from (length records + 1) (keys.newest.items ++ record { key = k; slot = length records } ∷ [])) key
+      (of_more all keys.from (length records) keys.newest.items (of_longer records (row ∷ []) keys.from (length records) keys.newest.items (omega arith) is.newest)))));
+  runs = subst (λ (n : ℕ). AreRuns all (runs_of next) n) (sym from)
+      (subst (λ (rs : List Run). AreRuns all rs keys.from) (ap (λ (r : Arc Runs Global). map arc_value (arc_value r).items.items) (sym runs))
+      (runs_longer records (row ∷ []) (runs_of keys) keys.from is.newest.ordered is.runs));
+}
+  where
+    all : List Record
+    all = records ++ row ∷ []
+
+    count : length all ≡ length records + 1
+    count = length_push records row
+
+    key : (record_at all (length records)).key ≡ row.key
+    key = ap (λ (r : Record). r.key) (get_or_push records row no_row (length records) refl)

@@ -1,11 +1,10 @@
 //! The slots in which the records with a key stand.
-ghost use Rattle.std.specs.Prelude.{◌≡◌, ◌≤◌, ◌<◌, ◌+◌, ◌^◌, ◌++◌, ◌∷◌, [], ℕ, List, length, take, IfOk};
+ghost use Rattle.std.specs.Prelude.{◌≡◌, ◌≤◌, ◌++◌, ◌∷◌, [], ℕ, List, length, take, IfOk, OnOk};
 ghost use Rattle.db_value.specs.declared.record.Record.{Record};
 
 use crate::block::share;
 use crate::run::Run;
 use crate::slot::{KeyedSlot, look_through};
-use db_value::Record;
 use std::alloc::{AllocError, Global};
 use std::sync::Arc;
 
@@ -70,27 +69,29 @@ impl KeySlots {
         })
     }
 
-    // The newest slots after rows are put behind so many records.
-    fn newest_with(
-        &self,
-        alloc: Global,
-        len: u32,
-        rows: &[Record],
-    ) -> Result<Vec<KeyedSlot>, AllocError>
-        requires { len + length rows.now < 2 ^ 32 }
-        ensures { IfOk result (λ slots. (records : List Record) → length records ≡ len
-            → AreOf records self.now.from len self.now.newest.items
-            → AreOf (records ++ rows.now) self.now.from (len + length rows.now) slots.items) }
+    /// The same ones with room for so many more.
+    pub(crate) fn with_room(&self, alloc: Global, more: usize) -> Result<KeySlots, AllocError>
+        ensures { IfOk result (λ keys. (records : List Record)
+            → AreSlots self.now records → AreSlots keys records) }
     {
-        let mut slots = Vec::with_capacity(alloc, self.newest.len() + rows.len())?;
-        slots.extend_from_slice(&self.newest)?;
-        for at in 0..rows.len() {
-            slots.push(KeyedSlot {
-                key: rows[at].key,
-                slot: len + at as u32,
-            })?;
-        }
-        Ok(slots)
+        let room = self.newest.len().saturating_add(more);
+        let mut newest = Vec::with_capacity(alloc, room)?;
+        newest.extend_from_slice(&self.newest)?;
+        Ok(KeySlots {
+            runs: Arc::try_clone(&self.runs)?,
+            from: self.from,
+            newest,
+        })
+    }
+
+    /// Puts the slot of a further record after them.
+    pub(crate) fn push(&mut self, key: u64, slot: u32) -> Result<(), AllocError>
+        ensures { OnOk result ((records : List Record) (row : Record)
+            → length records ≡ slot → row.key ≡ key
+            → AreSlots self.old records → AreSlots self.new (records ++ row ∷ [])) }
+    {
+        self.newest.push(KeyedSlot { key, slot })?;
+        Ok(())
     }
 
     // One run of the newest slots and of all runs that are no longer, and the other runs.
@@ -118,27 +119,16 @@ impl KeySlots {
         })
     }
 
-    /// Those after rows are put behind so many records.
-    pub(crate) fn with_rows(
-        &self,
-        alloc: Global,
-        len: u32,
-        rows: &[Record],
-    ) -> Result<KeySlots, AllocError>
-        requires { len + length rows.now < 2 ^ 32 }
+    /// The same ones of so many records. The newest are a run, if they are many.
+    pub(crate) fn settled(mut self, alloc: Global, len: u32) -> Result<KeySlots, AllocError>
         ensures { IfOk result (λ keys. (records : List Record) → length records ≡ len
-            → AreSlots self.now records → AreSlots keys (records ++ rows.now)) }
+            → AreSlots self records → AreSlots keys records) }
     {
-        let newest = self.newest_with(alloc, len, rows)?;
-        if newest.len() >= RUN_SLOTS {
-            let slots = self.with_run(alloc, newest, len + rows.len() as u32)?;
-            return Ok(slots);
+        if self.newest.len() < RUN_SLOTS {
+            return Ok(self);
         }
-        Ok(KeySlots {
-            runs: Arc::try_clone(&self.runs)?,
-            from: self.from,
-            newest,
-        })
+        let newest = std::mem::replace(&mut self.newest, Vec::new(alloc));
+        self.with_run(alloc, newest, len)
     }
 
     // The greatest slot below a bound with a key, of the newest.

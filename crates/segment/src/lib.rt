@@ -23,13 +23,16 @@
 //! | `src/keys.rt` | the runs, and the slots that are in none yet |
 //! | `src/tail.rt` | the end of a segment that is being made |
 //! | `src/segment.rt` | the segment |
+//! | `src/longer.rt` | a segment that gets further records |
 #![tactic(auto)]
 
 mod block;
 mod keys;
+mod longer;
 mod run;
 mod segment;
 mod slot;
 mod tail;
 
+pub use longer::LongerSegment;
 pub use segment::Segment;

@@ -6,6 +6,7 @@ ghost use Rattle.segment.specs.Pages.{AreWide, page_count, page_of};
 
 use crate::block::{BLOCK_PAGES, Blocks, front_of, page_in, put_page};
 use crate::keys::KeySlots;
+use crate::longer::LongerSegment;
 use crate::tail::Tail;
 use db_value::{Fields, Record, Records, Steps};
 use record_page::{Page, capacity_of};
@@ -77,14 +78,23 @@ impl Segment {
         ensures { IfOk result (λ s.
             s ≡ record self.now { records = self.now.records ++ rows.now }) }
     {
-        let alloc = *self.tail.allocator();
-        let own = self.len();
-        let slots = self.slots.with_rows(alloc, own, rows.as_slice())?;
-        let mut tail = self.opened()?;
+        let mut longer = self.longer(rows.as_slice().len())?;
         for row in rows.as_slice() {
-            tail.push(row)?;
+            longer = longer.with(row)?;
         }
-        Segment::closed(tail, slots, own + rows.as_slice().len() as u32)
+        longer.closed()
+    }
+
+    /// The segment with room for so many further records, which are put after its own one by one.
+    pub fn longer(&self, more: usize) -> Result<LongerSegment, AllocError>
+        ensures same { IfOk result (λ l. l ≡ self.now) }
+        ensures wide { AreWide self.now.fields self.now.records }
+    {
+        let alloc = *self.tail.allocator();
+        let len = self.len();
+        let slots = self.slots.with_room(alloc, more)?;
+        let tail = self.opened()?;
+        Ok(LongerSegment::of(tail, slots, len))
     }
 
     // Its pages, as those of a segment that is being made.
@@ -96,8 +106,8 @@ impl Segment {
         Tail::of(alloc, self.fields, &self.blocks, self.tail.as_slice())
     }
 
-    // The segment of a tail's records.
-    fn closed(mut tail: Tail, slots: KeySlots, len: u32) -> Result<Segment, AllocError>
+    /// The segment of a tail's records.
+    pub(crate) fn closed(mut tail: Tail, slots: KeySlots, len: u32) -> Result<Segment, AllocError>
         requires len { len ≡ length (rows_in tail) }
         requires wide { AreWide tail.fields (rows_in tail) }
         requires slots { AreSlots slots (rows_in tail) }

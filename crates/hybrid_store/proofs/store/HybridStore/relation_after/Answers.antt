@@ -21,8 +21,8 @@ after-requires-clause-fields c =
     let s = c.args.self.now in
     let b = branch_there s.schema s.lanes.items s.order.items s.segments.items c.args.branch c.requires.fits.0 c.args.changes.now c.requires.fits.1 in
     let old : c.lived-old.result.now ≡ lived_at (get_or s.lanes.items c.args.branch no_kept).head c.args.relation = c.lived-old.ensures in
-    subst (λ (l : Lived). (i : ℕ) → i < length l.pieces → (piece_at l.pieces i).segment ≡ c.head_of-head.result.0 → AreWide (piece_at l.pieces i).rows.fields c.in_ok-rows.rows) (sym old)
-    (λ i h e. subst (λ (rows : List Record). AreWide (piece_at (lived_at (get_or s.lanes.items c.args.branch no_kept).head c.args.relation).pieces i).rows.fields rows) (sym c.in_ok-rows.ensures)
+    subst (λ (l : Lived). (i : ℕ) → i < length l.pieces → (piece_at l.pieces i).segment ≡ c.head_of-head.result.0 → AreWide (piece_at l.pieces i).rows.fields c.of-rows.result) (sym old)
+    (λ i h e. subst (λ (rows : List Record). AreWide (piece_at (lived_at (get_or s.lanes.items c.args.branch no_kept).head c.args.relation).pieces i).rows.fields rows) (sym c.of-rows.ensures)
     (put_fields s.schema s.lanes.items s.order.items s.segments.items c.args.branch c.args.relation c.requires.fits.0 c.args.changes.now b c.requires.relation s.stored s.laid c.requires.fits.1 i h))
 
 pub after-requires-clause-few : goal.after-requires-clause-few
@@ -30,8 +30,8 @@ after-requires-clause-few c =
     let s = c.args.self.now in
     let b = branch_there s.schema s.lanes.items s.order.items s.segments.items c.args.branch c.requires.fits.0 c.args.changes.now c.requires.fits.1 in
     let from = c.head_of-head.ensures.records in
-    subst (λ (l : Lived). (i : ℕ) → i < length l.pieces → (piece_at l.pieces i).segment ≡ c.head_of-head.result.0 → length (piece_at l.pieces i).rows.records + length c.in_ok-rows.rows < 2 ^ 32) (sym c.lived-old.ensures)
-    (λ i h e. subst (λ (rows : List Record). length (piece_at (lived_at (get_or s.lanes.items c.args.branch no_kept).head c.args.relation).pieces i).rows.records + length rows < 2 ^ 32) (sym c.in_ok-rows.ensures)
+    subst (λ (l : Lived). (i : ℕ) → i < length l.pieces → (piece_at l.pieces i).segment ≡ c.head_of-head.result.0 → length (piece_at l.pieces i).rows.records + length c.of-rows.result < 2 ^ 32) (sym c.lived-old.ensures)
+    (λ i h e. subst (λ (rows : List Record). length (piece_at (lived_at (get_or s.lanes.items c.args.branch no_kept).head c.args.relation).pieces i).rows.records + length rows < 2 ^ 32) (sym c.of-rows.ensures)
     (put_room s.schema s.lanes.items s.order.items s.segments.items c.args.branch c.args.relation c.requires.fits.0 c.args.changes.now b c.requires.relation s.stored s.laid c.requires.fits.1
     (omega (arith, from, c.if-from-changes-ge-MOST_NUMBERS.false)) i h (e ∙ c.head_of-head.ensures.segment)))
 
@@ -53,8 +53,8 @@ after-requires-clause-lived c =
     (lived_after s.schema s.lanes.items s.order.items s.segments.items c.args.branch c.args.relation c.requires.fits.0 c.args.changes.now b c.requires.relation s.stored s.laid c.requires.fits.1 qs
     (subst (λ (l : Lived). AllNext places (head_number s.segments.items c.args.branch c.args.relation) (puts c.args.changes.now c.args.relation) l.pieces qs) c.lived-old.ensures
     (subst (λ h. AllNext places h (puts c.args.changes.now c.args.relation) c.lived-old.result.now.pieces qs) hd
-    (subst (λ (rows : List Record). AllNext places c.head_of-head.result.0 rows c.lived-old.result.now.pieces qs) c.in_ok-rows.ensures
-    (subst (λ (os : List (Option (ℕ × ℕ))). AllNext os c.head_of-head.result.0 c.in_ok-rows.rows c.lived-old.result.now.pieces qs) c.requires.places next)))))))
+    (subst (λ (rows : List Record). AllNext places c.head_of-head.result.0 rows c.lived-old.result.now.pieces qs) c.of-rows.ensures
+    (subst (λ (os : List (Option (ℕ × ℕ))). AllNext os c.head_of-head.result.0 c.of-rows.result c.lived-old.result.now.pieces qs) c.requires.places next)))))))
 
 pub returns-clause-next : goal.returns-clause-next
 returns-clause-next c =
@@ -64,8 +64,8 @@ returns-clause-next c =
     let qs : List Piece = c.in_ok-new.new.pieces in
     subst (λ (l : Lived). AllNext places (head_number s.segments.items c.args.branch c.args.relation) (puts c.args.changes.now c.args.relation) l.pieces qs) c.lived-old.ensures
     (subst (λ h. AllNext places h (puts c.args.changes.now c.args.relation) c.lived-old.result.now.pieces qs) c.head_of-head.ensures.segment
-    (subst (λ (rows : List Record). AllNext places c.head_of-head.result.0 rows c.lived-old.result.now.pieces qs) c.in_ok-rows.ensures
-    (subst (λ (os : List (Option (ℕ × ℕ))). AllNext os c.head_of-head.result.0 c.in_ok-rows.rows c.lived-old.result.now.pieces qs) c.requires.places c.in_ok-new.ensures.parts)))
+    (subst (λ (rows : List Record). AllNext places c.head_of-head.result.0 rows c.lived-old.result.now.pieces qs) c.of-rows.ensures
+    (subst (λ (os : List (Option (ℕ × ℕ))). AllNext os c.head_of-head.result.0 c.of-rows.result c.lived-old.result.now.pieces qs) c.requires.places c.in_ok-new.ensures.parts)))
 
 pub returns-clause-small : goal.returns-clause-small
 returns-clause-small c =

@@ -1,0 +1,15 @@
+use Rattle.std.proofs.Common.{[], sym, subst, take}
+use Rattle.std.specs.List.{All}
+use Rattle.std.proofs.lemmas.List.{take_more}
+use Rattle.std.proofs.lemmas.List.Elements.{All-push}
+use Rattle.record_page.specs.Page.{record_at}
+use Rattle.db_image.specs.Imaged.{IsRanged}
+use Rattle.db_image.proofs.image_segments.fit_their_types.Goals as goal
+
+pub loop-slot-preserved : goal.loop-slot-preserved
+loop-slot-preserved g c =
+    let rows = c.args.segment.now.records in
+    let slot = c.loop-slot.slot in
+    let row = record_at rows slot in
+    subst (All IsRanged) (sym (take_more rows slot (record { key = 0; fields = [] }) c.loop-slot-test.true))
+    (All-push IsRanged (take slot rows) row c.loop-slot.invariant (subst IsRanged c.read.ensures.row c.fits_its_types.ensures))
