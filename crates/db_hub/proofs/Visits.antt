@@ -1,5 +1,5 @@
 -- A visit: what is known when the pass was taken in, and what comes of it.
-use Rattle.std.proofs.Common.{◌≡◌, ⊎_elim, inr, ℕ, ◌≤◌, ◌<◌, Bool, true, false, List, [], ◌∷◌, ◌++◌, length, drop, Some, refl, sym, ap, ◌∙◌, subst, arith, length-append, append_assoc, append-nil}
+use Rattle.std.proofs.Common.{◌≡◌, ⊎_elim, inr, ℕ, ◌≤◌, ◌<◌, Bool, true, false, List, [], ◌∷◌, ◌++◌, length, drop, Option, Some, None, refl, sym, ap, ◌∙◌, subst, arith, length-append, append_assoc, append-nil}
 use Rattle.std.proofs.Math.Seq.{drop-append_seam}
 use Rattle.std.specs.Prelude.{Result, Ok, Err, IfOk, OnOk, OnErr}
 use Rattle.atomic_table.specs.Seated.{TableId}
@@ -11,7 +11,8 @@ use Rattle.db_store.specs.State.{State}
 use Rattle.stmt_text.specs.declared.stmt.Stmt.{Stmt}
 use Rattle.history_note.specs.declared.view.NotedLine.{NotedLine}
 use Rattle.history_note.specs.declared.view.PassView.{PassView}
-use Rattle.history_note.specs.Places.{places, places_from, owed_to, IsNoted, IsIssued}
+use Rattle.history_note.specs.Places.{places, places_from, owed_to, kept_for, IsNoted, IsIssued}
+use Rattle.history_note.specs.Rule.{LeftFits}
 use Rattle.history_note.specs.Shown.{AtNote, AtPen, AtPass, carrying, known, FitsPen}
 use Rattle.reply_text.specs.Reply.{NamesItsRows}
 use Rattle.db_core.specs.Order.{Said, said_as, said_of, reply_in}
@@ -24,7 +25,7 @@ use Rattle.db_hub.specs.Entered.{steps_of, lines_of, IsFront, world_after, is_op
 use Rattle.db_hub.specs.Own.{AllBy, AllNoted, OutFits}
 use Rattle.db_hub.specs.Seats.{seat_at, PassFits, SeatVisited, SeatCaughtUp, SeatStays, SeatFailed}
 use Rattle.db_hub.specs.Desks.{DesksFit}
-use Rattle.db_hub.specs.Rooms.{RoomFits, AllOutIf, PenGrown, PassGrown}
+use Rattle.db_hub.specs.Rooms.{RoomFits, IsQuiet, AllOutIf, PenGrown, PenKeeps, PassGrown}
 use Rattle.db_hub.proofs.Counted.{steps_append, steps_lines, length_steps}
 use Rattle.db_hub.proofs.Owners.{by_own, by_both, noted_both, noted_lines, others_between, out_writes}
 use Rattle.db_hub.proofs.Leaving.{desks_on}
@@ -104,9 +105,13 @@ module _ (named : TableId) (numbers : List (ℕ × ℕ)) (o : State) (since : �
   pub begins : IsFront q.seen pen0.lines
   begins = (fits.rest, fits.prefix)
 
+  -- the pass left no line
+  none_left : (kept_for q.number pen0.kept ≡ None) × (owed_to q.number pen0.owed ≡ [])
+  none_left = subst (λ (x : Option (List ℕ)). LeftFits pen0.lines (kept_for q.number pen0.kept) (owed_to q.number pen0.owed) q.number x) pf.left_none fits.left_fits
+
   -- no line that was written since is of the pass
   none_between : places_from n (length q.seen) fits.rest ≡ []
-  none_between = ap (λ (m : ℕ). places_from m (length q.seen) fits.rest) (sym pf.number_is) ∙ fits.rest_is ∙ ap (owed_to q.number) rf.owes_nothing
+  none_between = ap (λ (m : ℕ). places_from m (length q.seen) fits.rest) (sym pf.number_is) ∙ fits.rest_is ∙ none_left.1
 
   between : AllOthers k.session (saids (steps_of fits.rest))
   between = others_between k.session n (since n) q.seen fits.rest pen0.lines fits.prefix pf.since_is (rf.out_fits.own n k.session i) none_between
@@ -121,11 +126,23 @@ module _ (named : TableId) (numbers : List (ℕ × ℕ)) (o : State) (since : �
   pub as_many : length pen1.lines ≡ length board.steps
   as_many = ap (λ (p : AtPen). length p.lines) taken ∙ sym (length_steps pen0.lines) ∙ sym (ap length rf.steps_are)
 
-  pub owes_still : pen1.owed ≡ []
-  owes_still = ap (λ (p : AtPen). p.owed) taken ∙ rf.owes_nothing
+  pub owes_still : owed_to n pen1.owed ≡ []
+  owes_still = (λ j. owed_to (sym pf.number_is j) (taken j).owed) ∙ none_left.1
 
-  pub keeps_still : pen1.kept ≡ []
-  keeps_still = ap (λ (p : AtPen). p.kept) taken ∙ rf.keeps_nothing
+  pub keeps_still : kept_for n pen1.kept ≡ None
+  keeps_still = (λ j. kept_for (sym pf.number_is j) (taken j).kept) ∙ none_left.0
+
+  pub keeps_now : (pen2 : AtPen) → PenKeeps pen1 pen2 → PenKeeps pen0 pen2
+  keeps_now pen2 h = record {
+    owed = h.owed ∙ ap (λ (p : AtPen). p.owed) taken;
+    kept = h.kept ∙ ap (λ (p : AtPen). p.kept) taken;
+  }
+
+  pub quiet_now : (pen2 : AtPen) → PenKeeps pen1 pen2 → IsQuiet pen0 → IsQuiet pen2
+  quiet_now pen2 h quiet = record {
+    owes_nothing = (keeps_now pen2 h).owed ∙ quiet.owes_nothing;
+    keeps_nothing = (keeps_now pen2 h).kept ∙ quiet.keeps_nothing;
+  }
 
   pub carries_it : (c : PassView State) × (pen1.carried ≡ Some c) × (c.number ≡ n)
   carries_it = (known q, ap (λ (p : AtPen). p.carried) taken, pf.number_is)
@@ -163,8 +180,6 @@ module _ (named : TableId) (numbers : List (ℕ × ℕ)) (o : State) (since : �
         pen_opening = grown.opening ∙ ap (λ (p : AtPen). p.opening) taken ∙ rf.pen_opening;
         opening_is = opening_now;
         steps_are = steps_now;
-        owes_nothing = grown.owed;
-        keeps_nothing = grown.kept;
         stands = stands;
         lines_noted = subst (λ (p : List (ℕ × ℕ) × List NotedLine). AllNoted p.0 p.1) (λ j. (sym noted_now j, sym lines_now j))
             (noted_both pen0.noted pen0.lines (lines_of n more) rf.lines_noted (noted_lines pen0.noted n k.session more (rf.out_fits.known n k.session i) g.own));

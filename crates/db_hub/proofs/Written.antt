@@ -1,25 +1,44 @@
 -- Steps that are written with the number of the carried pass.
-use Rattle.std.proofs.Common.{◌≡◌, ℕ, ◌+◌, ◌==◌, List, [], ◌∷◌, ◌++◌, length, Option, Some, None, cond, refl, sym, ap, ◌∙◌, arith, length-append, append_assoc, append-nil, eq-eqb, subst}
+use Rattle.std.proofs.Common.{◌≡◌, ◌≢◌, ⊎_elim, ℕ, ◌+◌, ◌==◌, List, [], ◌∷◌, ◌++◌, length, Option, Some, None, cond, refl, sym, ap, ◌∙◌, arith, length-append, append_assoc, append-nil, eq-eqb, ne_eqb, subst}
 use Rattle.std.specs.Prelude.{true, false}
 use Rattle.db_value.specs.declared.step.Step.{Step}
 use Rattle.db_store.specs.State.{State}
 use Rattle.history_note.specs.declared.view.NotedLine.{NotedLine}
 use Rattle.history_note.specs.declared.view.PassView.{PassView}
-use Rattle.history_note.specs.Places.{places, places_from, owed_to, kept_for, kept_without}
+use Rattle.history_note.specs.Places.{places, places_from, owed_to, without, kept_for, kept_without}
 use Rattle.history_note.specs.Rule.{IsTheCarried}
 use Rattle.history_note.specs.Views.{noted_line, carried_after}
 use Rattle.history_note.specs.Shown.{AtPen, AtPass, is_carrying, writing, handing_one, handed_pass}
-use Rattle.history_note.proofs.Counting.{completed_owed_nothing, place_same}
+use Rattle.history_note.proofs.Counting.{completed_owed_nothing, place_same, place_other, same_or_not, some_none}
 use Rattle.db_hub.specs.Entered.{lines_of}
-use Rattle.db_hub.specs.Rooms.{written_all, CarriesOwn, PenGrown, PassGrown}
+use Rattle.db_hub.specs.Rooms.{written_all, CarriesOwn, PenGrown, PenKeeps, PassGrown}
 
--- what a pen that keeps nothing keeps after a line was written
-still_none : (n : ℕ) (p : AtPen) → p.kept ≡ [] → kept_without n p.kept ≡ p.kept
-still_none n p none = ap (kept_without n) none ∙ sym none
+-- where no line is kept for a number, none is taken away
+pub keeps_all : (n : ℕ) (ks : List (ℕ × List ℕ)) → kept_for n ks ≡ None → kept_without n ks ≡ ks
+keeps_all n [] none = refl
+keeps_all n (k ∷ ks) none = ⊎_elim
+    (λ (e : k.0 ≡ n). absurd (some_none k.1 (sym (ap (λ b. cond b (Some k.1) (kept_for n ks)) (eq-eqb k.0 n e)) ∙ none)))
+    (λ (e : k.0 ≢ n).
+    ap (λ b. cond b [] (k ∷ []) ++ kept_without n ks) (ne_eqb k.0 n e)
+    ∙ ap (λ (l : List (ℕ × List ℕ)). k ∷ l) (keeps_all n ks (sym (ap (λ b. cond b (Some k.1) (kept_for n ks)) (ne_eqb k.0 n e)) ∙ none)))
+    (same_or_not k.0 n)
+
+hit_some : (p : ℕ) (ps : List ℕ) → p ∷ ps ≡ [] → ⊥
+hit_some p ps e = let l = ap length e in omega (arith, l)
+
+-- and where nothing is owed to it, nothing is taken away
+pub owes_all : (n : ℕ) (os : List (ℕ × ℕ)) → owed_to n os ≡ [] → without n os ≡ os
+owes_all n [] none = refl
+owes_all n (o ∷ os) none = ⊎_elim
+    (λ (e : o.0 ≡ n). absurd (hit_some o.1 (owed_to n os) (sym (ap (λ (l : List ℕ). l ++ owed_to n os) (place_same n o.0 o.1 e)) ∙ none)))
+    (λ (e : o.0 ≢ n).
+    ap (λ b. cond b [] (o ∷ []) ++ without n os) (ne_eqb o.0 n e)
+    ∙ ap (λ (l : List (ℕ × ℕ)). o ∷ l) (owes_all n os (sym (ap (λ (l : List ℕ). l ++ owed_to n os) (place_other n o.0 o.1 e)) ∙ none)))
+    (same_or_not o.0 n)
 
 -- the number's pass is carried
-pub own_of : (n : ℕ) (p : AtPen) (c : PassView State) → p.carried ≡ Some c → c.number ≡ n → p.kept ≡ [] → CarriesOwn p n
-own_of n p c e m none = record { keeps_nothing = none; carried = subst (IsTheCarried n) (sym e) (sym m) }
+pub own_of : (n : ℕ) (p : AtPen) (c : PassView State) → p.carried ≡ Some c → c.number ≡ n → kept_for n p.kept ≡ None → CarriesOwn p n
+own_of n p c e m none = record { keeps_none = none; carried = subst (IsTheCarried n) (sym e) (sym m) }
 
 abbrev pub with_mine : PassView State → List ℕ → PassView State
 with_mine c ps = record c { mine = c.mine ++ ps }
@@ -28,7 +47,7 @@ with_mine c ps = record c { mine = c.mine ++ ps }
 abbrev pub with_lines : AtPen → PassView State → ℕ → List Step → AtPen
 with_lines p c n ss = record p { lines = p.lines ++ lines_of n ss; carried = Some (with_mine c (places_from n (length p.lines) (lines_of n ss))) }
 
-write_one : (n : ℕ) (s : Step) (p : AtPen) (c : PassView State) → p.carried ≡ Some c → c.number ≡ n → p.kept ≡ [] → writing n s p ≡ record p { lines = p.lines ++ noted_line n s ∷ []; carried = Some (with_mine c (length p.lines ∷ [])) }
+write_one : (n : ℕ) (s : Step) (p : AtPen) (c : PassView State) → p.carried ≡ Some c → c.number ≡ n → kept_for n p.kept ≡ None → writing n s p ≡ record p { lines = p.lines ++ noted_line n s ∷ []; carried = Some (with_mine c (length p.lines ∷ [])) }
 write_one n s p c e m none =
     let q : (n == c.number) ≡ true = eq-eqb n c.number (sym m) in
     ap (λ (o : Option (PassView State)). record p {
@@ -47,9 +66,9 @@ write_one n s p c e m none =
       lines = p.lines ++ noted_line n s ∷ [];
       kept = ks;
       carried = Some (with_mine c (length p.lines ∷ []));
-    }) (still_none n p none)
+    }) (keeps_all n p.kept none)
 
-pub written_is : (n : ℕ) (ss : List Step) (p : AtPen) (c : PassView State) → p.carried ≡ Some c → c.number ≡ n → p.kept ≡ [] → written_all n ss p ≡ with_lines p c n ss
+pub written_is : (n : ℕ) (ss : List Step) (p : AtPen) (c : PassView State) → p.carried ≡ Some c → c.number ≡ n → kept_for n p.kept ≡ None → written_all n ss p ≡ with_lines p c n ss
 written_is n [] p c e m none = λ i. record p { lines = sym (append-nil p.lines) i; carried = (e ∙ ap (λ (ps : List ℕ). Some (record c { mine = ps })) (sym (append-nil c.mine))) i }
 written_is n (s ∷ ss) p c e m none =
     let k : ℕ = length p.lines in
@@ -65,7 +84,7 @@ written_is n (s ∷ ss) p c e m none =
     ap (written_all n ss) (write_one n s p c e m none) ∙ written_is n ss p1 c1 refl m none
     ∙ (λ i. record p { lines = append_assoc p.lines (x ∷ []) ls i; carried = Some (record c { mine = mine i }) })
 
-module _ (n : ℕ) (ss : List Step) (p0 pw : AtPen) (c : PassView State) (e : p0.carried ≡ Some c) (m : c.number ≡ n) (owed : p0.owed ≡ []) (none : p0.kept ≡ []) (is : pw ≡ written_all n ss p0) where
+module _ (n : ℕ) (ss : List Step) (p0 pw : AtPen) (c : PassView State) (e : p0.carried ≡ Some c) (m : c.number ≡ n) (owed : owed_to n p0.owed ≡ []) (none : kept_for n p0.kept ≡ None) (is : pw ≡ written_all n ss p0) where
   wrote : pw ≡ with_lines p0 c n ss
   wrote = is ∙ written_is n ss p0 c e m none
 
@@ -78,9 +97,15 @@ module _ (n : ℕ) (ss : List Step) (p0 pw : AtPen) (c : PassView State) (e : p0
         opening = ap (λ (p : AtPen). p.opening) g;
         noted = ap (λ (p : AtPen). p.noted) g;
         lines = ap (λ (p : AtPen). p.lines) g;
-        owed = ap (λ (p : AtPen). p.owed) g ∙ owed;
-        kept = ap (λ (p : AtPen). p.kept) g ∙ none;
       }
+
+  pub keeps_kept : (p1 : AtPen) → p1 ≡ pw → PenKeeps p0 p1
+  keeps_kept p1 f =
+      let g : p1 ≡ with_lines p0 c n ss = f ∙ wrote in
+      record { owed = ap (λ (p : AtPen). p.owed) g; kept = ap (λ (p : AtPen). p.kept) g }
+
+  pub carried_kept : (p1 : AtPen) → p1 ≡ pw → p1.carried ≡ Some (with_mine c (places_from n (length p0.lines) (lines_of n ss)))
+  carried_kept p1 f = ap (λ (p : AtPen). p.carried) (f ∙ wrote)
 
   left_is : (p1 : AtPen) → p1 ≡ handing_one pw.carried pw → p1 ≡ handing_one (Some (with_mine c (places_from n (length p0.lines) (lines_of n ss)))) (with_lines p0 c n ss)
   left_is p1 f = f ∙ ap (λ (p : AtPen). handing_one p.carried p) wrote
@@ -93,9 +118,15 @@ module _ (n : ℕ) (ss : List Step) (p0 pw : AtPen) (c : PassView State) (e : p0
         opening = ap (λ (p : AtPen). p.opening) g;
         noted = ap (λ (p : AtPen). p.noted) g;
         lines = ap (λ (p : AtPen). p.lines) g;
-        owed = ap (λ (p : AtPen). p.owed) g ∙ ap (Rattle.history_note.specs.Places.without c.number) owed;
-        kept = ap (λ (p : AtPen). p.kept) g ∙ none;
       }
+
+  owed_here : owed_to c.number p0.owed ≡ []
+  owed_here = ap (λ (k : ℕ). owed_to k p0.owed) m ∙ owed
+
+  pub keeps_given : (p1 : AtPen) → p1 ≡ handing_one pw.carried pw → PenKeeps p0 p1
+  keeps_given p1 f =
+      let g = left_is p1 f in
+      record { owed = ap (λ (p : AtPen). p.owed) g ∙ owes_all c.number p0.owed owed_here; kept = ap (λ (p : AtPen). p.kept) g }
 
   pub free_given : (p1 : AtPen) → p1 ≡ handing_one pw.carried pw → is_carrying p1 ≡ false
   free_given p1 f = ap is_carrying (left_is p1 f)
@@ -115,9 +146,9 @@ module _ (n : ℕ) (ss : List Step) (p0 pw : AtPen) (c : PassView State) (e : p0
         number = ap (λ (x : AtPass). x.number) g;
         session = ap (λ (x : AtPass). x.session) g;
         seen = ap (λ (x : AtPass). x.seen) g ∙ ap (λ (ls : List NotedLine). p0.lines ++ ls) own;
-        mine = ap (λ (x : AtPass). x.mine) g ∙ completed_owed_nothing d p0.owed (ap (owed_to c.number) owed) ∙ (λ i. c.mine ++ places_from (sym m i) (length p0.lines) (own i));
+        mine = ap (λ (x : AtPass). x.mine) g ∙ completed_owed_nothing d p0.owed owed_here ∙ (λ i. c.mine ++ places_from (sym m i) (length p0.lines) (own i));
         mine_is = is_mine;
-        left = ap (λ (x : AtPass). x.left) g ∙ ap (kept_for c.number) none;
+        left = ap (λ (x : AtPass). x.left) g ∙ ap (λ (k : ℕ). kept_for k p0.kept) m ∙ none;
       }
 
 abbrev number_or : Option (PassView State) → ℕ

@@ -4,7 +4,7 @@ ghost use Rattle.db_store.specs.State.{State};
 ghost use Rattle.history_note.specs.declared.view.PassView.{PassView};
 ghost use Rattle.history_note.specs.Places.{IsIssued};
 ghost use Rattle.history_note.specs.Shown.{is_carrying};
-ghost use Rattle.db_hub.specs.Rooms.{written_all, CarriesOwn, MayWrite, PenGrown, PassGrown};
+ghost use Rattle.db_hub.specs.Rooms.{written_all, CarriesOwn, MayWrite, PenGrown, PenKeeps, PassGrown};
 
 use db_store::Store;
 use db_value::Step;
@@ -42,6 +42,7 @@ pub fn write_and_give<St: Store>(
     requires note { pen.old.note ≡ note.now.note }
     requires ready { MayWrite pen.old number steps.now from }
     ensures pen { PenGrown pen.old pen.new number (drop from steps.now) }
+    ensures keeps { PenKeeps pen.old pen.new }
     ensures free { OnOk result (is_carrying pen.new ≡ false) }
     ensures pass { IfOk result (λ p. (c : PassView State) → pen.old.carried ≡ Some c
         → PassGrown pen.old c p (drop from steps.now)) }
