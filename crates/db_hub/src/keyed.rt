@@ -1,6 +1,7 @@
 //! Lists of values, each with a key.
 ghost use Rattle.std.specs.Prelude.{◌≡◌};
 ghost use Rattle.db_hub.specs.Keyed.{at_key, without_key};
+ghost use Rattle.std.specs.Prelude.{is_some};
 
 /// Takes the first value with the key out of the list.
 pub fn take_at<X>(list: &mut Vec<(u32, X)>, key: u32) -> Option<X>
@@ -14,4 +15,16 @@ pub fn take_at<X>(list: &mut Vec<(u32, X)>, key: u32) -> Option<X>
         }
     }
     None
+}
+
+/// Is there a value with the key?
+pub fn has_key<X>(list: &[(u32, X)], key: u32) -> bool
+    ensures { result ≡ is_some (at_key key list.now) }
+{
+    for item in list {
+        if item.0 == key {
+            return true;
+        }
+    }
+    false
 }

@@ -21,7 +21,9 @@ mod keyed;
 mod room;
 mod seat;
 mod sessions;
+mod settling;
 mod tag;
+mod whole;
 mod writing;
 
 pub use hub::Hub;
