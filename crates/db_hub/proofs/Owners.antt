@@ -44,7 +44,11 @@ pub own_both : (s n : ℕ) (xs ys : List NotedLine) → AllOwn s n xs → AllOwn
 own_both s n [] ys a b = b
 own_both s n (x ∷ xs) ys a b = (a.0, own_both s n xs ys a.1 b)
 
-own_right : (s n : ℕ) (xs ys : List NotedLine) → AllOwn s n (xs ++ ys) → AllOwn s n ys
+pub own_left : (s n : ℕ) (xs ys : List NotedLine) → AllOwn s n (xs ++ ys) → AllOwn s n xs
+own_left s n [] ys a = tt
+own_left s n (x ∷ xs) ys a = (a.0, own_left s n xs ys a.1)
+
+pub own_right : (s n : ℕ) (xs ys : List NotedLine) → AllOwn s n (xs ++ ys) → AllOwn s n ys
 own_right s n [] ys a = a
 own_right s n (x ∷ xs) ys a = own_right s n xs ys a.1
 

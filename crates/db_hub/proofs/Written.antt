@@ -23,7 +23,7 @@ keeps_all n (k ∷ ks) none = ⊎_elim
     ∙ ap (λ (l : List (ℕ × List ℕ)). k ∷ l) (keeps_all n ks (sym (ap (λ b. cond b (Some k.1) (kept_for n ks)) (ne_eqb k.0 n e)) ∙ none)))
     (same_or_not k.0 n)
 
-hit_some : (p : ℕ) (ps : List ℕ) → p ∷ ps ≡ [] → ⊥
+pub hit_some : (p : ℕ) (ps : List ℕ) → p ∷ ps ≡ [] → ⊥
 hit_some p ps e = let l = ap length e in omega (arith, l)
 
 -- and where nothing is owed to it, nothing is taken away

@@ -173,6 +173,7 @@ pub record IsAway (note : TableId) (opened : State) (since : ℕ → ℕ) (n : �
   pub mine_is : p.mine ≡ places p.number p.seen
   pub left_is : p.left ≡ Some text
   pub since_is : since n ≤ length p.seen
+  pub none : k.waiting ≡ []
   pub after : AgreesAfter opened (saids (steps_of p.seen)) text k
 
 -- A line of the seat waits, with the seat's pass: behind all that the seat had seen stand the lines that waited at the desk, and nothing else of its number.

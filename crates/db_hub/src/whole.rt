@@ -1,12 +1,16 @@
 //! What lies under a hub's lock: what a room has, and the lines that wait for the log together.
-ghost use Rattle.std.specs.Prelude.{◌≡◌, ◌⊎◌, [], true, false, None, Some, IfOk, OnOk, OnErr};
+ghost use Rattle.std.specs.Prelude.{◌≡◌, ◌⊎◌, ◌+◌, ◌<◌, ◌≤◌, ◌++◌, ℕ, [], true, false, None, Some, vec_len, vec_capacity, IfOk, IfSome, OnOk, OnErr, MatchResult};
 ghost use Rattle.history_note.specs.Places.{owed_to};
 ghost use Rattle.history_note.specs.Shown.{is_carrying};
-ghost use Rattle.db_core.specs.Desk.{waits};
+ghost use Rattle.db_core.specs.Desk.{waits, cleared};
 ghost use Rattle.db_core.specs.Order.{said_of};
 ghost use Rattle.db_core.specs.Sits.{heard};
+ghost use Rattle.db_core.specs.Kept.{Stands};
+ghost use Rattle.db_hub.specs.Entered.{steps_of, lines_of};
+ghost use Rattle.db_hub.specs.Own.{AllNoted};
+ghost use Rattle.db_hub.specs.Rooms.{StoresSince};
 ghost use Rattle.db_hub.specs.Seats.{SeatVisited, SeatCaughtUp, SeatFailed};
-ghost use Rattle.db_hub.specs.Served.{CarriesFor, IsReady, IsTaken, IsGiven, SeatLooked, IfSettle, IfTold, IfWaits, UnlessWaits, SettlesFirst, AnswersNow, LeavesLine, IsAway, SeatLeaves, SeatReturns, IfServed, IfLeft};
+ghost use Rattle.db_hub.specs.Served.{CarriesFor, IsHandedTo, IsReady, IsTaken, IsGiven, SeatLooked, IfSettle, IfTold, IfWaits, UnlessWaits, SettlesFirst, AnswersNow, LeavesLine, IsAway, SeatLeaves, SeatReturns, IfServed, IfLeft};
 
 use crate::keyed::{has_key, take_at};
 use crate::room::{Room, Shut};
@@ -14,7 +18,6 @@ use crate::seat::Seat;
 use crate::settling::{tell_all, write_members};
 use crate::tag::LogTag;
 use crate::writing::write_from;
-use db_core::laws::{member_desk_law, other_lines_law, step_law};
 use db_core::{Board, Desk, Offered, Waiting};
 use db_store::Store;
 use db_value::{LineText, Reply};
@@ -102,7 +105,6 @@ fn make_room(
     waits: &mut Vec<(u32, Reply)>,
     told: &mut Vec<(u32, Reply)>,
 ) -> Result<(), AllocError>
-    ghost use Rattle.std.specs.Prelude.{◌+◌, ◌<◌, ◌≤◌, vec_len, vec_capacity};
     requires { vec_len told.old + vec_len waits.old ≤ vec_capacity told.old }
     ensures waits { waits.new.items ≡ waits.old.items }
     ensures told { told.new.items ≡ told.old.items }
@@ -165,8 +167,6 @@ impl<St: Store, J: Log<St>, T: LogTag<J>> Whole<St, J, T> {
 
     // Hands the carried pass out.
     fn hand(&mut self, number: u32) -> Result<Pass<St>, AllocError>
-        ghost use Rattle.std.specs.Prelude.{ℕ};
-        ghost use Rattle.db_hub.specs.Served.{IsHandedTo};
         requires { (session : ℕ) × CarriesFor self.old.pen number session }
         ensures pass { IfOk result (IsHandedTo T.note T.opened self.old.pen number) }
         ensures free { OnOk result (is_carrying self.new.pen ≡ false) }
@@ -195,7 +195,6 @@ impl<St: Store, J: Log<St>, T: LogTag<J>> Whole<St, J, T> {
         text: &LineText,
         stmt: &Stmt,
     ) -> Result<Asked, AllocError>
-        ghost use Rattle.std.specs.Prelude.{MatchResult};
         requires ready { IsReady T.opened T.since self.old number desk.old }
         requires line { said_of text.now false ≡ heard desk.old.session stmt.now }
         requires local { waits desk.old (Some stmt.now) ≡ false }
@@ -233,7 +232,6 @@ impl<St: Store, J: Log<St>, T: LogTag<J>> Whole<St, J, T> {
         text: &LineText,
         stmt: &Stmt,
     ) -> Result<Option<Visit<St>>, AllocError>
-        ghost use Rattle.std.specs.Prelude.{IfSome, is_some};
         requires line { said_of text.now false ≡ heard seat.old.desk.session stmt.now }
         requires local { waits seat.old.desk (Some stmt.now) ≡ false }
         ensures settle { IfOk result (λ o. o ≡ None → SeatLooked seat.old seat.new
@@ -394,9 +392,6 @@ impl<St: Store, J: Log<St>, T: LogTag<J>> Whole<St, J, T> {
 
     // Enters the desk's lines with the number of the carried pass, where no member waits.
     fn enter_lines(&mut self, desk: &mut Desk<St>, number: u32) -> Result<(), AllocError>
-        ghost use Rattle.std.specs.Prelude.{◌++◌};
-        ghost use Rattle.db_core.specs.Desk.{cleared};
-        ghost use Rattle.db_hub.specs.Entered.{lines_of};
         requires ready { IsReady T.opened T.since self.old number desk.old }
         requires none { self.old.members ≡ [] }
         ensures lines { OnOk result (self.new.pen.lines
@@ -413,10 +408,6 @@ impl<St: Store, J: Log<St>, T: LogTag<J>> Whole<St, J, T> {
 
     /// The board, the note and its pen. Members that wait are settled first, unless a pass was lost.
     pub fn into_parts(mut self) -> Shut<St, J>
-        ghost use Rattle.db_core.specs.Kept.{Stands};
-        ghost use Rattle.db_hub.specs.Entered.{steps_of};
-        ghost use Rattle.db_hub.specs.Own.{AllNoted};
-        ghost use Rattle.db_hub.specs.Rooms.{StoresSince};
         ensures named { (result.note.note ≡ T.note) × (result.pen.note ≡ T.note) }
         ensures opened { (result.board.kept.opening ≡ T.opened)
             × (result.board.kept.first_count ≡ T.first) }
