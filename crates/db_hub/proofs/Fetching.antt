@@ -9,7 +9,6 @@ use Rattle.atomic_table.specs.Seated.{TableId}
 use Rattle.db_value.specs.declared.reply.Reply.{Reply}
 use Rattle.db_value.specs.declared.step.Step.{Step}
 use Rattle.db_store.specs.State.{State}
-use Rattle.stmt_text.specs.declared.stmt.Stmt.{Stmt}
 use Rattle.history_note.specs.declared.view.NotedLine.{NotedLine}
 use Rattle.history_note.specs.Places.{place_if, places, places_from, owed_to, without, kept_for, IsNoted}
 use Rattle.history_note.specs.Rule.{LineAt, LeftFits}
@@ -17,15 +16,12 @@ use Rattle.history_note.specs.Views.{noted_line}
 use Rattle.history_note.specs.Shown.{AtNote, AtPen, AtPass, carrying, known, handed_pass, FitsPen}
 use Rattle.history_note.proofs.Counting.{place_same, place_other, same_or_not, some_none}
 use Rattle.reply_text.specs.Reply.{NamesItsRows}
-use Rattle.store_tx.specs.Ends.{is_open}
-use Rattle.db_core.specs.Order.{Said, World, Desk, Fate, Skips, IsBad, IsHeld, Fails, Ends, Stays, said_of, opening, next, next_by, next_with, after, reply_in, fate_with}
+use Rattle.db_core.specs.Order.{Said, said_of, opening, after, reply_in}
 use Rattle.db_core.specs.Laws.{AllHaveRoom}
 use Rattle.db_core.specs.Kept.{Kept, Stands, step_of, said_step, saids, world_of}
 use Rattle.db_core.specs.Desk.{AtDesk, Agrees, AllOthers, entered}
 use Rattle.db_core.specs.Awaiting.{IsToldIn}
 use Rattle.db_core.specs.Members.{AtMember}
-use Rattle.db_core.proofs.Until.{other_desk}
-use Rattle.db_core.proofs.Seating.{after_all}
 use Rattle.db_core.proofs.Awaiting.{step_law}
 use Rattle.db_hub.specs.Entered.{steps_of, world_after, is_open_after, kept_at}
 use Rattle.db_hub.specs.Own.{AllOwn}
@@ -39,32 +35,8 @@ use Rattle.db_hub.proofs.Owners.{own_left, own_right, own_behind, none_own}
 use Rattle.db_hub.proofs.Written.{owes_all, hit_some}
 use Rattle.db_hub.proofs.Leaving.{at_found, at_passed, rest_found, rest_passed}
 use Rattle.db_hub.proofs.Standings.{agrees_at, sits_open}
+use Rattle.db_hub.proofs.Shutting.{open_still}
 use Rattle.db_hub.proofs.Batches.{at_seam}
-
--- ---- lines of other sessions leave a session's lines
-
-desk_by : (w : World) (s : ℕ) (x : Stmt) (f : Fate) (m : ℕ) → (m ≡ s → ⊥) → (next_by w s x (w.desks s) f).desks m ≡ w.desks m
-desk_by w s x Skips m other = other_desk w.desks s m _ other
-desk_by w s x IsBad m other = refl
-desk_by w s x (IsHeld by) m other = other_desk w.desks s m _ other
-desk_by w s x Fails m other = other_desk w.desks s m _ other
-desk_by w s x Ends m other = other_desk w.desks s m _ other
-desk_by w s x Stays m other = other_desk w.desks s m _ other
-
-desk_with : (w : World) (s : ℕ) (z : Bool) (x : Option Stmt) (m : ℕ) → (m ≡ s → ⊥) → (next_with w s z x).desks m ≡ w.desks m
-desk_with w s z None m other = refl
-desk_with w s z (Some x) m other = desk_by w s x (fate_with w s z (Some x)) m other
-
-desk_after : (w : World) (xs : List Said) (m : ℕ) → AllOthers m xs → (after w xs).desks m ≡ w.desks m
-desk_after w [] m others = refl
-desk_after w (x ∷ xs) m others = desk_after (next w x) xs m others.1 ∙ desk_with w x.session x.failed x.stmt m (λ e. others.0 (sym e))
-
-pub open_stays : (o : State) (xs ys : List NotedLine) (s : ℕ) → AllOthers s (saids (steps_of ys)) → is_open_after o (steps_of (xs ++ ys)) s ≡ is_open_after o (steps_of xs) s
-open_stays o xs ys s others =
-    ap (λ (ss : List Step). is_open_after o ss s) (steps_append xs ys)
-    ∙ ap (λ (l : List Said). is_open ((after (opening o) l).desks s).lines) (map-append said_step (steps_of xs) (steps_of ys))
-    ∙ ap (λ (w : World). is_open (w.desks s).lines) (after_all (opening o) (saids (steps_of xs)) (saids (steps_of ys)))
-    ∙ ap (λ (d : Desk). is_open d.lines) (desk_after (world_after o (steps_of xs)) (saids (steps_of ys)) s others)
 
 -- ---- the one place of a number
 
@@ -300,9 +272,11 @@ module _ (named : TableId) (numbers : List (ℕ × ℕ)) (o : State) (since : �
           seen = seen_is ∙ lines_are ∙ ap (λ (l : NotedLine). (q.seen ++ cut.middle) ++ l ∷ cut.behind) (line_is ∙ ap (λ (j : ℕ). noted_line j (step_of text step.failed found.0)) (sym a));
           middle_none = λ j. ap (λ (m : ℕ). places_from m j cut.middle) a ∙ cut.middle_none j;
           behind_none = λ j. ap (λ (m : ℕ). places_from m j cut.behind) a ∙ cut.behind_none j;
+          middle_others = subst (λ (d : AtDesk). AllOthers d.session (saids (steps_of cut.middle))) (sym b) others_middle;
+          behind_others = subst (λ (d : AtDesk). AllOthers d.session (saids (steps_of cut.behind))) (sym b) others_behind;
           names = subst NamesItsRows reply_is told_in.named;
           told = λ later roomy. sym reply_is ∙ told_in.reply later roomy ∙ (λ j. reply_in (world_after (rf.opening_is j) (steps_of (q.seen ++ cut.middle))) (said_is j) later);
-          stays_open = ap (λ (d : AtDesk). is_open_after o (steps_of (q.seen ++ cut.middle)) d.session) b ∙ open_stays o q.seen cut.middle k.session others_middle ∙ ap (λ (d : AtDesk). is_open_after o (steps_of q.seen) d.session) (sym b);
+          stays_open = ap (λ (d : AtDesk). is_open_after o (steps_of (q.seen ++ cut.middle)) d.session) b ∙ open_still o q.seen cut.middle k.session others_middle ∙ ap (λ (d : AtDesk). is_open_after o (steps_of q.seen) d.session) (sym b);
           mine_is = mine ∙ ap (λ (m : ℕ). places m p2.seen) (number_is ∙ sym a);
           there = refl;
           number = sym a;

@@ -14,7 +14,7 @@ use Rattle.db_core.specs.Order.{Said, said_of, reply_in}
 use Rattle.db_core.specs.Laws.{AllHaveRoom}
 use Rattle.db_core.specs.Kept.{Kept, Logged, Stands, step_of, saids}
 use Rattle.db_core.specs.Answered.{IsAnswered}
-use Rattle.db_core.specs.Desk.{AtDesk, Agrees, entered, cleared}
+use Rattle.db_core.specs.Desk.{AtDesk, Agrees, AllOthers, entered, cleared}
 use Rattle.db_core.specs.Members.{AtMember}
 use Rattle.db_core.specs.Awaiting.{AgreesAfter, ticketed_desk}
 use Rattle.db_hub.specs.declared.whole.Asked.{Asked}
@@ -27,7 +27,7 @@ use Rattle.db_hub.specs.Seats.{AtSeat, PassFits, seat_at}
 -- ---- what callers see
 
 -- A line of the seat was entered and answered, with the mark or without. It stands behind a list that begins with what the seat had seen, then the lines that waited at the
--- desk, and then lines of other numbers; and lines of other numbers may stand behind it. The reply is that of the line's whole transaction in this list, whatever lines come
+-- desk, and then lines of other sessions; and lines of other sessions may stand behind it. The reply is that of the line's whole transaction in this list, whatever lines come
 -- later, and its rows are named. Just before the line its session has an open transaction if the desk had one, and after it if the desk has one then. The seat's own lines grow by
 -- these alone.
 pub record SeatServed (opened : State) (old new : AtSeat) (text : List ℕ) (r : Reply) : Type 0 where
@@ -39,6 +39,8 @@ pub record SeatServed (opened : State) (old new : AtSeat) (text : List ℕ) (r :
   pub seen : new.seen ≡ ((front ++ lines_of old.number old.desk.waiting) ++ middle) ++ noted_line old.number (step_of text failed r) ∷ behind
   pub middle_none : (k : ℕ) → places_from old.number k middle ≡ []
   pub behind_none : (k : ℕ) → places_from old.number k behind ≡ []
+  pub middle_others : AllOthers old.desk.session (saids (steps_of middle))
+  pub behind_others : AllOthers old.desk.session (saids (steps_of behind))
   pub names : NamesItsRows r
   pub told : (later : List Said) → AllHaveRoom later → r ≡ reply_in (world_after opened (steps_of ((front ++ lines_of old.number old.desk.waiting) ++ middle))) (said_of text failed) later
   pub was_open : is_open_after opened (steps_of ((front ++ lines_of old.number old.desk.waiting) ++ middle)) old.desk.session ≡ is_some old.desk.open_tx
@@ -187,7 +189,7 @@ pub record SeatLeaves (opened : State) (old new : AtSeat) (p : AtPass) : Type 0 
   pub number : new.number ≡ old.number
   pub desk : new.desk ≡ ticketed_desk old.desk
 
--- A line that a pass left was settled. It stands behind what the pass had seen, between lines of other numbers.
+-- A line that a pass left was settled. It stands behind what the pass had seen, between lines of other sessions.
 pub record SeatReturns (opened : State) (p : AtPass) (old new : AtSeat) (text : List ℕ) (r : Reply) : Type 0 where
   pub failed : Bool
   pub middle : List NotedLine
@@ -195,6 +197,8 @@ pub record SeatReturns (opened : State) (p : AtPass) (old new : AtSeat) (text : 
   pub seen : new.seen ≡ (p.seen ++ middle) ++ noted_line old.number (step_of text failed r) ∷ behind
   pub middle_none : (k : ℕ) → places_from old.number k middle ≡ []
   pub behind_none : (k : ℕ) → places_from old.number k behind ≡ []
+  pub middle_others : AllOthers old.desk.session (saids (steps_of middle))
+  pub behind_others : AllOthers old.desk.session (saids (steps_of behind))
   pub names : NamesItsRows r
   pub told : (later : List Said) → AllHaveRoom later → r ≡ reply_in (world_after opened (steps_of (p.seen ++ middle))) (said_of text failed) later
   pub stays_open : is_open_after opened (steps_of (p.seen ++ middle)) old.desk.session ≡ is_open_after opened (steps_of p.seen) old.desk.session

@@ -19,13 +19,15 @@ use Rattle.db_core.specs.Sits.{heard}
 use Rattle.db_core.specs.Kept.{step_of, saids}
 use Rattle.db_core.specs.Desk.{AllOthers}
 use Rattle.db_hub.specs.Entered.{steps_of, lines_of, is_open_after}
-use Rattle.db_hub.specs.Seats.{AtSeat, SeatVisited, SeatClosed, SeatStays, SeatFailed}
-use Rattle.db_hub.proofs.Counted.{steps_append, steps_lines, lines_append}
+use Rattle.db_hub.specs.Seats.{AtSeat, SeatClosed, SeatStays, SeatFailed}
+use Rattle.db_hub.specs.Served.{SeatServed}
+use Rattle.db_hub.proofs.Counted.{steps_append}
+use Rattle.db_hub.proofs.Shutting.{open_still}
 use Rattle.session_run.specs.Said.{IsFirstOf, entered_with, texts, texts_in, said_at, abort_text, EndsInAbort, SaysAll, SaysPart, KeepsSaid, HasLines, HasFront, IsReady, HasAborted, HasSaidAll, HasSaidPart, IsEnded}
-use Rattle.session_run.proofs.Counting.{entered_append, entered_lines, between, enters_front}
+use Rattle.session_run.proofs.Counting.{entered_append, between, served_before, served_behind}
 use Rattle.session_run.proofs.Fronts.{front_of, whole_front}
 use Rattle.session_run.proofs.Saying.{closed_said, failed_kept}
-use Rattle.session_run.proofs.Shutting.{open_still, abort_last}
+use Rattle.session_run.proofs.Shutting.{abort_last}
 use Rattle.session_run.proofs.AbortText.{marked_as}
 
 -- ---- what a session said stays that in a longer list
@@ -71,33 +73,33 @@ kept_front lines rest first mid new k number session said = λ there.
 
 -- ---- an abort
 
--- a visit by an abort leaves no transaction open
-visited_shut : (o : State) (old new : AtSeat) (text : List ℕ) (r : Reply) → SeatVisited o old new text r → said_of text false ≡ heard old.desk.session Abort → is_some new.desk.open_tx ≡ false
-visited_shut o old new text r v said =
+-- an abort that was served leaves no transaction open
+served_shut : (o : State) (old new : AtSeat) (text : List ℕ) (r : Reply) → SeatServed o old new text r → said_of text false ≡ heard old.desk.session Abort → is_some new.desk.open_tx ≡ false
+served_shut o old new text r v said =
     let step : Step = step_of text v.failed r in
-    let waits : List Step = old.desk.waiting in
-    let all : steps_of new.seen ≡ (steps_of v.front ++ waits) ++ step ∷ [] =
-    ap steps_of v.seen ∙ steps_append v.front (lines_of old.number (waits ++ step ∷ [])) ∙ ap (λ (x : List Step). steps_of v.front ++ x) (steps_lines old.number (waits ++ step ∷ [])) ∙ sym (append_assoc (steps_of v.front) waits (step ∷ [])) in
-    sym v.now_open ∙ ap (λ (x : List Step). is_open_after o x old.desk.session) all ∙ abort_last o (steps_of v.front ++ waits) old.desk.session step v.failed (marked_as text v.failed old.desk.session Abort said)
+    let x : NotedLine = noted_line old.number step in
+    let before : List NotedLine = (v.front ++ lines_of old.number old.desk.waiting) ++ v.middle in
+    let all : new.seen ≡ (before ++ x ∷ []) ++ v.behind = v.seen ∙ sym (append_assoc before (x ∷ []) v.behind) in
+    sym v.now_open ∙ ap (λ (l : List NotedLine). is_open_after o (steps_of l) old.desk.session) all ∙ open_still o (before ++ x ∷ []) v.behind old.desk.session v.behind_others
+    ∙ ap (λ (l : List Step). is_open_after o l old.desk.session) (steps_append before (x ∷ [])) ∙ abort_last o (steps_of before) old.desk.session step v.failed (marked_as text v.failed old.desk.session Abort said)
 
--- a visit by the abort after the whole section
-visited_abort : (o : State) (section : List (List ℕ)) (session : ℕ) (old new : AtSeat) (text : List ℕ) (r : Reply) → SeatVisited o old new text r → old.desk.session ≡ session → said_at old ≡ section → text ≡ abort_text session → is_some old.desk.open_tx ≡ true
+-- the abort after the whole section was served
+served_abort : (o : State) (section : List (List ℕ)) (session : ℕ) (old new : AtSeat) (text : List ℕ) (r : Reply) → SeatServed o old new text r → old.desk.session ≡ session → said_at old ≡ section → text ≡ abort_text session → is_some old.desk.open_tx ≡ true
     → EndsInAbort o old.number section session new.seen
-visited_abort o section session old new text r u f said aborts opens =
+served_abort o section session old new text r u f said aborts opens =
     let n : ℕ = old.number in
     let step : Step = step_of text u.failed r in
     let waits : List Step = old.desk.waiting in
-    let before : List NotedLine = u.front ++ lines_of n waits in
-    let front : entered_with n u.front ≡ entered_with n old.seen = enters_front n old.seen new.seen u.front old.mine new.mine (waits ++ step ∷ []) u.seen u.begins u.mine u.mine_was u.mine_is in
+    let before : List NotedLine = (u.front ++ lines_of n waits) ++ u.middle in
     record {
       front = before;
       step = step;
-      rest = [];
-      split = u.seen ∙ ap (λ (x : List NotedLine). u.front ++ x) (lines_append n waits (step ∷ [])) ∙ sym (append_assoc u.front (lines_of n waits) (noted_line n step ∷ []));
+      rest = u.behind;
+      split = u.seen;
       abort = aborts;
-      section_is = ap texts (entered_append n u.front (lines_of n waits) ∙ (λ i. front i ++ entered_lines n waits i)) ∙ said;
-      left_open = (λ i. is_open_after o (steps_of before) (sym f i)) ∙ ap (λ (x : List Step). is_open_after o x old.desk.session) (steps_append u.front (lines_of n waits) ∙ ap (λ (x : List Step). steps_of u.front ++ x) (steps_lines n waits)) ∙ u.was_open ∙ opens;
-      last = refl;
+      section_is = ap texts (served_before n old.seen new.seen u.front u.middle u.behind old.mine new.mine waits step u.seen u.middle_none u.behind_none u.begins u.mine u.mine_was u.mine_is) ∙ said;
+      left_open = (λ i. is_open_after o (steps_of before) (sym f i)) ∙ u.was_open ∙ opens;
+      last = served_behind n old.seen new.seen u.front u.middle u.behind old.mine new.mine waits step u.seen u.middle_none u.behind_none u.begins u.mine u.mine_was u.mine_is;
     }
 
 module _ (o : State) (section : Section) where
@@ -106,16 +108,16 @@ module _ (o : State) (section : Section) where
   pub said_whole : (old new : AtSeat) → IsReady section old → HasLines section.lines old new → is_some new.desk.open_tx ≡ false → HasSaidAll o section old new
   said_whole old new ready h shut = record { there = h.there; number = h.number; session = h.session; shut = shut; said = inl h.said }
 
-  pub said_aborted : (old mid new : AtSeat) (text : List ℕ) (r : Reply) → IsReady section old → HasLines section.lines old mid → SeatVisited o mid new text r → text ≡ abort_text section.session → said_of text false ≡ heard section.session Abort → is_some mid.desk.open_tx ≡ true
+  pub said_aborted : (old mid new : AtSeat) (text : List ℕ) (r : Reply) → IsReady section old → HasLines section.lines old mid → SeatServed o mid new text r → text ≡ abort_text section.session → said_of text false ≡ heard section.session Abort → is_some mid.desk.open_tx ≡ true
       → HasSaidAll o section old new
   said_aborted old mid new text r ready h v is said opens =
       let f : mid.desk.session ≡ section.session = h.session ∙ ready.session_is in
-      let a : EndsInAbort o mid.number (texts_in section.lines) section.session new.seen = visited_abort o (texts_in section.lines) section.session mid new text r v f h.said is opens in
+      let a : EndsInAbort o mid.number (texts_in section.lines) section.session new.seen = served_abort o (texts_in section.lines) section.session mid new text r v f h.said is opens in
       record {
         there = v.there;
         number = v.number ∙ h.number;
         session = v.session ∙ h.session;
-        shut = visited_shut o mid new text r v (said ∙ ap (λ (s : ℕ). heard s Abort) (sym f));
+        shut = served_shut o mid new text r v (said ∙ ap (λ (s : ℕ). heard s Abort) (sym f));
         said = inr (subst (λ (x : ℕ × ℕ). EndsInAbort o x.0 (texts_in section.lines) x.1 new.seen) (λ i. (sym v.number i, (sym f ∙ sym v.session) i)) a, v.none);
       }
 
@@ -190,6 +192,7 @@ module _ (o : State) (section : Section) where
         number_is = v.number ∙ h.number;
         session_is = v.session ∙ s;
         mine_is = v.mine_is ∙ ap (λ (k : ℕ). places k p.seen) h.number;
+        left_none = v.left_none;
         said = subst (λ (x : ℕ × ℕ). SaysAll o x.0 (texts_in section.lines) x.1 p.seen) (λ i. (h.number i, s i)) (closed_says z mid p v h.said);
       }
 
