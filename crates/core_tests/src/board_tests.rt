@@ -180,7 +180,7 @@ fn is_branched<St: Store>(
 }
 
 fn branches<St: Store>(rt: &impl Abort, alloc: Global, store: St) -> Result<(), Fail> {
-    let (mut board, mut first, _second) = two_desks(alloc, store)?;
+    let (mut board, mut first, _second) = two_desks(alloc, store, NoLog)?;
     is_branched(rt, &mut board, &mut first)
 }
 

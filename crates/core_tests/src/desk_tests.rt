@@ -1,5 +1,6 @@
 //! A desk and its board, beside a core that hears the same lines. The replies are written by hand.
 ghost use Rattle.std.specs.Prelude.{◌≡◌, false, IsTrue, IfOk, OnOk};
+ghost use Rattle.db_outside.specs.Count.{counted};
 ghost use Rattle.reply_text.specs.Reply.{NamesItsRows};
 ghost use Rattle.db_core.specs.Order.{said_of};
 ghost use Rattle.db_core.specs.Kept.{new_kept};
@@ -68,8 +69,8 @@ pub fn text_of(alloc: Global, line: &str) -> Result<LineText, Fail>
     Ok(ListOf::of(Vec::from_slice(alloc, line.as_bytes())?))
 }
 
-// Does the reply tell no rows?
-fn tells_no_rows(reply: &Reply) -> bool
+/// Does the reply tell no rows?
+pub fn tells_no_rows(reply: &Reply) -> bool
     ensures { IsTrue result → NamesItsRows reply.now }
 {
     match reply {
@@ -78,27 +79,29 @@ fn tells_no_rows(reply: &Reply) -> bool
     }
 }
 
-fn bytes_of(alloc: Global, text: &LineText, reply: &Reply) -> Result<ReplyBytes, Fail>
+pub fn bytes_of(alloc: Global, text: &LineText, reply: &Reply) -> Result<ReplyBytes, Fail>
     requires { NamesItsRows reply.now }
 {
     let (schema, _) = Schema::read(alloc, b"relation items a b\nend\n")?;
     Ok(write_reply(alloc, &schema, text, reply)?)
 }
 
-fn new_board<St: Store>(alloc: Global, store: St) -> Result<Board<St, NoLog>, Fail>
-    ensures { IfOk result (λ b. b.kept ≡ new_kept (St.state store) 0) }
+fn new_board<St: Store, J: Log<St>>(alloc: Global, store: St, log: J) -> Result<Board<St, J>, Fail>
+    ensures { IfOk result
+        (λ b. b.kept ≡ new_kept (St.state store) (counted (J.faults log))) }
 {
-    match Board::new(alloc, store, NoLog) {
+    match Board::new(alloc, store, log) {
         Err(_) => Err("no board".into()),
         Ok(board) => Ok(board),
     }
 }
 
 /// A board, and desks of the sessions 1 and 2.
-pub fn two_desks<St: Store>(
+pub fn two_desks<St: Store, J: Log<St>>(
     alloc: Global,
     store: St,
-) -> Result<(Board<St, NoLog>, Desk<St>, Desk<St>), Fail>
+    log: J,
+) -> Result<(Board<St, J>, Desk<St>, Desk<St>), Fail>
     ensures first { IfOk result (λ p. IsBare 1 p.0.kept p.1) }
     ensures second { IfOk result (λ p. IsBare 2 p.0.kept p.2) }
 {
@@ -106,7 +109,7 @@ pub fn two_desks<St: Store>(
     let schema = store.schema().duplicate()?;
     let first = Desk::new(alloc, 1, &schema)?;
     let second = Desk::new(alloc, 2, &schema)?;
-    let board = new_board(alloc, store)?;
+    let board = new_board(alloc, store, log)?;
     Ok((board, first, second))
 }
 
@@ -170,7 +173,7 @@ pub fn with_open<St: Store>(
     ensures second { IfOk result (λ p. Agrees p.0.kept p.2) }
     ensures sessions { IfOk result (λ p. (p.1.session ≡ 1) × (p.2.session ≡ 2)) }
 {
-    let (mut board, first, mut second) = two_desks(alloc, store)?;
+    let (mut board, first, mut second) = two_desks(alloc, store, NoLog)?;
     hold(alloc, &mut board, &mut second, "2 begin", "> 2 begin\nok\n")?;
     hold(alloc, &mut board, &mut second, line, expected)?;
     Ok((board, first, second))

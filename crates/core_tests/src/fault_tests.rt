@@ -15,9 +15,9 @@ use std::test::Fail;
 /// A log that takes batches and drops them, and fails at its first batch and at every second one after
 /// it, and at each checkpoint.
 #[derive(Drop)]
-struct Faulty {
-    fails: bool,
-    count: u64,
+pub struct Faulty {
+    pub fails: bool,
+    pub count: u64,
 }
 
 impl<St: Store> Log<St> for Faulty {

@@ -14,9 +14,9 @@ ghost use Rattle.db_core.specs.Marks.{call_with};
 ghost use Rattle.db_core.specs.Answered.{Ran, call_now};
 ghost use Rattle.db_core.specs.Sits.{heard, call_at, said_now, tx_of};
 ghost use Rattle.db_core.specs.Sessions.{SeatedIn, asked_by};
-ghost use Rattle.db_core.specs.Desk.{Agrees, IsDeskOf, entered, waits};
+ghost use Rattle.db_core.specs.Desk.{Agrees, IsDeskOf, entered};
 ghost use Rattle.db_core.specs.Waiting.{AreOffered, members_of};
-ghost use Rattle.db_core.specs.Offers.{any_conflict, is_hindered, is_alone, must_settle, takes_alone, is_commit, may_commit, overflows, settles_first, HasNone, IsCommitOf, MayJoin, IsRightly, IfFirst, IfAnswered, IfTicketed, IsStillAt, IsNotOffered, IsUntouched, IsServedFor, IsTicketed};
+ghost use Rattle.db_core.specs.Offers.{any_conflict, is_hindered, is_alone, must_settle, takes_alone, is_commit, may_commit, overflows, settles_first, IsCommitOf, MayOffer, MayJoin, IsRightly, IfFirst, IfAnswered, IfTicketed, IsStillAt, IsNotOffered, IsUntouched, IsServedFor, IsTicketed};
 
 use crate::board::{Board, ready_after};
 use crate::desk::Desk;
@@ -256,12 +256,8 @@ impl<St: Store, J: Log<St>> Board<St, J> {
         queue: &mut FlushQueue,
         waiting: &mut Waiting<St>,
     ) -> Result<Offered, AllocError>
-        requires agree { Agrees self.old.kept desk.old }
-        requires line { said_of text.now false ≡ heard desk.old.session stmt.now }
-        requires local { waits desk.old (Some stmt.now) ≡ false }
-        requires offered { AreOffered St.Prepares self.old.ready self.old.kept queue.old
-            waiting.old.members.items }
-        requires alone { HasNone desk.old.session (members_of waiting.old.members.items) }
+        requires { MayOffer St.Prepares self.old.ready self.old.kept desk.old text.now stmt.now
+            queue.old waiting.old.members.items }
         ensures which { IfOk result (λ o. IsRightly o
             (settles_first self.old.kept desk.old text.now stmt.now queue.old
             (members_of waiting.old.members.items))
