@@ -39,5 +39,3 @@ pub mod Joining
 pub mod Between
 pub mod Spares
 pub mod Batches
-pub mod Shutting
-pub mod Awaiting

@@ -16,4 +16,3 @@ pub mod Desk
 pub mod Sessions
 pub mod Local
 pub mod Settled
-pub mod Awaiting

@@ -21,7 +21,7 @@ use Rattle.db_core.specs.Answered.{IsAnswered}
 use Rattle.db_core.specs.Desk.{AtDesk, Agrees, entered, cleared}
 use Rattle.db_core.specs.Members.{AtMember}
 use Rattle.db_core.specs.Offers.{HasNone}
-use Rattle.db_core.specs.Awaiting.{AgreesAfter, ticketed_desk}
+use Rattle.db_hub.specs.Awaiting.{AgreesAfter, ticketed_desk}
 use Rattle.db_hub.specs.Entered.{steps_of, lines_of}
 use Rattle.db_hub.specs.Own.{AllBy, AllNoted, AllOnce, OutFits}
 use Rattle.db_hub.specs.Seats.{AtSeat, PassFits, seat_at}
