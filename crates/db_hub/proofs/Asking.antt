@@ -13,7 +13,7 @@ use Rattle.history_note.specs.declared.view.PassView.{PassView}
 use Rattle.history_note.specs.Places.{places, places_from, owed_to, kept_for, kept_without, IsNoted, IsIssued}
 use Rattle.history_note.specs.Rule.{IsTheCarried}
 use Rattle.history_note.specs.Shown.{AtNote, AtPen, AtPass, carrying, known, leaving, leaving_by, is_carrying, FitsPen}
-use Rattle.history_note.proofs.Counting.{kept_more_same, same_or_not, some_none}
+use Rattle.history_note.proofs.Counting.{kept_more_same, same_or_not}
 use Rattle.db_core.specs.Order.{Said, said_of}
 use Rattle.db_core.specs.Sits.{heard}
 use Rattle.db_core.specs.Kept.{Kept, Logged, Stands, step_of, saids, world_of}
@@ -30,7 +30,7 @@ use Rattle.db_hub.specs.Left.{kept_lines, AreWaits, AreTold, LinesFit}
 use Rattle.db_hub.specs.Served.{AtWhole, CarriesFor, IsReady, IsTaken}
 use Rattle.db_hub.proofs.Counted.{steps_append, steps_lines, length_steps}
 use Rattle.db_hub.proofs.Owners.{single, noted_both, noted_lines, out_writes}
-use Rattle.db_hub.proofs.Written.{with_mine, with_lines, written_is}
+use Rattle.db_hub.proofs.Written.{some_none, with_mine, with_lines, written_is}
 use Rattle.db_hub.proofs.Batches.{told_longer}
 use Rattle.db_hub.proofs.Visits.{Grows, agree, none_between, owes_still, keeps_still}
 

@@ -14,7 +14,7 @@ use Rattle.history_note.specs.Places.{place_if, places, places_from, owed_to, wi
 use Rattle.history_note.specs.Rule.{LineAt, LeftFits}
 use Rattle.history_note.specs.Views.{noted_line}
 use Rattle.history_note.specs.Shown.{AtNote, AtPen, AtPass, carrying, known, handed_pass, FitsPen}
-use Rattle.history_note.proofs.Counting.{place_same, place_other, same_or_not, some_none}
+use Rattle.history_note.proofs.Counting.{place_same, place_other, same_or_not}
 use Rattle.reply_text.specs.Reply.{NamesItsRows}
 use Rattle.db_core.specs.Order.{Said, said_of, opening, after, reply_in}
 use Rattle.db_core.specs.Laws.{AllHaveRoom}
@@ -32,7 +32,7 @@ use Rattle.db_hub.specs.Left.{IsToldAt, AreTold, LinesFit}
 use Rattle.db_hub.specs.Served.{IsAway, SeatReturns}
 use Rattle.db_hub.proofs.Counted.{steps_append}
 use Rattle.db_hub.proofs.Owners.{own_left, own_right, own_behind, none_own}
-use Rattle.db_hub.proofs.Written.{owes_all, hit_some}
+use Rattle.db_hub.proofs.Written.{some_none, owes_all, hit_some}
 use Rattle.db_hub.proofs.Leaving.{at_found, at_passed, rest_found, rest_passed}
 use Rattle.db_hub.proofs.Standings.{agrees_at, sits_open}
 use Rattle.db_hub.proofs.Shutting.{open_still}
