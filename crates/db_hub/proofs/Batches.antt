@@ -1,6 +1,7 @@
 -- Lines that waited together, written with their numbers.
 use Rattle.std.proofs.Common.{◌≡◌, ◌≢◌, ◌⊎◌, inl, inr, ℕ, ◌+◌, Bool, List, [], ◌∷◌, ◌++◌, length, drop, cond, Option, Some, None, refl, sym, ap, ◌∙◌, subst, arith, length-append, append_assoc, append-nil, eq-eqb, ne_eqb}
 use Rattle.std.specs.Prelude.{true, false, is_some}
+use Rattle.std.proofs.Math.Seq.{drop-append_seam}
 use mathlib.Core.Option.{some}
 use lib.ListN.{get_elem?}
 use Rattle.atomic_table.proofs.Lists.{at_longer, at_last}
@@ -21,7 +22,7 @@ use Rattle.db_hub.specs.Awaiting.{member_step}
 use Rattle.db_core.proofs.Members.{says}
 use Rattle.db_hub.specs.Entered.{steps_of}
 use Rattle.db_hub.specs.Own.{session_of, AllNoted, AllOwn, AllOnce, OutFits}
-use Rattle.db_hub.specs.Rooms.{RoomFits}
+use Rattle.db_hub.specs.Rooms.{RoomFits, IsQuiet}
 use Rattle.db_hub.specs.Left.{kept_lines, AreWaits, IsToldAt, AreTold, LinesFit, numbered, owed_from, written_for, MayWriteAll, told_all}
 use Rattle.db_hub.proofs.Counted.{steps_append}
 use Rattle.db_hub.proofs.Owners.{single, one_session, noted_both, own_more}
@@ -120,6 +121,26 @@ module _ (failed : Bool) (out : List (ℕ × ℕ)) (once : AllOnce out) where
       λ e. single out once t x.0 n (subst (IsNoted out x.0) (sym (session_is m all.0 x.0) ∙ e) a.0) i,
       own_numbered t n i ws ms a.2 all.1,
     )
+
+-- where no member waits, no line is kept
+pub none_kept_lines : (ws : List (ℕ × Reply)) (ms : List AtMember) → ms ≡ [] → kept_lines ws ms ≡ []
+none_kept_lines [] ms e = refl
+none_kept_lines (w ∷ ws) ms e = ap (kept_lines (w ∷ ws)) e
+
+-- nothing waits, and nothing is owed
+pub lines_none : (out : List (ℕ × ℕ)) (pen : AtPen) (ms : List AtMember) → IsQuiet pen → ms ≡ [] → LinesFit out pen [] [] ms
+lines_none out pen ms quiet none = record {
+  kept_are = quiet.keeps_nothing;
+  waits_are = subst (AreWaits out []) (sym none) tt;
+  told_are = subst (λ (os : List (ℕ × ℕ)). AreTold pen.lines os []) (sym quiet.owes_nothing) tt;
+}
+
+-- the steps that a settle entered
+pub new_steps : (failed : Bool) (b c : Kept) (ms : List AtMember) → c ≡ settled_board failed b (world_of b) ms → (from : ℕ) → from ≡ length b.steps → drop from c.steps ≡ member_steps failed ms
+new_steps failed b c ms kept from is = (λ i. drop (is i) (kept i).steps) ∙ drop-append_seam b.steps (member_steps failed ms)
+
+pub steps_long : (failed : Bool) (b c : Kept) (ms : List AtMember) → c ≡ settled_board failed b (world_of b) ms → length c.steps ≡ length b.steps + length (member_steps failed ms)
+steps_long failed b c ms kept = ap (λ (k : Kept). length k.steps) kept ∙ length-append b.steps (member_steps failed ms)
 
 -- ---- places that are owed
 

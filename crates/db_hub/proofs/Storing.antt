@@ -1,9 +1,12 @@
 -- What the log of a board did for its lines, after a visit.
-use Rattle.std.proofs.Common.{◌≡◌, ◌∙◌, ⊎_elim, ℕ, List, [], Option, Some, sym, ap, subst}
+use Rattle.std.proofs.Common.{◌≡◌, ◌∙◌, ⊎_elim, ℕ, Bool, List, [], Option, Some, sym, ap, subst}
 use Rattle.std.specs.Prelude.{Result, Ok, Err, IfOk, OnOk, OnErr}
 use Rattle.db_value.specs.declared.reply.Reply.{Reply}
 use Rattle.entry_codec.specs.declared.log.Log.{Ghosts}
-use Rattle.db_core.specs.Kept.{Logged}
+use Rattle.db_core.specs.Kept.{Kept, Logged, Stands, world_of}
+use Rattle.db_core.specs.Members.{AtMember, AllWaitIn, AllApart}
+use Rattle.db_core.specs.Settled.{Settles}
+use Rattle.db_core.proofs.Members.{steps_settled}
 use Rattle.db_core.specs.Answered.{Ran}
 use Rattle.db_core.specs.Desk.{AtDesk, Agrees, IsLeft, entered, cleared}
 use Rattle.db_core.specs.Runs.{StoresSteps}
@@ -43,3 +46,9 @@ module _ {L S V P Q : Type 0} (g : Ghosts L S V P Q) where
     pub since_caught : {A E : Type 0} (r : Result A E) → OnOk r (c ≡ record b { kept = entered b.kept k }) → OnErr r (c ≡ b) → Since named c
     since_caught (Ok y) ok err = subst (Since named) (sym ok) since_entered
     since_caught (Err x) ok err = subst (Since named) (sym err) since
+
+  -- members were settled
+  pub since_settled : (named : Option L) (b c : Logged L) (failed : Bool) (ms : List AtMember) → (ms ≡ [] → ⊥) → Stands b.kept → AllWaitIn (world_of b.kept) ms → AllApart ms → Settles g failed ms b c → Since named b → Since named c
+  since_settled named b c failed ms some stands waits apart h since = λ first e.
+      subst (λ (k : Kept). Steps first (record { kept = k; log = c.log; ready = c.ready })) (sym h.kept)
+      (steps_settled g failed ms first b c.log some stands waits apart h.stored (since first e))
