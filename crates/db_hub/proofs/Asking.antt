@@ -12,27 +12,34 @@ use Rattle.history_note.specs.declared.view.NotedLine.{NotedLine}
 use Rattle.history_note.specs.declared.view.PassView.{PassView}
 use Rattle.history_note.specs.Places.{places, places_from, owed_to, kept_for, kept_without, IsNoted, IsIssued}
 use Rattle.history_note.specs.Rule.{IsTheCarried}
-use Rattle.history_note.specs.Shown.{AtNote, AtPen, AtPass, carrying, known, leaving, leaving_by, is_carrying, FitsPen}
+use Rattle.history_note.specs.Shown.{AtNote, AtPen, AtPass, carrying, known, leaving, leaving_by, handing, handing_one, is_carrying, IsHanded, FitsPen}
 use Rattle.history_note.proofs.Counting.{kept_more_same, same_or_not}
 use Rattle.db_core.specs.Order.{Said, said_of}
 use Rattle.db_core.specs.Sits.{heard}
 use Rattle.db_core.specs.Kept.{Kept, Logged, Stands, step_of, saids, world_of}
 use Rattle.db_core.specs.Answered.{IsAnswered}
 use Rattle.db_core.specs.Desk.{AtDesk, Agrees, entered, cleared}
+use Rattle.entry_codec.specs.declared.log.Log.{Ghosts}
+use Rattle.flush_queue.specs.Queue.{AtQueue}
+use Rattle.db_core.specs.declared.member.Member.{Member}
+use Rattle.db_core.specs.declared.offer.Offered.{Offered}
+use Rattle.db_core.specs.declared.offer.Offered.TheVariants.{SettleFirst, Answered, Ticketed}
 use Rattle.db_core.specs.Members.{AtMember}
-use Rattle.db_core.specs.Offers.{HasNone}
+use Rattle.db_core.specs.Waiting.{at_member, members_of}
+use Rattle.db_core.specs.Offers.{HasNone, IfFirst, IfAnswered, IfTicketed, IsUntouched, IsServedFor, IsTicketed}
 use Rattle.db_hub.specs.Awaiting.{AgreesAfter, ticketed_desk}
 use Rattle.db_hub.specs.Entered.{steps_of, lines_of}
 use Rattle.db_hub.specs.Own.{AllBy, AllNoted, AllOnce, OutFits}
 use Rattle.db_hub.specs.Seats.{AtSeat, PassFits, seat_at}
 use Rattle.db_hub.specs.Rooms.{RoomFits, AllOutIf, CarriesOwn, PenGrown, written_all}
 use Rattle.db_hub.specs.Left.{kept_lines, AreWaits, AreTold, LinesFit}
-use Rattle.db_hub.specs.Served.{AtWhole, CarriesFor, IsReady, IsTaken}
+use Rattle.db_hub.specs.Served.{AtWhole, CarriesFor, IsHandedTo, IsReady, IsTaken, IsGiven}
 use Rattle.db_hub.proofs.Counted.{steps_append, steps_lines, length_steps}
 use Rattle.db_hub.proofs.Owners.{single, noted_both, noted_lines, out_writes}
-use Rattle.db_hub.proofs.Written.{some_none, with_mine, with_lines, written_is}
+use Rattle.db_hub.proofs.Written.{some_none, owes_all, with_mine, with_lines, written_is}
 use Rattle.db_hub.proofs.Batches.{told_longer}
-use Rattle.db_hub.proofs.Visits.{Grows, agree, none_between, owes_still, keeps_still}
+use Rattle.db_hub.proofs.Standings.{agrees_at}
+use Rattle.db_hub.proofs.Visits.{Grows, grows_none, grows_entered, grows_line, agree, none_between, owes_still, keeps_still}
 
 -- ---- members of other sessions
 
@@ -126,6 +133,44 @@ module _ {J : Type 0} (named : TableId) (numbers : List (ℕ × ℕ)) (o : State
     rest_none = none_between named numbers o since note pen0 board.kept out issued rf n k q pf pen1 taken fits i;
     mine_is = pf.mine_is ∙ ap (λ (m : ℕ). places m q.seen) pf.number_is;
   }
+
+-- ---- a pass is handed out
+
+pub handed_pen : (pen0 pen1 : AtPen) (n s : ℕ) → CarriesFor pen0 n s → pen1 ≡ handing pen0 → pen1 ≡ record pen0 { carried = None }
+handed_pen pen0 pen1 n s h e =
+    let none : owed_to h.c.number pen0.owed ≡ [] = ap (λ (j : ℕ). owed_to j pen0.owed) h.number_is ∙ h.owes_none in
+    e ∙ ap (λ (o : Option (PassView State)). handing_one o pen0) h.carried ∙ (λ i. record pen0 { owed = owes_all h.c.number pen0.owed none i; carried = None })
+
+pub handed_to : (named : TableId) (o : State) (pen0 : AtPen) (p : AtPass) (n s : ℕ) → pen0.note ≡ named → pen0.opening ≡ o → CarriesFor pen0 n s → IsHanded pen0 p → p.mine ≡ places p.number p.seen → IsHandedTo named o pen0 n s p
+handed_to named o pen0 p n s note opening h handed mine =
+    let e = handed h.c h.carried in
+    let number : p.number ≡ n = ap (λ (x : AtPass). x.number) e ∙ h.number_is in
+    record {
+      note_is = ap (λ (x : AtPass). x.note) e ∙ note;
+      opening_is = ap (λ (x : AtPass). x.opening) e ∙ opening;
+      number_is = number;
+      session_is = ap (λ (x : AtPass). x.session) e ∙ h.session_is;
+      seen = ap (λ (x : AtPass). x.seen) e;
+      mine_is = mine ∙ ap (λ (m : ℕ). places m p.seen) number;
+      left_is = ap (λ (x : AtPass). x.left) e ∙ ap (λ (m : ℕ). kept_for m pen0.kept) h.number_is;
+    }
+
+-- to its seat
+pub given_fits : {J : Type 0} (named : TableId) (o : State) (since : ℕ → ℕ) (w : AtWhole J) (n : ℕ) (k : AtDesk) (p : AtPass) → IsReady o since w n k → IsHandedTo named o w.pen n k.session p → PassFits named o since n k p
+given_fits named o since w n k p r h = record {
+  note_is = h.note_is;
+  opening_is = h.opening_is;
+  number_is = h.number_is;
+  session_is = h.session_is;
+  mine_is = h.mine_is ∙ ap (λ (m : ℕ). places m p.seen) (sym h.number_is);
+  left_none = h.left_is ∙ r.keeps_none;
+  since_is = subst (λ (l : List NotedLine). since n ≤ length l) (sym h.seen) r.since_is;
+  agree = agrees_at w.board.kept k o (steps_of p.seen) r.agree r.opening_is (r.steps_are ∙ ap steps_of (sym h.seen));
+}
+
+pub given_is : {J : Type 0} (named : TableId) (o : State) (w : AtWhole J) (n session : ℕ) (k : AtDesk) (pass : Option AtPass) (p : AtPass) → IsHandedTo named o w.pen n session p → IsGiven w.pen (seat_at n pass k) (seat_at n (Some p) k)
+given_is named o w n session k None p h = record { there = refl; number = refl; desk = refl; seen = h.seen; mine_is = h.mine_is }
+given_is named o w n session k (Some q) p h = record { there = refl; number = refl; desk = refl; seen = h.seen; mine_is = h.mine_is }
 
 -- ---- the board grew, and the pen wrote its new steps with the number of the carried pass
 
@@ -269,3 +314,37 @@ module _ (named : TableId) (numbers : List (ℕ × ℕ)) (o : State) (since : �
               waits_are = waits_last out (n, r) m (subst (IsNoted out n) (sym same) i) (sym reply) ws ms lf.waits_are;
               told_are = f.told_are;
             })
+
+-- ---- what an offer told
+
+module _ {L S V P Q St V2 P2 Q2 : Type 0} (g : Ghosts L S V P Q) (b c : Logged L) (k l : AtDesk) (q p : AtQueue) (ks ms : List (Member St V2 P2 Q2)) (text : List ℕ) (x : Stmt) (a : Agrees b.kept k) (said : said_of text false ≡ heard k.session x) where
+  pub first_grows : IsUntouched b c k l q p ks ms → Grows b.kept c.kept k.session []
+  first_grows h = grows_none b.kept c.kept k.session (ap (λ (y : Logged L). y.kept) h.board)
+
+  pub served_grows : (r : Reply) → (h : IsServedFor g b c k l q p ks ms text r) → Grows b.kept c.kept k.session (k.waiting ++ step_of text h.ran.0 r ∷ [])
+  served_grows r h = grows_line b.kept c.kept k text h.ran.0 r x a said h.ran.1
+
+  pub ticketed_grows : (t : ℕ) (r : Reply) → IsTicketed b c k l q p ks ms text t r → Grows b.kept c.kept k.session k.waiting
+  ticketed_grows t r h = grows_entered b.kept c.kept k a h.kept
+
+  pub first_stands : IsUntouched b c k l q p ks ms → Stands c.kept
+  first_stands h = subst (λ (y : Logged L). Stands y.kept) (sym h.board) a.stands
+
+  pub ticketed_stands : (t : ℕ) (r : Reply) → IsTicketed b c k l q p ks ms text t r → Stands c.kept
+  ticketed_stands t r h = subst Stands (sym h.kept) a.entered_stands
+
+  -- the board's steps grew by lines of the session, and it stands
+  pub offered_grows : (o : Offered) → IfFirst o (IsUntouched b c k l q p ks ms) → IfAnswered o (IsServedFor g b c k l q p ks ms text) → IfTicketed o (IsTicketed b c k l q p ks ms text) → ((more : List Step) × Grows b.kept c.kept k.session more) × Stands c.kept
+  offered_grows SettleFirst f h t = (([], first_grows f), first_stands f)
+  offered_grows (Answered r) f h t = ((k.waiting ++ step_of text h.ran.0 r ∷ [], served_grows r h), h.desk.agree.stands)
+  offered_grows (Ticketed n r) f h t = ((k.waiting, ticketed_grows n r t), ticketed_stands n r t)
+
+  -- and what of the members
+  pub ticketed_members : (t : ℕ) (r : Reply) → IsTicketed b c k l q p ks ms text t r → (m : AtMember) × (members_of ms ≡ members_of ks ++ m ∷ []) × (m.session ≡ k.session) × (m.line ≡ text) × (m.reply ≡ r)
+  ticketed_members t r h = (
+    at_member h.member,
+    ap members_of h.members ∙ map-append at_member ks (h.member ∷ []),
+    ap (λ (m : AtMember). m.session) h.waits,
+    ap (λ (m : AtMember). m.line) h.waits,
+    ap (λ (m : AtMember). m.reply) h.waits,
+  )

@@ -130,7 +130,7 @@ module _ {J : Type 0} (o : State) (since : ℕ → ℕ) (w0 w1 w2 : AtWhole J) (
       }
 
   -- the line was left
-  module _ (named : TableId) (text : List ℕ) (a : LeavesLine o w1 w2 s.number s.desk l text) (p : AtPass) (handed : IsHandedTo named o w2.pen s.number p) where
+  module _ (named : TableId) (text : List ℕ) (a : LeavesLine o w1 w2 s.number s.desk l text) (p : AtPass) (handed : IsHandedTo named o w2.pen s.number s.desk.session p) where
     seen_left : p.seen ≡ w1.pen.lines ++ lines_of s.number s.desk.waiting
     seen_left = handed.seen ∙ a.lines
 
@@ -160,7 +160,7 @@ module _ {J : Type 0} (o : State) (since : ℕ → ℕ) (w0 w1 w2 : AtWhole J) (
           note_is = handed.note_is;
           opening_is = handed.opening_is;
           number_is = handed.number_is;
-          session_is = handed.session_is s.desk.session a.carries ∙ ap (λ (d : AtDesk). d.session) (sym a.desk);
+          session_is = handed.session_is ∙ ap (λ (d : AtDesk). d.session) (sym a.desk);
           mine_is = handed.mine_is ∙ ap (λ (n : ℕ). places n p.seen) (sym handed.number_is);
           left_is = handed.left_is ∙ a.left;
           since_is = omega (arith, long, both, since_is);

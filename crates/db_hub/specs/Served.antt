@@ -81,11 +81,11 @@ pub record IsReady {J : Type 0} (opened : State) (since : ℕ → ℕ) (w : AtWh
   pub is_out : IsNoted w.out n k.session
 
 -- The pass of this number was handed out: it has seen the whole list, and left the line that is kept for the number.
-pub record IsHandedTo (note : TableId) (opened : State) (pen : AtPen) (n : ℕ) (p : AtPass) : Type 0 where
+pub record IsHandedTo (note : TableId) (opened : State) (pen : AtPen) (n session : ℕ) (p : AtPass) : Type 0 where
   pub note_is : p.note ≡ note
   pub opening_is : p.opening ≡ opened
   pub number_is : p.number ≡ n
-  pub session_is : (session : ℕ) → CarriesFor pen n session → p.session ≡ session
+  pub session_is : p.session ≡ session
   pub seen : p.seen ≡ pen.lines
   pub mine_is : p.mine ≡ places n p.seen
   pub left_is : p.left ≡ kept_for n pen.kept

@@ -166,9 +166,10 @@ impl<St: Store, J: Log<St>, T: LogTag<J>> Whole<St, J, T> {
     }
 
     // Hands the carried pass out.
-    fn hand(&mut self, number: u32) -> Result<Pass<St>, AllocError>
-        requires { (session : ℕ) × CarriesFor self.old.pen number session }
-        ensures pass { IfOk result (IsHandedTo T.note T.opened self.old.pen number) }
+    fn hand(&mut self) -> Result<Pass<St>, AllocError>
+        requires { (n : ℕ) × ((s : ℕ) × CarriesFor self.old.pen n s) }
+        ensures pass { IfOk result (λ p. (n s : ℕ) → CarriesFor self.old.pen n s
+            → IsHandedTo T.note T.opened self.old.pen n s p) }
         ensures free { OnOk result (is_carrying self.new.pen ≡ false) }
     {
         let pass = self.note.hand_out(&mut self.pen)?;
@@ -182,7 +183,7 @@ impl<St: Store, J: Log<St>, T: LogTag<J>> Whole<St, J, T> {
         ensures free { OnOk result (is_carrying self.new.pen ≡ false) }
         ensures lost { OnErr result (seat.new.there ≡ false) }
     {
-        let pass = self.hand(seat.number)?;
+        let pass = self.hand()?;
         seat.pass = Some(pass);
         Ok(())
     }
@@ -246,7 +247,7 @@ impl<St: Store, J: Log<St>, T: LogTag<J>> Whole<St, J, T> {
         self.take_pass(seat)?;
         match self.ask(&mut seat.desk, seat.number, text, stmt) {
             Ok(Asked::Waits) => {
-                let pass = self.hand(seat.number)?;
+                let pass = self.hand()?;
                 Ok(Some(Visit::Left { pass }))
             }
             Ok(Asked::Told { reply }) => {
