@@ -12,7 +12,7 @@ use Rattle.history_note.specs.declared.view.NotedLine.{NotedLine}
 use Rattle.history_note.specs.declared.view.PassView.{PassView}
 use Rattle.history_note.specs.Places.{places, places_from, owed_to, kept_for, kept_without, IsNoted, IsIssued}
 use Rattle.history_note.specs.Rule.{IsTheCarried}
-use Rattle.history_note.specs.Shown.{AtNote, AtPen, AtPass, carrying, known, leaving, leaving_by, handing, handing_one, is_carrying, IsHanded, FitsPen}
+use Rattle.history_note.specs.Shown.{AtNote, AtPen, AtPass, carrying, known, leaving, leaving_by, handing, handing_one, is_carrying, carried_line, carried_line_of, IsHanded, FitsPen}
 use Rattle.history_note.proofs.Counting.{kept_more_same, same_or_not}
 use Rattle.db_core.specs.Order.{Said, said_of}
 use Rattle.db_core.specs.Sits.{heard}
@@ -54,6 +54,16 @@ none_waits out n s once i (w ∷ ws) (m ∷ ms) a none =
       λ e. other (single out once s w.0 n (subst (IsNoted out w.0) e a.0) i),
       none_waits out n s once i ws ms a.2 (sym (ap (λ b. cond b (Some m.line) (kept_for n rest)) (ne_eqb w.0 n other)) ∙ none),
     )
+
+no_first : {X : Type 0} (x : X) (xs : List X) → x ∷ xs ≡ [] → ⊥
+no_first x xs e = let l = ap length e in omega (arith, l)
+
+-- where no line is kept no member waits
+pub no_members : (out : List (ℕ × ℕ)) (ws : List (ℕ × Reply)) (ms : List AtMember) → AreWaits out ws ms → kept_lines ws ms ≡ [] → ms ≡ []
+no_members out [] [] a e = refl
+no_members out [] (m ∷ ms) a e = absurd a
+no_members out (w ∷ ws) [] a e = absurd a
+no_members out (w ∷ ws) (m ∷ ms) a e = absurd (no_first (w.0, m.line) (kept_lines ws ms) e)
 
 -- one more is kept
 kept_last : (out : List (ℕ × ℕ)) (w : ℕ × Reply) (m : AtMember) (ws : List (ℕ × Reply)) (ms : List AtMember) → AreWaits out ws ms → kept_lines (ws ++ w ∷ []) (ms ++ m ∷ []) ≡ kept_lines ws ms ++ (w.0, m.line) ∷ []
@@ -133,6 +143,22 @@ module _ {J : Type 0} (named : TableId) (numbers : List (ℕ × ℕ)) (o : State
     rest_none = none_between named numbers o since note pen0 board.kept out issued rf n k q pf pen1 taken fits i;
     mine_is = pf.mine_is ∙ ap (λ (m : ℕ). places m q.seen) pf.number_is;
   }
+
+-- no line is kept for the carried pass's number
+pub free_line : (pen : AtPen) (n s : ℕ) → CarriesFor pen n s → kept_for n pen.kept ≡ None → carried_line pen ≡ None
+free_line pen n s h none = ap (λ (o : Option (PassView State)). carried_line_of o pen) h.carried ∙ ap (λ (j : ℕ). kept_for j pen.kept) h.number_is ∙ none
+
+-- what is known of a desk is known of it with another open transaction that agrees
+pub ready_still : {J : Type 0} (o : State) (since : ℕ → ℕ) (n : ℕ) (w v : AtWhole J) (k l : AtDesk) → IsReady o since w n k → v.board.kept ≡ w.board.kept → v.pen ≡ w.pen → v.out ≡ w.out → l.session ≡ k.session → Agrees w.board.kept l → IsReady o since v n l
+ready_still o since n w v k l r board pen out same agree = record {
+  agree = subst (λ (b : Kept). Agrees b l) (sym board) agree;
+  opening_is = ap (λ (b : Kept). b.opening) board ∙ r.opening_is;
+  steps_are = ap (λ (b : Kept). b.steps) board ∙ r.steps_are ∙ ap (λ (p : AtPen). steps_of p.lines) (sym pen);
+  since_is = subst (λ (p : AtPen). since n ≤ length p.lines) (sym pen) r.since_is;
+  carries = subst (λ (x : AtPen × ℕ). CarriesFor x.0 n x.1) (λ j. (sym pen j, sym same j)) r.carries;
+  keeps_none = ap (λ (p : AtPen). kept_for n p.kept) pen ∙ r.keeps_none;
+  is_out = subst (λ (x : List (ℕ × ℕ) × ℕ). IsNoted x.0 n x.1) (λ j. (sym out j, sym same j)) r.is_out;
+}
 
 -- ---- a pass is handed out
 

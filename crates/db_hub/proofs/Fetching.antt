@@ -13,7 +13,7 @@ use Rattle.history_note.specs.declared.view.NotedLine.{NotedLine}
 use Rattle.history_note.specs.Places.{place_if, places, places_from, owed_to, without, kept_for, IsNoted}
 use Rattle.history_note.specs.Rule.{LineAt, LeftFits}
 use Rattle.history_note.specs.Views.{noted_line}
-use Rattle.history_note.specs.Shown.{AtNote, AtPen, AtPass, carrying, known, handed_pass, FitsPen}
+use Rattle.history_note.specs.Shown.{AtNote, AtPen, AtPass, carrying, known, handing, handed_pass, FitsPen}
 use Rattle.history_note.proofs.Counting.{place_same, place_other, same_or_not}
 use Rattle.reply_text.specs.Reply.{NamesItsRows}
 use Rattle.db_core.specs.Order.{Said, said_of, opening, after, reply_in}
@@ -222,6 +222,18 @@ module _ (named : TableId) (numbers : List (ℕ × ℕ)) (o : State) (since : �
 
   line_is : cut.line ≡ noted_line n (step_of text step.failed found.0)
   line_is = λ j. record { number = cut.number j; step = record { line = text_is j; failed = step.failed; reply = reply_is j } }
+
+  -- the pen, once the pass was handed out, and the lines that were settled
+  module _ (pen1 : AtPen) (is : pen1 ≡ handing (carrying q pen0)) where
+    pub pen_fetched : pen1 ≡ record pen0 { carried = None; owed = without n pen0.owed }
+    pen_fetched = is ∙ ap (λ (m : ℕ). record pen0 { carried = None; owed = without m pen0.owed }) away.number_is
+
+    pub lines_fetched : (ds1 : List (ℕ × Reply)) → ds1 ≡ without_key n ds → LinesFit out pen1 ws ds1 ms
+    lines_fetched ds1 e = subst (λ (x : AtPen × List (ℕ × Reply)). LinesFit out x.0 ws x.1 ms) (λ j. (sym pen_fetched j, sym e j)) (record {
+      kept_are = lf.kept_are;
+      waits_are = lf.waits_are;
+      told_are = told_less pen0.lines n place pen0.owed ds lf.told_are owed_n;
+    })
 
   module _ (p2 : AtPass) (given : p2 ≡ handed_pass (known q) (carrying q pen0)) (mine : p2.mine ≡ places p2.number p2.seen) where
     seen_is : p2.seen ≡ pen0.lines

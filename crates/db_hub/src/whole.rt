@@ -246,22 +246,24 @@ impl<St: Store, J: Log<St>, T: LogTag<J>> Whole<St, J, T> {
     {
         self.take_pass(seat)?;
         match self.ask(&mut seat.desk, seat.number, text, stmt) {
-            Ok(Asked::Waits) => {
-                let pass = self.hand()?;
-                Ok(Some(Visit::Left { pass }))
-            }
-            Ok(Asked::Told { reply }) => {
-                self.give_back(seat)?;
-                Ok(Some(Visit::Served { reply }))
-            }
-            Ok(Asked::Settle) => {
-                self.give_back(seat)?;
-                Ok(None)
-            }
             Err(stop) => {
                 self.give_back(seat)?;
                 Err(stop)
             }
+            Ok(asked) => match asked {
+                Asked::Waits => {
+                    let pass = self.hand()?;
+                    Ok(Some(Visit::Left { pass }))
+                }
+                Asked::Told { reply } => {
+                    self.give_back(seat)?;
+                    Ok(Some(Visit::Served { reply }))
+                }
+                Asked::Settle => {
+                    self.give_back(seat)?;
+                    Ok(None)
+                }
+            },
         }
     }
 
