@@ -2,7 +2,8 @@
 use Rattle.std.proofs.Common.{◌≡◌, ◌≢◌, ◌⊎◌, ⊎_elim, inl, inr, ℕ, ◌+◌, ◌≤◌, ◌<◌, Bool, List, [], ◌∷◌, ◌++◌, length, drop, map, cond, Option, Some, None, refl, sym, ap, ◌∙◌, subst, arith, length-append, append_assoc, append-nil, eq-eqb, ne_eqb}
 use Rattle.std.proofs.Math.Seq.{drop-append_seam}
 use Rattle.std.proofs.lemmas.List.{map-append}
-use Rattle.std.specs.Prelude.{true, false, is_some, Result, Ok, Err}
+use Rattle.std.proofs.lemmas.Bool.{false≢true}
+use Rattle.std.specs.Prelude.{true, false, is_some, Result, Ok, Err, IfOk, OnErr, MatchResult}
 use Rattle.atomic_table.specs.Seated.{TableId}
 use Rattle.db_value.specs.declared.reply.Reply.{Reply}
 use Rattle.db_value.specs.declared.step.Step.{Step}
@@ -33,7 +34,9 @@ use Rattle.db_hub.specs.Own.{AllBy, AllNoted, AllOnce, OutFits}
 use Rattle.db_hub.specs.Seats.{AtSeat, PassFits, seat_at}
 use Rattle.db_hub.specs.Rooms.{RoomFits, AllOutIf, CarriesOwn, PenGrown, written_all}
 use Rattle.db_hub.specs.Left.{kept_lines, AreWaits, AreTold, LinesFit}
-use Rattle.db_hub.specs.Served.{AtWhole, CarriesFor, IsHandedTo, IsReady, IsTaken, IsGiven}
+use Rattle.db_hub.specs.declared.whole.Asked.{Asked}
+use Rattle.db_hub.specs.declared.whole.Asked.TheVariants.{Settle, Told, Waits}
+use Rattle.db_hub.specs.Served.{AtWhole, CarriesFor, IsHandedTo, IsReady, IsHere, IsTaken, IsGiven, IfSettle, IfTold, IfWaits, UnlessWaits, SettlesFirst, AnswersNow, LeavesLine}
 use Rattle.db_hub.proofs.Counted.{steps_append, steps_lines, length_steps}
 use Rattle.db_hub.proofs.Owners.{single, noted_both, noted_lines, out_writes}
 use Rattle.db_hub.proofs.Written.{some_none, owes_all, with_mine, with_lines, written_is}
@@ -159,6 +162,19 @@ ready_still o since n w v k l r board pen out same agree = record {
   keeps_none = ap (λ (p : AtPen). kept_for n p.kept) pen ∙ r.keeps_none;
   is_out = subst (λ (x : List (ℕ × ℕ) × ℕ). IsNoted x.0 n x.1) (λ j. (sym out j, sym same j)) r.is_out;
 }
+
+-- a seat whose pass is carried
+pub here_of : {J : Type 0} (o : State) (since : ℕ → ℕ) (w : AtWhole J) (n : ℕ) (k : AtDesk) → IsReady o since w n k → IsHere o since w (seat_at n None k)
+here_of o since w n k r = record { gone = refl; ready = r }
+
+pub seat_number : (n : ℕ) (pass : Option AtPass) (k : AtDesk) → n ≡ (seat_at n pass k).number
+seat_number n None k = refl
+seat_number n (Some p) k = refl
+
+-- a seat without its pass is told by its number and its desk
+pub seat_gone : (n : ℕ) (pass : Option AtPass) (k : AtDesk) (t : AtSeat) → seat_at n pass k ≡ t → t.there ≡ false → pass ≡ None
+seat_gone n None k t e gone = refl
+seat_gone n (Some p) k t e gone = absurd (false≢true (sym gone ∙ ap (λ (x : AtSeat). x.there) (sym e)))
 
 -- ---- a pass is handed out
 
@@ -374,3 +390,25 @@ module _ {L S V P Q St V2 P2 Q2 : Type 0} (g : Ghosts L S V P Q) (b c : Logged L
     ap (λ (m : AtMember). m.line) h.waits,
     ap (λ (m : AtMember). m.reply) h.waits,
   )
+
+-- ---- what a line that was asked for leaves of its desk
+
+module _ {J E : Type 0} (o : State) (since : ℕ → ℕ) (w v : AtWhole J) (n : ℕ) (k l : AtDesk) (text : List ℕ) where
+  asked_session : (a : Asked) → IfSettle a (SettlesFirst w v k l) → IfTold a (AnswersNow w v n k l text) → IfWaits a (LeavesLine o w v n k l text) → l.session ≡ k.session
+  asked_session Settle f t h = ap (λ (d : AtDesk). d.session) f.desk
+  asked_session (Told r) f t h = t.session
+  asked_session Waits f t h = ap (λ (d : AtDesk). d.session) h.desk
+
+  pub desk_session : (r : Result Asked E) → IfOk r (λ a. IfSettle a (SettlesFirst w v k l)) → IfOk r (λ a. IfTold a (AnswersNow w v n k l text)) → IfOk r (λ a. IfWaits a (LeavesLine o w v n k l text)) → OnErr r ((v.pen ≡ w.pen) × (l ≡ record k { open_tx = l.open_tx })) → l.session ≡ k.session
+  desk_session (Ok a) f t h e = asked_session a f t h
+  desk_session (Err x) f t h e = ap (λ (d : AtDesk). d.session) e.1
+
+module _ {J E : Type 0} (o : State) (since : ℕ → ℕ) (v : AtWhole J) (n : ℕ) (l : AtDesk) where
+  here_unless : (a : Asked) → UnlessWaits a (IsReady o since v n l) → UnlessWaits a (IsHere o since v (seat_at n None l))
+  here_unless Settle r = here_of o since v n l r
+  here_unless (Told t) r = here_of o since v n l r
+  here_unless Waits r = tt
+
+  pub here_then : (r : Result Asked E) → MatchResult r (λ a. UnlessWaits a (IsReady o since v n l)) (λ e. IsReady o since v n l) → MatchResult r (λ a. UnlessWaits a (IsHere o since v (seat_at n None l))) (λ e. IsHere o since v (seat_at n None l))
+  here_then (Ok a) r = here_unless a r
+  here_then (Err e) r = here_of o since v n l r

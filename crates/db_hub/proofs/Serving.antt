@@ -1,6 +1,6 @@
 -- What visits make of a seat.
 use Rattle.std.proofs.Common.{◌≡◌, ◌⊎◌, ⊎_elim, inl, inr, ℕ, ◌+◌, ◌≤◌, Bool, true, false, List, [], ◌∷◌, ◌++◌, length, Option, Some, None, refl, sym, ap, ◌∙◌, subst, arith, length-append, append_assoc, append-nil}
-use Rattle.std.specs.Prelude.{is_some}
+use Rattle.std.specs.Prelude.{is_some, Result, Ok, Err, OnErr}
 use Rattle.std.proofs.lemmas.List.{map-append}
 use Rattle.atomic_table.specs.Seated.{TableId}
 use Rattle.db_value.specs.declared.reply.Reply.{Reply}
@@ -18,7 +18,9 @@ use Rattle.db_core.specs.Desk.{AtDesk, AllOthers, entered, cleared}
 use Rattle.db_hub.specs.Awaiting.{AgreesAfter, ticketed_desk}
 use Rattle.db_hub.specs.Entered.{steps_of, lines_of, IsFront, world_after, is_open_after}
 use Rattle.db_hub.specs.Seats.{AtSeat, seat_at, SeatVisited, SeatCaughtUp, SeatStays, SeatFailed}
-use Rattle.db_hub.specs.Served.{SeatServed, AtWhole, CarriesFor, IsHandedTo, IsReady, IsTaken, IsGiven, SeatLooked, AnswersNow, LeavesLine, IsAway, SeatLeaves, SeatReturns}
+use Rattle.db_hub.specs.declared.whole.Visit.{Visit}
+use Rattle.db_hub.specs.declared.whole.Visit.TheVariants.{Served, Left}
+use Rattle.db_hub.specs.Served.{IfServed, IfLeft, SeatServed, AtWhole, CarriesFor, IsHandedTo, IsReady, IsTaken, IsGiven, SeatLooked, AnswersNow, LeavesLine, IsAway, SeatLeaves, SeatReturns}
 use Rattle.db_hub.proofs.Counted.{steps_append, steps_lines, lines_append}
 use Rattle.db_hub.proofs.Standings.{sits_open}
 
@@ -237,6 +239,20 @@ module _ (o : State) (s t u : AtSeat) (h : SeatLooked s t) where
       (λ (e : u ≡ t). inr (inr (stays_looked e)))
       (λ (g : (u.there ≡ false) ⊎ SeatStays t u). inr (⊎_elim (λ (a : u.there ≡ false). inl a) (λ (a : SeatStays t u). inr (stays_then a)) g))
       f
+
+-- what holds, holds after want of memory too
+pub on_err : {A E : Type 0} (r : Result A E) (P : Type 0) → P → OnErr r P
+on_err (Ok a) P p = tt
+on_err (Err e) P p = p
+
+module _ {St V P Q : Type 0} (o : State) (s t u : AtSeat) (h : SeatLooked s t) where
+  pub served_then : (text : List ℕ) (v : Visit St V P Q) → IfServed v (SeatVisited o t u text) → IfServed v (SeatVisited o s u text)
+  served_then text (Served r) x = visited_then o s t u h text r x
+  served_then text (Left p) x = x
+
+  pub left_then : (v : Visit St V P Q) (R : AtPass → Type 0) → IfLeft v (λ p. SeatLeaves o t u p × R p) → IfLeft v (λ p. SeatLeaves o s u p × R p)
+  left_then (Served r) R x = x
+  left_then (Left p) R x = (leaves_then o s t u h p x.0, x.1)
 
 -- ---- what a hub tells
 

@@ -4,6 +4,7 @@ use Rattle.atomic_table.specs.Seated.{TableId}
 use Rattle.db_value.specs.declared.reply.Reply.{Reply}
 use Rattle.db_value.specs.declared.step.Step.{Step}
 use Rattle.db_store.specs.State.{State}
+use Rattle.stmt_text.specs.declared.stmt.Stmt.{Stmt}
 use Rattle.history_note.specs.declared.view.NotedLine.{NotedLine}
 use Rattle.history_note.specs.declared.view.PassView.{PassView}
 use Rattle.history_note.specs.Views.{noted_line}
@@ -14,7 +15,8 @@ use Rattle.db_core.specs.Order.{Said, said_of, reply_in}
 use Rattle.db_core.specs.Laws.{AllHaveRoom}
 use Rattle.db_core.specs.Kept.{Kept, Logged, Stands, step_of, saids}
 use Rattle.db_core.specs.Answered.{IsAnswered}
-use Rattle.db_core.specs.Desk.{AtDesk, Agrees, AllOthers, entered, cleared}
+use Rattle.db_core.specs.Sits.{heard}
+use Rattle.db_core.specs.Desk.{AtDesk, Agrees, AllOthers, entered, cleared, waits}
 use Rattle.db_core.specs.Members.{AtMember}
 use Rattle.db_hub.specs.Awaiting.{AgreesAfter, ticketed_desk}
 use Rattle.db_hub.specs.declared.whole.Asked.{Asked}
@@ -89,6 +91,16 @@ pub record IsHandedTo (note : TableId) (opened : State) (pen : AtPen) (n session
   pub seen : p.seen ≡ pen.lines
   pub mine_is : p.mine ≡ places n p.seen
   pub left_is : p.left ≡ kept_for n pen.kept
+
+-- the seat's pass was taken in, and may be handed out to it again
+pub record IsHere {J : Type 0} (opened : State) (since : ℕ → ℕ) (w : AtWhole J) (s : AtSeat) : Type 0 where
+  pub gone : s.there ≡ false
+  pub ready : IsReady opened since w s.number s.desk
+
+-- a line may be asked for: its text reads as the statement with the desk's session, and the desk doesn't answer it by itself
+pub record MayAsk (k : AtDesk) (text : List ℕ) (stmt : Stmt) : Type 0 where
+  pub line : said_of text false ≡ heard k.session stmt
+  pub local : waits k (Some stmt) ≡ false
 
 -- the seat's pass was taken in: it has seen a beginning of the list, and no line behind that is its own
 pub record IsTaken {J : Type 0} (old new : AtWhole J) (s t : AtSeat) : Type 0 where
@@ -211,11 +223,11 @@ pub record SeatReturns (opened : State) (p : AtPass) (old new : AtSeat) (text : 
 -- ---- a first visit
 
 -- what holds of the reply of a line that was served in it
-abbrev pub IfServed : {St : Type 0} → Visit St → (Reply → Type 0) → Type 0
+abbrev pub IfServed : {St V P Q : Type 0} → Visit St V P Q → (Reply → Type 0) → Type 0
 IfServed (Served reply) P = P reply
 IfServed (Left pass) P = Unit {0}
 
 -- what holds of the pass that left its line
-abbrev pub IfLeft : {St : Type 0} → Visit St → (AtPass → Type 0) → Type 0
+abbrev pub IfLeft : {St V P Q : Type 0} → Visit St V P Q → (AtPass → Type 0) → Type 0
 IfLeft (Served reply) P = Unit {0}
 IfLeft (Left pass) P = P pass

@@ -2,15 +2,13 @@
 ghost use Rattle.std.specs.Prelude.{◌≡◌, ◌⊎◌, ◌+◌, ◌<◌, ◌≤◌, ◌++◌, ℕ, [], true, false, None, Some, vec_len, vec_capacity, IfOk, IfSome, OnOk, OnErr, MatchResult};
 ghost use Rattle.history_note.specs.Places.{owed_to};
 ghost use Rattle.history_note.specs.Shown.{is_carrying};
-ghost use Rattle.db_core.specs.Desk.{waits, cleared};
-ghost use Rattle.db_core.specs.Order.{said_of};
-ghost use Rattle.db_core.specs.Sits.{heard};
+ghost use Rattle.db_core.specs.Desk.{cleared};
 ghost use Rattle.db_core.specs.Kept.{Stands};
 ghost use Rattle.db_hub.specs.Entered.{steps_of, lines_of};
 ghost use Rattle.db_hub.specs.Own.{AllNoted};
 ghost use Rattle.db_hub.specs.Rooms.{StoresSince};
-ghost use Rattle.db_hub.specs.Seats.{SeatVisited, SeatCaughtUp, SeatFailed};
-ghost use Rattle.db_hub.specs.Served.{CarriesFor, IsHandedTo, IsReady, IsTaken, IsGiven, SeatLooked, IfSettle, IfTold, IfWaits, UnlessWaits, SettlesFirst, AnswersNow, LeavesLine, IsAway, SeatLeaves, SeatReturns, IfServed, IfLeft};
+ghost use Rattle.db_hub.specs.Seats.{seat_at, with_desk, SeatVisited, SeatCaughtUp, SeatFailed};
+ghost use Rattle.db_hub.specs.Served.{CarriesFor, IsHandedTo, IsReady, IsHere, MayAsk, IsTaken, IsGiven, SeatLooked, IfSettle, IfTold, IfWaits, UnlessWaits, SettlesFirst, AnswersNow, LeavesLine, IsAway, SeatLeaves, SeatReturns, IfServed, IfLeft};
 
 use crate::keyed::{has_key, take_at};
 use crate::room::{Room, Shut};
@@ -151,9 +149,8 @@ impl<St: Store, J: Log<St>, T: LogTag<J>> Whole<St, J, T> {
     // Takes the seat's pass in.
     fn take_pass(&mut self, seat: &mut Seat<St, T>) -> Result<(), AllocError>
         ensures taken { OnOk result (IsTaken self.old self.new seat.old seat.new) }
-        ensures ready { OnOk result
-            (IsReady T.opened T.since self.new seat.new.number seat.new.desk) }
-        ensures failed { OnErr result ((self.new ≡ self.old) × (seat.new ≡ seat.old)) }
+        ensures here { OnOk result (IsHere T.opened T.since self.new seat.new) }
+        ensures failed { OnErr result (seat.new ≡ seat.old) }
     {
         if self.pen.carries() {
             return Err(AllocError);
@@ -178,10 +175,10 @@ impl<St: Store, J: Log<St>, T: LogTag<J>> Whole<St, J, T> {
 
     // Hands the carried pass out to its seat.
     fn give_back(&mut self, seat: &mut Seat<St, T>) -> Result<(), AllocError>
-        requires { IsReady T.opened T.since self.old seat.old.number seat.old.desk }
+        requires { IsHere T.opened T.since self.old seat.old }
         ensures given { OnOk result (IsGiven self.old.pen seat.old seat.new) }
         ensures free { OnOk result (is_carrying self.new.pen ≡ false) }
-        ensures lost { OnErr result (seat.new.there ≡ false) }
+        ensures failed { OnErr result (seat.new ≡ seat.old) }
     {
         let pass = self.hand()?;
         seat.pass = Some(pass);
@@ -197,8 +194,7 @@ impl<St: Store, J: Log<St>, T: LogTag<J>> Whole<St, J, T> {
         stmt: &Stmt,
     ) -> Result<Asked, AllocError>
         requires ready { IsReady T.opened T.since self.old number desk.old }
-        requires line { said_of text.now false ≡ heard desk.old.session stmt.now }
-        requires local { waits desk.old (Some stmt.now) ≡ false }
+        requires may { MayAsk desk.old text.now stmt.now }
         ensures settle { IfOk result (λ a.
             IfSettle a (SettlesFirst self.old self.new desk.old desk.new)) }
         ensures told { IfOk result (λ a.
@@ -208,8 +204,8 @@ impl<St: Store, J: Log<St>, T: LogTag<J>> Whole<St, J, T> {
         ensures ready { MatchResult result
             (λ a. UnlessWaits a (IsReady T.opened T.since self.new number desk.new))
             (λ e. IsReady T.opened T.since self.new number desk.new) }
-        ensures failed { OnErr result
-            ((self.new.pen ≡ self.old.pen) × (desk.new ≡ record desk.old { open_tx = desk.new.open_tx })) }
+        ensures failed { OnErr result ((self.new.pen ≡ self.old.pen)
+            × (desk.new ≡ record desk.old { open_tx = desk.new.open_tx })) }
     {
         let from = self.board.steps().len();
         make_room(&mut self.waits, &mut self.told)?;
@@ -226,6 +222,31 @@ impl<St: Store, J: Log<St>, T: LogTag<J>> Whole<St, J, T> {
         }
     }
 
+    // That, for the desk and the number of a seat whose pass is carried.
+    fn ask_at(
+        &mut self,
+        seat: &mut Seat<St, T>,
+        text: &LineText,
+        stmt: &Stmt,
+    ) -> Result<Asked, AllocError>
+        requires here { IsHere T.opened T.since self.old seat.old }
+        requires may { MayAsk seat.old.desk text.now stmt.now }
+        ensures settle { IfOk result (λ a.
+            IfSettle a (SettlesFirst self.old self.new seat.old.desk seat.new.desk)) }
+        ensures told { IfOk result (λ a. IfTold a
+            (AnswersNow self.old self.new seat.old.number seat.old.desk seat.new.desk text.now)) }
+        ensures waits { IfOk result (λ a. IfWaits a (LeavesLine T.opened self.old self.new
+            seat.old.number seat.old.desk seat.new.desk text.now)) }
+        ensures here { MatchResult result
+            (λ a. UnlessWaits a (IsHere T.opened T.since self.new seat.new))
+            (λ e. IsHere T.opened T.since self.new seat.new) }
+        ensures failed { OnErr result ((self.new.pen ≡ self.old.pen)
+            × (seat.new.desk ≡ record seat.old.desk { open_tx = seat.new.desk.open_tx })) }
+        ensures seat { seat.new ≡ seat_at seat.old.number None seat.new.desk }
+    {
+        self.ask(&mut seat.desk, seat.number, text, stmt)
+    }
+
     // Offers a line of the seat, unless members that wait are to be settled first: then it says None.
     fn offer_line(
         &mut self,
@@ -233,8 +254,7 @@ impl<St: Store, J: Log<St>, T: LogTag<J>> Whole<St, J, T> {
         text: &LineText,
         stmt: &Stmt,
     ) -> Result<Option<Visit<St>>, AllocError>
-        requires line { said_of text.now false ≡ heard seat.old.desk.session stmt.now }
-        requires local { waits seat.old.desk (Some stmt.now) ≡ false }
+        requires { MayAsk seat.old.desk text.now stmt.now }
         ensures settle { IfOk result (λ o. o ≡ None → SeatLooked seat.old seat.new
             × (self.old.pen.kept ≡ [] → ⊥) × (is_carrying self.new.pen ≡ false)) }
         ensures served { IfOk result (λ o. IfSome o (λ v. IfServed v
@@ -245,7 +265,7 @@ impl<St: Store, J: Log<St>, T: LogTag<J>> Whole<St, J, T> {
         ensures failed { OnErr result (SeatFailed seat.old seat.new) }
     {
         self.take_pass(seat)?;
-        match self.ask(&mut seat.desk, seat.number, text, stmt) {
+        match self.ask_at(seat, text, stmt) {
             Err(stop) => {
                 self.give_back(seat)?;
                 Err(stop)
@@ -275,8 +295,7 @@ impl<St: Store, J: Log<St>, T: LogTag<J>> Whole<St, J, T> {
         text: &LineText,
         stmt: &Stmt,
     ) -> Result<Visit<St>, AllocError>
-        requires line { said_of text.now false ≡ heard seat.old.desk.session stmt.now }
-        requires local { waits seat.old.desk (Some stmt.now) ≡ false }
+        requires { MayAsk seat.old.desk text.now stmt.now }
         ensures served { IfOk result (λ v. IfServed v
             (SeatVisited T.opened seat.old seat.new text.now)) }
         ensures left { IfOk result (λ v. IfLeft v (λ p. SeatLeaves T.opened seat.old seat.new p
@@ -384,7 +403,7 @@ impl<St: Store, J: Log<St>, T: LogTag<J>> Whole<St, J, T> {
         }
         self.settle_all();
         self.take_pass(seat)?;
-        match self.enter_lines(&mut seat.desk, seat.number) {
+        match self.enter_lines(seat) {
             Ok(()) => self.give_back(seat),
             Err(stop) => {
                 self.give_back(seat)?;
@@ -393,19 +412,25 @@ impl<St: Store, J: Log<St>, T: LogTag<J>> Whole<St, J, T> {
         }
     }
 
-    // Enters the desk's lines with the number of the carried pass, where no member waits.
-    fn enter_lines(&mut self, desk: &mut Desk<St>, number: u32) -> Result<(), AllocError>
-        requires ready { IsReady T.opened T.since self.old number desk.old }
+    // Enters the lines of a desk whose pass is carried, where no member waits.
+    fn enter_lines(&mut self, seat: &mut Seat<St, T>) -> Result<(), AllocError>
+        requires here { IsHere T.opened T.since self.old seat.old }
         requires none { self.old.members ≡ [] }
         ensures lines { OnOk result (self.new.pen.lines
-            ≡ self.old.pen.lines ++ lines_of number desk.old.waiting) }
-        ensures cleared { OnOk result (desk.new ≡ cleared desk.old) }
-        ensures ready { IsReady T.opened T.since self.new number desk.new }
-        ensures failed { OnErr result ((self.new.pen ≡ self.old.pen) × (desk.new ≡ desk.old)) }
+            ≡ self.old.pen.lines ++ lines_of seat.old.number seat.old.desk.waiting) }
+        ensures cleared { OnOk result (seat.new ≡ with_desk seat.old (cleared seat.old.desk)) }
+        ensures here { IsHere T.opened T.since self.new seat.new }
+        ensures failed { OnErr result ((self.new.pen ≡ self.old.pen) × (seat.new ≡ seat.old)) }
     {
         let from = self.board.steps().len();
-        self.board.enter(desk)?;
-        write_from(&self.note, &mut self.pen, number, self.board.steps(), from);
+        self.board.enter(&mut seat.desk)?;
+        write_from(
+            &self.note,
+            &mut self.pen,
+            seat.number,
+            self.board.steps(),
+            from,
+        );
         Ok(())
     }
 

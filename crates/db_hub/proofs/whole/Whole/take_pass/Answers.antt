@@ -7,8 +7,8 @@ use Rattle.db_core.specs.Desk.{AtDesk}
 use Rattle.db_core.specs.Waiting.{members_of}
 use Rattle.db_hub.specs.Rooms.{AllOutIf}
 use Rattle.db_hub.specs.Seats.{AtSeat, seat_at, PassFits, PassFitsIf}
-use Rattle.db_hub.specs.Served.{AtWhole, IsReady, IsTaken}
-use Rattle.db_hub.proofs.Asking.{room_taken, lines_taken, taken_ready, taken_is}
+use Rattle.db_hub.specs.Served.{AtWhole, IsHere, IsTaken}
+use Rattle.db_hub.proofs.Asking.{room_taken, lines_taken, taken_ready, taken_is, here_of}
 use Rattle.db_hub.proofs.whole.Whole.take_pass.Goals as goal
 
 pub invariant_of-self : goal.invariant_of-self
@@ -40,8 +40,8 @@ returns-clause-taken g c =
     subst (λ (p : AtWhole _ × (AtSeat × AtSeat)). IsTaken p.0 (record { board = inside.board; pen = c.take_in.new.pen; out = inside.out.items; members = members_of inside.waiting.members.items }) p.1.0 p.1.1) (λ j. (c.self.view_is j, (seat_is j, seat_at n (sym c.take.ensures.after j) k)))
     (taken_is g.T.Tag.note g.T.Tag.numbers g.T.Tag.opened g.T.Tag.since inside.note inside.pen inside.board inside.out.items inside.issued i.0 n k q pf c.take_in.new.pen c.take_in.ensures.taken fits out (members_of inside.waiting.members.items))
 
-pub returns-clause-ready : goal.returns-clause-ready
-returns-clause-ready g c =
+pub returns-clause-here : goal.returns-clause-here
+returns-clause-here g c =
     let inside = c.self.inside in
     let i = c.self.invariant in
     let k : AtDesk = c.seat.inside.desk in
@@ -51,5 +51,5 @@ returns-clause-ready g c =
     let pf : PassFits g.T.Tag.note g.T.Tag.opened g.T.Tag.since n k q = subst (PassFitsIf g.T.Tag.note g.T.Tag.opened g.T.Tag.since n k) eq c.seat.invariant.1 in
     let fits = c.take_in.ensures.fits in
     let out : IsNoted inside.out.items n k.session = i.3 refl n k.session (subst (λ (p : ℕ × ℕ). IsNoted inside.pen.noted p.0 p.1) (λ j. (pf.number_is j, pf.session_is j)) fits.is_noted) in
-    subst (λ (s : AtSeat). IsReady g.T.Tag.opened g.T.Tag.since (record { board = inside.board; pen = c.take_in.new.pen; out = inside.out.items; members = members_of inside.waiting.members.items }) s.number s.desk) (ap (λ (p : Option AtPass). seat_at n p k) (sym c.take.ensures.after))
-    (taken_ready g.T.Tag.note g.T.Tag.numbers g.T.Tag.opened g.T.Tag.since inside.note inside.pen inside.board inside.out.items inside.issued i.0 n k q pf c.take_in.new.pen c.take_in.ensures.taken fits out (members_of inside.waiting.members.items))
+    subst (λ (p : Option AtPass). IsHere g.T.Tag.opened g.T.Tag.since (record { board = inside.board; pen = c.take_in.new.pen; out = inside.out.items; members = members_of inside.waiting.members.items }) (seat_at n p k)) (sym c.take.ensures.after)
+    (here_of g.T.Tag.opened g.T.Tag.since (record { board = inside.board; pen = c.take_in.new.pen; out = inside.out.items; members = members_of inside.waiting.members.items }) n k (taken_ready g.T.Tag.note g.T.Tag.numbers g.T.Tag.opened g.T.Tag.since inside.note inside.pen inside.board inside.out.items inside.issued i.0 n k q pf c.take_in.new.pen c.take_in.ensures.taken fits out (members_of inside.waiting.members.items)))
