@@ -68,6 +68,10 @@ no_members out [] (m ∷ ms) a e = absurd a
 no_members out (w ∷ ws) [] a e = absurd a
 no_members out (w ∷ ws) (m ∷ ms) a e = absurd (no_first (w.0, m.line) (kept_lines ws ms) e)
 
+pub no_waiting : {St V P Q : Type 0} (ks : List (Member St V P Q)) → members_of ks ≡ [] → ks ≡ []
+no_waiting [] e = refl
+no_waiting (k ∷ ks) e = absurd (no_first (at_member k) (members_of ks) e)
+
 -- one more is kept
 kept_last : (out : List (ℕ × ℕ)) (w : ℕ × Reply) (m : AtMember) (ws : List (ℕ × Reply)) (ms : List AtMember) → AreWaits out ws ms → kept_lines (ws ++ w ∷ []) (ms ++ m ∷ []) ≡ kept_lines ws ms ++ (w.0, m.line) ∷ []
 kept_last out w m [] [] a = refl

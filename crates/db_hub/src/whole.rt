@@ -214,7 +214,9 @@ impl<St: Store, J: Log<St>, T: LogTag<J>> Whole<St, J, T> {
         match told {
             Offered::SettleFirst => Ok(Asked::Settle),
             Offered::Answered { reply } => Ok(Asked::Told { reply }),
-            Offered::Ticketed { reply, .. } => {
+            Offered::Ticketed { ticket, reply } => {
+                // The lock's own list of numbers tells whose line waits.
+                let _ = ticket;
                 self.note.leave(&mut self.pen, text);
                 self.waits.push_reserved((number, reply));
                 Ok(Asked::Waits)

@@ -93,7 +93,7 @@ invariant_of-self g c =
       subst (λ (p : AtPen). AllOutIf true p.noted out) (sym same) i.3,
       i.4,
       lines_fetched g.T.Tag.note g.T.Tag.numbers o g.T.Tag.since inside.note pen0 inside.board.kept out inside.issued i.0 n k text q at fits is_out inside.waits.items inside.told.items ms i.5 settled c.hand_out.new.pen handed c.take_at.new.list.items c.take_at.ensures.rest,
-      omega (arith, i.6, c.take_at.ensures.room),
+      omega (arith, i.6, c.take_at.ensures.len, c.take_at.ensures.capacity),
     )
 
 pub invariant_of-seat : goal.invariant_of-seat
