@@ -1,6 +1,6 @@
 -- What visits make of a seat.
 use Rattle.std.proofs.Common.{◌≡◌, ◌⊎◌, ⊎_elim, inl, inr, ℕ, ◌+◌, ◌≤◌, Bool, true, false, List, [], ◌∷◌, ◌++◌, length, Option, Some, None, refl, sym, ap, ◌∙◌, subst, arith, length-append, append_assoc, append-nil}
-use Rattle.std.specs.Prelude.{is_some, Result, Ok, Err, OnErr}
+use Rattle.std.specs.Prelude.{is_some, Result, Ok, Err, OnOk, OnErr}
 use Rattle.std.proofs.lemmas.List.{map-append}
 use Rattle.atomic_table.specs.Seated.{TableId}
 use Rattle.db_value.specs.declared.reply.Reply.{Reply}
@@ -244,6 +244,14 @@ module _ (o : State) (s t u : AtSeat) (h : SeatLooked s t) where
 pub on_err : {A E : Type 0} (r : Result A E) (P : Type 0) → P → OnErr r P
 on_err (Ok a) P p = tt
 on_err (Err e) P p = p
+
+pub ok_then : {A E X Y : Type 0} (r : Result A E) → (X → Y) → OnOk r X → OnOk r Y
+ok_then (Ok a) f x = f x
+ok_then (Err e) f x = tt
+
+pub err_then : {A E X Y : Type 0} (r : Result A E) → (X → Y) → OnErr r X → OnErr r Y
+err_then (Ok a) f x = tt
+err_then (Err e) f x = f x
 
 module _ {St V P Q : Type 0} (o : State) (s t u : AtSeat) (h : SeatLooked s t) where
   pub served_then : (text : List ℕ) (v : Visit St V P Q) → IfServed v (SeatVisited o t u text) → IfServed v (SeatVisited o s u text)
