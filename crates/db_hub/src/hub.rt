@@ -22,6 +22,7 @@ use entry_codec::Log;
 use flush_queue::FlushQueue;
 use history_note::Pass;
 use std::alloc::AllocError;
+use std::marker::PhantomData;
 use std::sync::{Mutex, Wait};
 use std::thread;
 use stmt_text::Stmt;
@@ -30,7 +31,7 @@ use stmt_text::Stmt;
 /// share. All seats of the room stay out: one that was given up goes on to be listed.
 #[derive(Drop)]
 pub struct Hub<St: Store, J: Log<St>, T: LogTag<J>> {
-    lock: Mutex<Whole<St, J, T>>,
+    pub lock: Mutex<Whole<St, J, T>>,
     ghost stays: { T.stays ≡ true },
 }
 
@@ -41,8 +42,30 @@ impl<St: Store, J: Log<St>, T: LogTag<J>> Hub<St, J, T> {
         requires stays { T.stays ≡ true }
         requires none { (queue.waiting ≡ []) × (waiting.members.items ≡ []) }
     {
+        let Room {
+            alloc,
+            board,
+            note,
+            pen,
+            out,
+            issued,
+            ..
+        } = room;
+        let whole = Whole {
+            alloc,
+            board,
+            note,
+            pen,
+            out,
+            issued,
+            queue,
+            waiting,
+            waits: Vec::new(alloc),
+            told: Vec::new(alloc),
+            of: PhantomData,
+        };
         Hub {
-            lock: Mutex::new(Whole::of(room, queue, waiting)),
+            lock: Mutex::new(whole),
         }
     }
 
@@ -108,6 +131,14 @@ impl<St: Store, J: Log<St>, T: LogTag<J>> Hub<St, J, T> {
         ensures kept { is_carrying result.pen ≡ false → result.pen.kept ≡ [] }
     {
         let Hub { lock } = self;
-        lock.into_inner().into_parts()
+        let mut whole = lock.into_inner();
+        whole.finish();
+        let Whole {
+            board,
+            note,
+            pen,
+            ..
+        } = whole;
+        Shut { board, note, pen }
     }
 }

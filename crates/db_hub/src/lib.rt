@@ -31,3 +31,4 @@ pub use room::{Room, Shut};
 pub use seat::Seat;
 pub use sessions::SessionList;
 pub use tag::{LogTag, Tag};
+pub use whole::Whole;

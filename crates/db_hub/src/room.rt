@@ -29,13 +29,13 @@ use stmt_text::Stmt;
 /// lies under a lock, and threads share that.
 #[derive(Drop)]
 pub struct Room<St: Store, J: Log<St>, T: LogTag<J>> {
-    pub(crate) alloc: Global,
+    pub alloc: Global,
     pub board: Board<St, J>,
     pub note: Note<St>,
     pub pen: Pen<St>,
-    pub(crate) out: Vec<(u32, u32)>,
+    pub out: Vec<(u32, u32)>,
     desks: Vec<(u32, Desk<St>)>,
-    pub(crate) issued: u32,
+    pub issued: u32,
     of: PhantomData<T>,
 }
 

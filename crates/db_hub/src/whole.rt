@@ -3,15 +3,11 @@ ghost use Rattle.std.specs.Prelude.{◌≡◌, ◌⊎◌, ◌+◌, ◌<◌, ◌�
 ghost use Rattle.history_note.specs.Places.{owed_to};
 ghost use Rattle.history_note.specs.Shown.{is_carrying};
 ghost use Rattle.db_core.specs.Desk.{cleared};
-ghost use Rattle.db_core.specs.Kept.{Stands};
-ghost use Rattle.db_hub.specs.Entered.{steps_of, lines_of};
-ghost use Rattle.db_hub.specs.Own.{AllNoted};
-ghost use Rattle.db_hub.specs.Rooms.{StoresSince};
+ghost use Rattle.db_hub.specs.Entered.{lines_of};
 ghost use Rattle.db_hub.specs.Seats.{seat_at, with_desk, SeatVisited, SeatCaughtUp, SeatFailed};
 ghost use Rattle.db_hub.specs.Served.{CarriesFor, IsHandedTo, IsReady, IsHere, MayAsk, IsTaken, IsGiven, SeatLooked, IfSettle, IfTold, IfWaits, UnlessWaits, SettlesFirst, AnswersNow, LeavesLine, IsAway, SeatLeaves, SeatReturns, IfServed, IfLeft};
 
 use crate::keyed::{has_key, take_at};
-use crate::room::{Room, Shut};
 use crate::seat::Seat;
 use crate::settling::{tell_all, write_members};
 use crate::tag::LogTag;
@@ -32,17 +28,17 @@ use stmt_text::Stmt;
 /// batch is written; and for each line that was settled since its session was here, number and reply.
 #[derive(Drop)]
 pub struct Whole<St: Store, J: Log<St>, T: LogTag<J>> {
-    alloc: Global,
-    board: Board<St, J>,
-    note: Note<St>,
-    pen: Pen<St>,
-    out: Vec<(u32, u32)>,
-    issued: u32,
-    queue: FlushQueue,
-    waiting: Waiting<St>,
-    waits: Vec<(u32, Reply)>,
-    told: Vec<(u32, Reply)>,
-    of: PhantomData<T>,
+    pub alloc: Global,
+    pub board: Board<St, J>,
+    pub note: Note<St>,
+    pub pen: Pen<St>,
+    pub out: Vec<(u32, u32)>,
+    pub issued: u32,
+    pub queue: FlushQueue,
+    pub waiting: Waiting<St>,
+    pub waits: Vec<(u32, Reply)>,
+    pub told: Vec<(u32, Reply)>,
+    pub of: PhantomData<T>,
 }
 
 impl<St: Store, J: Log<St>, T: LogTag<J>> Model for Whole<St, J, T> {
@@ -117,35 +113,6 @@ fn make_room(
 }
 
 impl<St: Store, J: Log<St>, T: LogTag<J>> Whole<St, J, T> {
-    /// What a room has all of whose seats stay out, and no line that waits.
-    pub fn of(room: Room<St, J, T>, queue: FlushQueue, waiting: Waiting<St>) -> Whole<St, J, T>
-        requires stays { T.stays ≡ true }
-        requires none { (queue.waiting ≡ []) × (waiting.members.items ≡ []) }
-    {
-        let Room {
-            alloc,
-            board,
-            note,
-            pen,
-            out,
-            issued,
-            ..
-        } = room;
-        Whole {
-            alloc,
-            board,
-            note,
-            pen,
-            out,
-            issued,
-            queue,
-            waiting,
-            waits: Vec::new(alloc),
-            told: Vec::new(alloc),
-            of: PhantomData,
-        }
-    }
-
     // Takes the seat's pass in.
     fn take_pass(&mut self, seat: &mut Seat<St, T>) -> Result<(), AllocError>
         ensures taken { OnOk result (IsTaken self.old self.new seat.old seat.new) }
@@ -436,26 +403,12 @@ impl<St: Store, J: Log<St>, T: LogTag<J>> Whole<St, J, T> {
         Ok(())
     }
 
-    /// The board, the note and its pen. Members that wait are settled first, unless a pass was lost.
-    pub fn into_parts(mut self) -> Shut<St, J>
-        ensures named { (result.note.note ≡ T.note) × (result.pen.note ≡ T.note) }
-        ensures opened { (result.board.kept.opening ≡ T.opened)
-            × (result.board.kept.first_count ≡ T.first) }
-        ensures stores { StoresSince J.Log T.log result.board }
-        ensures stands { Stands result.board.kept
-            × (result.board.kept.steps ≡ steps_of result.pen.lines) }
-        ensures noted { AllNoted T.numbers result.pen.lines }
-        ensures kept { is_carrying result.pen ≡ false → result.pen.kept ≡ [] }
+    /// Settles the members that wait, unless a pass was lost.
+    pub fn finish(&mut self)
+        ensures kept { is_carrying self.new.pen ≡ false → self.new.pen.kept ≡ [] }
     {
         if !self.pen.carries() {
             self.settle_all();
         }
-        let Whole {
-            board,
-            note,
-            pen,
-            ..
-        } = self;
-        Shut { board, note, pen }
     }
 }

@@ -9,15 +9,15 @@ ghost use Rattle.session_run.specs.Runs.{HasRun, IsNew, IsInterleaving, IsBeginn
 use crate::jobs::{run_jobs, seated};
 use crate::tie::tie_all;
 use db_core::{Board, Waiting};
-use db_hub::{Hub, LogTag, Room, Shut};
+use db_hub::{Hub, LogTag, Room, Whole};
 use db_outside::Gate;
 use db_store::Store;
 use entry_codec::Log;
 use flush_queue::FlushQueue;
 use history_note::{Note, Pen};
 use std::alloc::{AllocError, Global};
-use std::marker::Brand;
-use std::sync::Wait;
+use std::marker::{Brand, PhantomData};
+use std::sync::{Mutex, Wait};
 use std::thread::Threads;
 use stmt_text::{Section, Sections};
 
@@ -81,13 +81,40 @@ where
             Err((Unfinished::Memory, board))
         }
         Ok(mut jobs) => {
-            let hub = Hub::new(room, queue, waiting);
+            let Room {
+                board,
+                note,
+                pen,
+                out,
+                issued,
+                ..
+            } = room;
+            let whole = Whole {
+                alloc,
+                board,
+                note,
+                pen,
+                out,
+                issued,
+                queue,
+                waiting,
+                waits: Vec::new(alloc),
+                told: Vec::new(alloc),
+                of: PhantomData,
+            };
+            let hub = Hub {
+                lock: Mutex::new(whole),
+            };
             run_jobs(rt, alloc, &hub, sections, &mut jobs, gate);
-            let Shut {
+            let Hub { lock } = hub;
+            let mut whole = lock.into_inner();
+            whole.finish();
+            let Whole {
                 board,
                 note,
                 mut pen,
-            } = hub.into_board();
+                ..
+            } = whole;
             match tie_all(&note, &mut pen, jobs) {
                 Err(why) => Err((why, board)),
                 Ok(()) => Ok(board),
