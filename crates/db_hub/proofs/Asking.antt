@@ -316,6 +316,7 @@ module _ (named : TableId) (numbers : List (ℕ × ℕ)) (o : State) (since : �
 
       module _ (text : List ℕ) (pen3 : AtPen) (left : pen3 ≡ leaving text pen2) where
         left_is : pen3 ≡ record pen2 { kept = pen2.kept ++ (n, text) ∷ [] }
+        unfolding carries_now
         left_is = left ∙ ap (λ (x : Option (PassView State)). leaving_by x text pen2) carries_now.carried ∙ ap (λ (j : ℕ). record pen2 { kept = pen2.kept ++ (j, text) ∷ [] }) carries.number_is
 
         pub left_line : kept_for n pen3.kept ≡ Some text
@@ -397,22 +398,22 @@ module _ {L S V P Q St V2 P2 Q2 : Type 0} (g : Ghosts L S V P Q) (b c : Logged L
 
 -- ---- what a line that was asked for leaves of its desk
 
-module _ {J E : Type 0} (o : State) (since : ℕ → ℕ) (w v : AtWhole J) (n : ℕ) (k l : AtDesk) (text : List ℕ) where
+module _ {J : Type 0} (o : State) (since : ℕ → ℕ) (w v : AtWhole J) (n : ℕ) (k l : AtDesk) (text : List ℕ) where
   asked_session : (a : Asked) → IfSettle a (SettlesFirst w v k l) → IfTold a (AnswersNow w v n k l text) → IfWaits a (LeavesLine o w v n k l text) → l.session ≡ k.session
   asked_session Settle f t h = ap (λ (d : AtDesk). d.session) f.desk
   asked_session (Told r) f t h = t.session
   asked_session Waits f t h = ap (λ (d : AtDesk). d.session) h.desk
 
-  pub desk_session : (r : Result Asked E) → IfOk r (λ a. IfSettle a (SettlesFirst w v k l)) → IfOk r (λ a. IfTold a (AnswersNow w v n k l text)) → IfOk r (λ a. IfWaits a (LeavesLine o w v n k l text)) → OnErr r ((v.pen ≡ w.pen) × (l ≡ record k { open_tx = l.open_tx })) → l.session ≡ k.session
+  pub desk_session : {E : Type 0} → (r : Result Asked E) → IfOk r (λ a. IfSettle a (SettlesFirst w v k l)) → IfOk r (λ a. IfTold a (AnswersNow w v n k l text)) → IfOk r (λ a. IfWaits a (LeavesLine o w v n k l text)) → OnErr r ((v.pen ≡ w.pen) × (l ≡ record k { open_tx = l.open_tx })) → l.session ≡ k.session
   desk_session (Ok a) f t h e = asked_session a f t h
   desk_session (Err x) f t h e = ap (λ (d : AtDesk). d.session) e.1
 
-module _ {J E : Type 0} (o : State) (since : ℕ → ℕ) (v : AtWhole J) (n : ℕ) (l : AtDesk) where
+module _ {J : Type 0} (o : State) (since : ℕ → ℕ) (v : AtWhole J) (n : ℕ) (l : AtDesk) where
   here_unless : (a : Asked) → UnlessWaits a (IsReady o since v n l) → UnlessWaits a (IsHere o since v (seat_at n None l))
   here_unless Settle r = here_of o since v n l r
   here_unless (Told t) r = here_of o since v n l r
   here_unless Waits r = tt
 
-  pub here_then : (r : Result Asked E) → MatchResult r (λ a. UnlessWaits a (IsReady o since v n l)) (λ e. IsReady o since v n l) → MatchResult r (λ a. UnlessWaits a (IsHere o since v (seat_at n None l))) (λ e. IsHere o since v (seat_at n None l))
+  pub here_then : {E : Type 0} → (r : Result Asked E) → MatchResult r (λ a. UnlessWaits a (IsReady o since v n l)) (λ e. IsReady o since v n l) → MatchResult r (λ a. UnlessWaits a (IsHere o since v (seat_at n None l))) (λ e. IsHere o since v (seat_at n None l))
   here_then (Ok a) r = here_unless a r
   here_then (Err e) r = here_of o since v n l r

@@ -1,5 +1,5 @@
 -- Lines that waited together, written with their numbers.
-use Rattle.std.proofs.Common.{◌≡◌, ◌≢◌, ◌⊎◌, inl, inr, ℕ, ◌+◌, Bool, List, [], ◌∷◌, ◌++◌, length, drop, cond, Option, Some, None, refl, sym, ap, ◌∙◌, subst, arith, length-append, append_assoc, append-nil, eq-eqb, ne_eqb}
+use Rattle.std.proofs.Common.{◌≡◌, ◌≢◌, ◌⊎◌, inl, inr, ℕ, suc, ◌+◌, Bool, List, [], ◌∷◌, ◌++◌, length, drop, cond, Option, Some, None, refl, sym, ap, ◌∙◌, subst, arith, length-append, append_assoc, append-nil, eq-eqb, ne_eqb}
 use Rattle.std.specs.Prelude.{true, false, is_some}
 use Rattle.std.proofs.Math.Seq.{drop-append_seam}
 use mathlib.Core.Option.{some}
@@ -103,7 +103,7 @@ module _ (failed : Bool) (out : List (ℕ × ℕ)) (once : AllOnce out) where
   as_many [] [] a = refl
   as_many [] (m ∷ ms) a = absurd a
   as_many (w ∷ ws) [] a = absurd a
-  as_many (w ∷ ws) (m ∷ ms) a = ap (λ (n : ℕ). n + 1) (as_many ws ms a.2)
+  as_many (w ∷ ws) (m ∷ ms) a = ap suc (as_many ws ms a.2)
 
   module _ (w : World) where
     session_is : (m : AtMember) → WaitsIn w m → (n : ℕ) → session_of (noted_line n (member_step failed m)) ≡ m.session

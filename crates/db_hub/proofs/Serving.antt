@@ -47,7 +47,7 @@ seat_same s n k t a b = (ap (λ (x : AtSeat). x.number) (a ∙ b), ap (λ (x : A
 -- ---- a pass was taken in, and handed out to its seat
 
 module _ {J : Type 0} (o : State) (since : ℕ → ℕ) (w0 w1 w2 : AtWhole J) (s t : AtSeat) (taken : IsTaken w0 w1 s t) (ready : IsReady o since w1 s.number s.desk) (l : AtDesk) where
-  begins : IsFront s.seen w1.pen.lines
+  abbrev begins : IsFront s.seen w1.pen.lines
   begins = (taken.rest, taken.lines ∙ taken.prefix)
 
   module _ (u : AtSeat) (given : IsGiven w2.pen (seat_at s.number None l) u) (more : List Step) (lines : w2.pen.lines ≡ w1.pen.lines ++ lines_of s.number more) where

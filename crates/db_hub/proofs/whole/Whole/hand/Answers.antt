@@ -1,4 +1,4 @@
-use Rattle.std.proofs.Common.{◌≡◌, ◌∙◌, ℕ, List, None, sym, ap, subst}
+use Rattle.std.proofs.Common.{◌≡◌, ◌∙◌, ℕ, List, None, true, sym, ap, subst}
 use Rattle.std.specs.Prelude.{is_some}
 use Rattle.history_note.specs.Shown.{AtPen}
 use Rattle.db_core.specs.Waiting.{members_of}
@@ -11,8 +11,8 @@ pub hand_out-requires-clause-carries : goal.hand_out-requires-clause-carries
 hand_out-requires-clause-carries g c =
     ap (λ (w : AtWhole _). is_some w.pen.carried) c.self.view_is ∙ ap is_some c.requires.1.1.carried
 
-pub invariant_of-self-in_err-pass : goal.invariant_of-self-in_err-pass
-invariant_of-self-in_err-pass g c =
+pub invariant_of-self : goal.invariant_of-self
+invariant_of-self g c =
     let inside = c.self.inside in
     let i = c.self.invariant in
     let same = c.in_err-pass.ensures.failed in (
@@ -25,8 +25,8 @@ invariant_of-self-in_err-pass g c =
       i.6,
     )
 
-pub invariant_of-self : goal.invariant_of-self
-invariant_of-self g c =
+pub invariant_of-self-2 : goal.invariant_of-self-2
+invariant_of-self-2 g c =
     let inside = c.self.inside in
     let i = c.self.invariant in
     let carries : CarriesFor inside.pen c.requires.0 c.requires.1.0 = subst (λ (w : AtWhole _). CarriesFor w.pen c.requires.0 c.requires.1.0) (sym c.self.view_is) c.requires.1.1 in
