@@ -35,8 +35,8 @@ unreachable-requires g c =
     let r = found g.T.Tag.note g.T.Tag.numbers o g.T.Tag.since inside.note pen0 inside.board.kept out inside.issued i.0 n k text q at fits is_out inside.waits.items inside.told.items ms i.5 settled in
     none-some r.0 (sym c.in_default.is ∙ c.take_at.ensures.value ∙ r.1)
 
-pub invariant_of-self-in_err-handed : goal.invariant_of-self-in_err-handed
-invariant_of-self-in_err-handed g c =
+pub invariant_of-self : goal.invariant_of-self
+invariant_of-self g c =
     let inside = c.self.inside in
     let i = c.self.invariant in
     let o = g.T.Tag.opened in
@@ -65,8 +65,8 @@ invariant_of-self-in_err-handed g c =
       i.6,
     )
 
-pub invariant_of-self : goal.invariant_of-self
-invariant_of-self g c =
+pub invariant_of-self-2 : goal.invariant_of-self-2
+invariant_of-self-2 g c =
     let inside = c.self.inside in
     let i = c.self.invariant in
     let o = g.T.Tag.opened in
@@ -96,8 +96,8 @@ invariant_of-self g c =
       omega (arith, i.6, c.take_at.ensures.len, c.take_at.ensures.capacity),
     )
 
-pub invariant_of-seat : goal.invariant_of-seat
-invariant_of-seat g c =
+pub invariant_of-seat-2 : goal.invariant_of-seat-2
+invariant_of-seat-2 g c =
     let inside = c.self.inside in
     let i = c.self.invariant in
     let o = g.T.Tag.opened in
