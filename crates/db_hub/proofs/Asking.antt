@@ -3,7 +3,7 @@ use Rattle.std.proofs.Common.{◌≡◌, ◌≢◌, ◌⊎◌, ⊎_elim, inl, in
 use Rattle.std.proofs.Math.Seq.{drop-append_seam}
 use Rattle.std.proofs.lemmas.List.{map-append}
 use Rattle.std.proofs.lemmas.Bool.{false≢true}
-use Rattle.std.specs.Prelude.{true, false, is_some, Result, Ok, Err, IfOk, OnErr, MatchResult}
+use Rattle.std.specs.Prelude.{true, false, is_some, Result, Ok, Err, IfOk, OnErr}
 use Rattle.atomic_table.specs.Seated.{TableId}
 use Rattle.db_value.specs.declared.reply.Reply.{Reply}
 use Rattle.db_value.specs.declared.step.Step.{Step}
@@ -404,9 +404,9 @@ module _ {J : Type 0} (o : State) (since : ℕ → ℕ) (w v : AtWhole J) (n : �
   asked_session (Told r) f t h = t.session
   asked_session Waits f t h = ap (λ (d : AtDesk). d.session) h.desk
 
-  pub desk_session : {E : Type 0} → (r : Result Asked E) → IfOk r (λ a. IfSettle a (SettlesFirst w v k l)) → IfOk r (λ a. IfTold a (AnswersNow w v n k l text)) → IfOk r (λ a. IfWaits a (LeavesLine o w v n k l text)) → OnErr r ((v.pen ≡ w.pen) × (l ≡ record k { open_tx = l.open_tx })) → l.session ≡ k.session
-  desk_session (Ok a) f t h e = asked_session a f t h
-  desk_session (Err x) f t h e = ap (λ (d : AtDesk). d.session) e.1
+  pub desk_session : {E : Type 0} → (R : Type 0) (r : Result Asked E) → IfOk r (λ a. IfSettle a (SettlesFirst w v k l)) → IfOk r (λ a. IfTold a (AnswersNow w v n k l text)) → IfOk r (λ a. IfWaits a (LeavesLine o w v n k l text)) → OnErr r ((v.pen ≡ w.pen) × (l ≡ record k { open_tx = l.open_tx }) × R) → l.session ≡ k.session
+  desk_session R (Ok a) f t h e = asked_session a f t h
+  desk_session R (Err x) f t h e = ap (λ (d : AtDesk). d.session) e.1
 
 module _ {J : Type 0} (o : State) (since : ℕ → ℕ) (v : AtWhole J) (n : ℕ) (l : AtDesk) where
   here_unless : (a : Asked) → UnlessWaits a (IsReady o since v n l) → UnlessWaits a (IsHere o since v (seat_at n None l))
@@ -414,6 +414,6 @@ module _ {J : Type 0} (o : State) (since : ℕ → ℕ) (v : AtWhole J) (n : ℕ
   here_unless (Told t) r = here_of o since v n l r
   here_unless Waits r = tt
 
-  pub here_then : {E : Type 0} → (r : Result Asked E) → MatchResult r (λ a. UnlessWaits a (IsReady o since v n l)) (λ e. IsReady o since v n l) → MatchResult r (λ a. UnlessWaits a (IsHere o since v (seat_at n None l))) (λ e. IsHere o since v (seat_at n None l))
+  pub here_then : {E : Type 0} → (r : Result Asked E) → IfOk r (λ a. UnlessWaits a (IsReady o since v n l)) → IfOk r (λ a. UnlessWaits a (IsHere o since v (seat_at n None l)))
   here_then (Ok a) r = here_unless a r
-  here_then (Err e) r = here_of o since v n l r
+  here_then (Err e) r = tt

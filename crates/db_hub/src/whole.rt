@@ -1,5 +1,5 @@
 //! What lies under a hub's lock: what a room has, and the lines that wait for the log together.
-ghost use Rattle.std.specs.Prelude.{◌≡◌, ◌⊎◌, ◌+◌, ◌<◌, ◌≤◌, ◌++◌, ℕ, [], true, false, None, Some, vec_len, vec_capacity, IfOk, IfSome, OnOk, OnErr, MatchResult};
+ghost use Rattle.std.specs.Prelude.{◌≡◌, ◌⊎◌, ◌+◌, ◌<◌, ◌≤◌, ◌++◌, ℕ, [], true, false, None, Some, vec_len, vec_capacity, IfOk, IfSome, OnOk, OnErr};
 ghost use Rattle.history_note.specs.Places.{owed_to};
 ghost use Rattle.history_note.specs.Shown.{is_carrying};
 ghost use Rattle.db_core.specs.Desk.{cleared};
@@ -168,11 +168,11 @@ impl<St: Store, J: Log<St>, T: LogTag<J>> Whole<St, J, T> {
             IfTold a (AnswersNow self.old self.new number desk.old desk.new text.now)) }
         ensures waits { IfOk result (λ a. IfWaits a
             (LeavesLine T.opened self.old self.new number desk.old desk.new text.now)) }
-        ensures ready { MatchResult result
-            (λ a. UnlessWaits a (IsReady T.opened T.since self.new number desk.new))
-            (λ e. IsReady T.opened T.since self.new number desk.new) }
+        ensures ready { IfOk result
+            (λ a. UnlessWaits a (IsReady T.opened T.since self.new number desk.new)) }
         ensures failed { OnErr result ((self.new.pen ≡ self.old.pen)
-            × (desk.new ≡ record desk.old { open_tx = desk.new.open_tx })) }
+            × (desk.new ≡ record desk.old { open_tx = desk.new.open_tx })
+            × IsReady T.opened T.since self.new number desk.new) }
     {
         let from = self.board.steps().len();
         make_room(&mut self.waits, &mut self.told)?;
@@ -206,11 +206,11 @@ impl<St: Store, J: Log<St>, T: LogTag<J>> Whole<St, J, T> {
             (AnswersNow self.old self.new seat.old.number seat.old.desk seat.new.desk text.now)) }
         ensures waits { IfOk result (λ a. IfWaits a (LeavesLine T.opened self.old self.new
             seat.old.number seat.old.desk seat.new.desk text.now)) }
-        ensures here { MatchResult result
-            (λ a. UnlessWaits a (IsHere T.opened T.since self.new seat.new))
-            (λ e. IsHere T.opened T.since self.new seat.new) }
+        ensures here { IfOk result
+            (λ a. UnlessWaits a (IsHere T.opened T.since self.new seat.new)) }
         ensures failed { OnErr result ((self.new.pen ≡ self.old.pen)
-            × (seat.new.desk ≡ record seat.old.desk { open_tx = seat.new.desk.open_tx })) }
+            × (seat.new.desk ≡ record seat.old.desk { open_tx = seat.new.desk.open_tx })
+            × IsHere T.opened T.since self.new seat.new) }
         ensures seat { seat.new ≡ seat_at seat.old.number None seat.new.desk }
     {
         self.ask(&mut seat.desk, seat.number, text, stmt)
@@ -297,7 +297,7 @@ impl<St: Store, J: Log<St>, T: LogTag<J>> Whole<St, J, T> {
         write_members(
             &self.note,
             &mut self.pen,
-            &self.waits,
+            self.waits.as_slice(),
             self.board.steps(),
             from,
         );
@@ -312,9 +312,10 @@ impl<St: Store, J: Log<St>, T: LogTag<J>> Whole<St, J, T> {
         ensures settled { (owed_to number self.new.pen.owed ≡ [] → ⊥)
             ⊎ (self.new.pen.kept ≡ []) }
     {
-        if !has_key(&self.told, number) {
-            self.settle_all();
+        if has_key(self.told.as_slice(), number) {
+            return;
         }
+        self.settle_all();
     }
 
     // Takes the reply of a line that was settled, with the pass that left it.

@@ -19,8 +19,8 @@ second_visit-requires g c =
     let text : List ℕ = c.args.text.now in
     (subst (λ (x : Visit _ _ _ _). IfLeft x (λ p. SeatLeaves g.T.Tag.opened s t p × IsAway g.T.Tag.note g.T.Tag.opened g.T.Tag.since t.number t.desk text p)) c.in-Left.is c.in_ok-visit.ensures.left).1
 
-pub returns-in-Left-clause-seat : goal.returns-in-Left-clause-seat
-returns-in-Left-clause-seat g c =
+pub returns-in_ok-reply-in-Left-clause-seat : goal.returns-in_ok-reply-in-Left-clause-seat
+returns-in_ok-reply-in-Left-clause-seat g c =
     let s : AtSeat = c.args.seat.now in
     let t : AtSeat = c.first_visit.new.seat in
     let u : AtSeat = c.second_visit.new.seat in

@@ -18,9 +18,10 @@ use Rattle.db_hub.specs.Entered.{lines_of}
 use Rattle.db_core.proofs.Standing.{agree_same}
 use Rattle.db_hub.specs.Rooms.{RoomFits, AllOutIf, StoresSince, written_all}
 use Rattle.db_hub.specs.Left.{LinesFit}
-use Rattle.db_hub.specs.Served.{AtWhole, CarriesFor}
+use Rattle.db_hub.specs.Served.{AtWhole, CarriesFor, IsReady}
 use Rattle.db_hub.proofs.Awaiting.{ticketed_agrees}
 use Rattle.db_hub.proofs.Storing.{since_ran, since_left}
+use Rattle.db_hub.proofs.Serving.{on_err}
 use Rattle.db_hub.proofs.Asking.{none_waits, no_members, free_line, ready_still, rest_is, lines_now, offered_grows, first_grows, first_stands, served_grows, ticketed_grows, ticketed_stands, ticketed_members, issued_now, own_now, as_long, room_for, carries_now, none_now, opening_now, room_grown, all_out, lines_grown, ready_now, left_line, left_lines, left_noted, left_carries, left_room, left_fits}
 use Rattle.db_hub.proofs.whole.Whole.ask.Goals as goal
 
@@ -304,8 +305,8 @@ invariant_of-self-in-Answered g c =
       c.make_room.ensures.room,
     )
 
-pub invariant_of-self : goal.invariant_of-self
-invariant_of-self g c =
+pub invariant_of-self-in-Ticketed : goal.invariant_of-self-in-Ticketed
+invariant_of-self-in-Ticketed g c =
     let inside = c.self.inside in
     let i = c.self.invariant in
     let o = g.T.Tag.opened in
@@ -409,8 +410,8 @@ returns-in-Answered-clause-ready g c =
     let wrote : c.write_from.new.pen ≡ written_all n (drop from board1.kept.steps) pen0 = c.write_from.ensures ∙ ap (λ (ss : List Step). written_all n (drop from ss) pen0) c.steps.ensures in
     ready_now g.T.Tag.note g.T.Tag.numbers o since inside.note pen0 inside.board.kept out inside.issued i.0 n k.session is_out carries none board1.kept more gr stands c.write_from.new.pen from from_is wrote (record { board = board1; pen = c.write_from.new.pen; out = out; members = members_of c.offer.new.waiting.members.items }) c.offer.new.desk refl refl refl h.desk.session_is h.desk.agree (subst (λ (p : AtPen). since n ≤ length p.lines) (sym pen_is) r.since_is)
 
-pub returns-clause-waits : goal.returns-clause-waits
-returns-clause-waits g c =
+pub returns-in-Ticketed-clause-waits : goal.returns-in-Ticketed-clause-waits
+returns-in-Ticketed-clause-waits g c =
     let inside = c.self.inside in
     let i = c.self.invariant in
     let o = g.T.Tag.opened in
@@ -546,10 +547,15 @@ returns-in_err-told-clause-failed g c =
     let none : kept_for n pen0.kept ≡ None = ap (λ (p : AtPen). kept_for n p.kept) pen_is ∙ r.keeps_none in
     let err = c.in_err-told.ensures.err in
     let l : AtDesk = c.offer.new.desk in
-    (pen_is, err.desk.desk)
+    on_err c.from_residual-in_err-told.result _ (
+      pen_is,
+      err.desk.desk,
+      ready_still o since n c.args.self.now (record { board = c.offer.new.self; pen = pen0; out = out; members = members_of c.offer.new.waiting.members.items }) k l r (ap (λ (x : Logged _). x.kept) err.board ∙ board_is) pen_is (ap (λ (w : AtWhole _). w.out) c.self.view_is) (ap (λ (d : AtDesk). d.session) err.desk.desk)
+          (agree_same c.args.self.now.board.kept k l r.agree err.desk.desk (subst (λ (x : Kept). IsSameIf x.now k.current k.open_tx l.open_tx) board_is err.desk.same)),
+    )
 
-pub returns-in_err-told-clause-ready : goal.returns-in_err-told-clause-ready
-returns-in_err-told-clause-ready g c =
+pub returns-in_err-make_room-clause-failed : goal.returns-in_err-make_room-clause-failed
+returns-in_err-make_room-clause-failed g c =
     let inside = c.self.inside in
     let i = c.self.invariant in
     let o = g.T.Tag.opened in
@@ -566,10 +572,7 @@ returns-in_err-told-clause-ready g c =
     let is_out : IsNoted out n k.session = subst (λ (l : List (ℕ × ℕ)). IsNoted l n k.session) (sym (ap (λ (w : AtWhole _). w.out) c.self.view_is)) r.is_out in
     let carries : CarriesFor pen0 n k.session = subst (λ (p : AtPen). CarriesFor p n k.session) (sym pen_is) r.carries in
     let none : kept_for n pen0.kept ≡ None = ap (λ (p : AtPen). kept_for n p.kept) pen_is ∙ r.keeps_none in
-    let err = c.in_err-told.ensures.err in
-    let l : AtDesk = c.offer.new.desk in
-    ready_still o since n c.args.self.now (record { board = c.offer.new.self; pen = pen0; out = out; members = members_of c.offer.new.waiting.members.items }) k l r (ap (λ (x : Logged _). x.kept) err.board ∙ board_is) pen_is (ap (λ (w : AtWhole _). w.out) c.self.view_is) (ap (λ (d : AtDesk). d.session) err.desk.desk)
-    (agree_same c.args.self.now.board.kept k l r.agree err.desk.desk (subst (λ (x : Kept). IsSameIf x.now k.current k.open_tx l.open_tx) board_is err.desk.same))
+    on_err c.from_residual.result _ (pen_is, refl, subst (λ (w : AtWhole _). IsReady o since w n k) (sym c.self.view_is) r)
 
 pub invariant_of-self-in_err-told : goal.invariant_of-self-in_err-told
 invariant_of-self-in_err-told g c =
@@ -601,8 +604,8 @@ invariant_of-self-in_err-told g c =
       c.make_room.ensures.room,
     )
 
-pub invariant_of-self-in_err-make_room : goal.invariant_of-self-in_err-make_room
-invariant_of-self-in_err-make_room g c =
+pub invariant_of-self : goal.invariant_of-self
+invariant_of-self g c =
     let inside = c.self.inside in
     let i = c.self.invariant in
     let o = g.T.Tag.opened in

@@ -36,8 +36,6 @@ enter-requires g c =
     let pen0 : AtPen = inside.pen in
     let b : Kept = inside.board.kept in
     let r : IsReady o since (record { board = inside.board; pen = pen0; out = out; members = members_of inside.waiting.members.items }) n k = subst (λ (x : AtWhole _ × (ℕ × AtDesk)). IsReady o since x.0 x.1.0 x.1.1) (λ j. (sym c.self.view_is j, (sym n_is j, sym k_is j))) c.requires.here.ready in
-    let l : AtDesk = c.enter.new.desk in
-    let board1 = c.enter.new.self in
     r.agree
 
 pub write_from-requires-clause-issued : goal.write_from-requires-clause-issued
@@ -142,8 +140,8 @@ write_from-requires-clause-lines g c =
     let from_is : from ≡ length b.steps = ap length c.steps-from.ensures in
     as_long g.T.Tag.note g.T.Tag.numbers o since inside.note pen0 b out inside.issued i.0 n k.session r.is_out r.carries r.keeps_none ∙ sym from_is
 
-pub invariant_of-self : goal.invariant_of-self
-invariant_of-self g c =
+pub invariant_of-self-2 : goal.invariant_of-self-2
+invariant_of-self-2 g c =
     let inside = c.self.inside in
     let i = c.self.invariant in
     let o = g.T.Tag.opened in
@@ -177,8 +175,8 @@ invariant_of-self g c =
       i.6,
     )
 
-pub invariant_of-self-in_err-enter : goal.invariant_of-self-in_err-enter
-invariant_of-self-in_err-enter g c =
+pub invariant_of-self : goal.invariant_of-self
+invariant_of-self g c =
     let inside = c.self.inside in
     let i = c.self.invariant in
     let o = g.T.Tag.opened in
@@ -197,8 +195,8 @@ invariant_of-self-in_err-enter g c =
     let board1 = c.enter.new.self in
     subst (λ (x : Logged _). RoomFits g.T.Tag.note g.T.Tag.numbers o since inside.note pen0 x.kept out inside.issued × (x.kept.first_count ≡ g.T.Tag.first) × StoresSince g.J.Log g.T.LogTag.log x × AllOutIf true pen0.noted out × AreOffered g.St.Store.Prepares x.ready x.kept inside.queue inside.waiting.members.items × LinesFit out pen0 inside.waits.items inside.told.items (members_of inside.waiting.members.items) × (vec_len inside.told + vec_len inside.waits ≤ vec_capacity inside.told)) (sym c.in_err-enter.ensures.err) i
 
-pub invariant_of-seat : goal.invariant_of-seat
-invariant_of-seat g c =
+pub invariant_of-seat-2 : goal.invariant_of-seat-2
+invariant_of-seat-2 g c =
     let inside = c.self.inside in
     let i = c.self.invariant in
     let o = g.T.Tag.opened in
@@ -218,8 +216,8 @@ invariant_of-seat g c =
     let session : l.session ≡ k.session = ap (λ (d : AtDesk). d.session) c.in_ok-enter.ensures.cleared in
     subst (λ (x : Option AtPass). SeatFits g.T.Tag.note o g.T.Tag.numbers since n x l) (sym gone) (subst (IsNoted g.T.Tag.numbers n) (sym session) c.seat.invariant.0, tt)
 
-pub invariant_of-seat-in_err-enter : goal.invariant_of-seat-in_err-enter
-invariant_of-seat-in_err-enter g c =
+pub invariant_of-seat : goal.invariant_of-seat
+invariant_of-seat g c =
     let inside = c.self.inside in
     let i = c.self.invariant in
     let o = g.T.Tag.opened in
