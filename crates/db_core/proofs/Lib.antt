@@ -39,3 +39,5 @@ pub mod Joining
 pub mod Between
 pub mod Spares
 pub mod Batches
+pub mod Shutting
+pub mod Awaiting

@@ -16,3 +16,4 @@ pub mod Desk
 pub mod Sessions
 pub mod Local
 pub mod Settled
+pub mod Awaiting

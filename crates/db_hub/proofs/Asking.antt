@@ -28,7 +28,7 @@ use Rattle.db_core.specs.declared.offer.Offered.TheVariants.{SettleFirst, Answer
 use Rattle.db_core.specs.Members.{AtMember}
 use Rattle.db_core.specs.Waiting.{at_member, members_of}
 use Rattle.db_core.specs.Offers.{HasNone, IfFirst, IfAnswered, IfTicketed, IsUntouched, IsServedFor, IsTicketed}
-use Rattle.db_hub.specs.Awaiting.{AgreesAfter, ticketed_desk}
+use Rattle.db_core.specs.Awaiting.{AgreesAfter, ticketed_desk}
 use Rattle.db_hub.specs.Entered.{steps_of, lines_of}
 use Rattle.db_hub.specs.Own.{AllBy, AllNoted, AllOnce, OutFits}
 use Rattle.db_hub.specs.Seats.{AtSeat, PassFits, seat_at}

@@ -18,7 +18,7 @@ use Rattle.store_tx.specs.Stored.{told_if}
 use Rattle.db_core.specs.Order.{Said, World}
 use Rattle.db_core.specs.Kept.{Kept, Stands, step_of, world_of}
 use Rattle.db_core.specs.Members.{AtMember, WaitsIn, AllWaitIn, IsApartFrom, AllApart, member_steps, settled_board}
-use Rattle.db_hub.specs.Awaiting.{member_step}
+use Rattle.db_core.specs.Awaiting.{member_step}
 use Rattle.db_core.proofs.Members.{says}
 use Rattle.db_hub.specs.Entered.{steps_of}
 use Rattle.db_hub.specs.Own.{session_of, AllNoted, AllOwn, AllOnce, OutFits}

@@ -20,9 +20,9 @@ use Rattle.db_core.specs.Order.{Said, said_of, opening, after, reply_in}
 use Rattle.db_core.specs.Laws.{AllHaveRoom}
 use Rattle.db_core.specs.Kept.{Kept, Stands, step_of, said_step, saids, world_of}
 use Rattle.db_core.specs.Desk.{AtDesk, Agrees, AllOthers, entered}
-use Rattle.db_hub.specs.Awaiting.{IsToldIn}
+use Rattle.db_core.specs.Awaiting.{IsToldIn}
 use Rattle.db_core.specs.Members.{AtMember}
-use Rattle.db_hub.proofs.Awaiting.{step_law}
+use Rattle.db_core.proofs.Awaiting.{step_law}
 use Rattle.db_hub.specs.Entered.{steps_of, world_after, is_open_after, kept_at}
 use Rattle.db_hub.specs.Own.{AllOwn}
 use Rattle.db_hub.specs.Keyed.{at_key, without_key}

@@ -15,7 +15,7 @@ use Rattle.db_core.specs.Order.{Said, said_of, reply_in}
 use Rattle.db_core.specs.Laws.{AllHaveRoom}
 use Rattle.db_core.specs.Kept.{Kept, step_of, said_step, saids, world_of}
 use Rattle.db_core.specs.Desk.{AtDesk, AllOthers, entered, cleared}
-use Rattle.db_hub.specs.Awaiting.{AgreesAfter, ticketed_desk}
+use Rattle.db_core.specs.Awaiting.{AgreesAfter, ticketed_desk}
 use Rattle.db_hub.specs.Entered.{steps_of, lines_of, IsFront, world_after, is_open_after}
 use Rattle.db_hub.specs.Seats.{AtSeat, seat_at, SeatVisited, SeatCaughtUp, SeatStays, SeatFailed}
 use Rattle.db_hub.specs.declared.whole.Visit.{Visit}

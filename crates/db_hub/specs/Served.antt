@@ -18,7 +18,7 @@ use Rattle.db_core.specs.Answered.{IsAnswered}
 use Rattle.db_core.specs.Sits.{heard}
 use Rattle.db_core.specs.Desk.{AtDesk, Agrees, AllOthers, entered, cleared, waits}
 use Rattle.db_core.specs.Members.{AtMember}
-use Rattle.db_hub.specs.Awaiting.{AgreesAfter, ticketed_desk}
+use Rattle.db_core.specs.Awaiting.{AgreesAfter, ticketed_desk}
 use Rattle.db_hub.specs.declared.whole.Asked.{Asked}
 use Rattle.db_hub.specs.declared.whole.Asked.TheVariants.{Settle, Told, Waits}
 use Rattle.db_hub.specs.declared.whole.Visit.{Visit}

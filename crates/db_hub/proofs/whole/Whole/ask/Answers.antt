@@ -13,13 +13,13 @@ use Rattle.db_core.specs.Desk.{AtDesk, Agrees, IsSameIf, entered}
 use Rattle.db_core.specs.Members.{AtMember}
 use Rattle.db_core.specs.Waiting.{members_of}
 use Rattle.db_core.specs.Offers.{settles_first, IsRightly, IfFirst, IfAnswered, IfTicketed, IsUntouched, IsServedFor, IsTicketed}
-use Rattle.db_hub.specs.Awaiting.{AgreesAfter}
+use Rattle.db_core.specs.Awaiting.{AgreesAfter}
 use Rattle.db_hub.specs.Entered.{lines_of}
 use Rattle.db_core.proofs.Standing.{agree_same}
 use Rattle.db_hub.specs.Rooms.{RoomFits, AllOutIf, StoresSince, written_all}
 use Rattle.db_hub.specs.Left.{LinesFit}
 use Rattle.db_hub.specs.Served.{AtWhole, CarriesFor, IsReady}
-use Rattle.db_hub.proofs.Awaiting.{ticketed_agrees}
+use Rattle.db_core.proofs.Awaiting.{ticketed_agrees}
 use Rattle.db_hub.proofs.Storing.{since_ran, since_left}
 use Rattle.db_hub.proofs.Serving.{on_err}
 use Rattle.db_hub.proofs.Asking.{none_waits, no_members, free_line, ready_still, rest_is, lines_now, offered_grows, first_grows, first_stands, served_grows, ticketed_grows, ticketed_stands, ticketed_members, issued_now, own_now, as_long, room_for, carries_now, none_now, opening_now, room_grown, all_out, lines_grown, ready_now, left_line, left_lines, left_noted, left_carries, left_room, left_fits}
