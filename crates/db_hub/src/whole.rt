@@ -69,7 +69,7 @@ impl<St: Store, J: Log<St>, T: LogTag<J>> Model for Whole<St, J, T> {
         × AllOutIf true w.pen.noted w.out.items
         × AreOffered St.Prepares w.board.ready w.board.kept w.queue w.waiting.members.items
         × LinesFit w.out.items w.pen w.waits.items w.told.items
-            (members_of w.waiting.members.items)
+        (members_of w.waiting.members.items)
         × (vec_len w.told + vec_len w.waits ≤ vec_capacity w.told) };
 }
 
@@ -78,9 +78,7 @@ impl<St: Store, J: Log<St>, T: LogTag<J>> Model for Whole<St, J, T> {
 enum Asked {
     /// Nothing changed: the members that wait are settled first.
     Settle,
-    Told {
-        reply: Reply,
-    },
+    Told { reply: Reply },
     /// It waits for its batch.
     Waits,
 }
@@ -95,10 +93,7 @@ pub enum Visit<St: Store> {
 }
 
 // Memory for one line more that waits.
-fn make_room(
-    waits: &mut Vec<(u32, Reply)>,
-    told: &mut Vec<(u32, Reply)>,
-) -> Result<(), AllocError>
+fn make_room(waits: &mut Vec<(u32, Reply)>, told: &mut Vec<(u32, Reply)>) -> Result<(), AllocError>
     requires { vec_len told.old + vec_len waits.old ≤ vec_capacity told.old }
     ensures waits { waits.new.items ≡ waits.old.items }
     ensures told { told.new.items ≡ told.old.items }
@@ -176,7 +171,9 @@ impl<St: Store, J: Log<St>, T: LogTag<J>> Whole<St, J, T> {
     {
         let from = self.board.steps().len();
         make_room(&mut self.waits, &mut self.told)?;
-        let told = self.board.offer(desk, text, stmt, &mut self.queue, &mut self.waiting)?;
+        let told = self
+            .board
+            .offer(desk, text, stmt, &mut self.queue, &mut self.waiting)?;
         write_from(&self.note, &mut self.pen, number, self.board.steps(), from);
         match told {
             Offered::SettleFirst => Ok(Asked::Settle),

@@ -254,8 +254,7 @@ invariant_of-self-in-SettleFirst g c =
     let more : List Step = [] in
     let gr = first_grows g.J.Log inside.board board1 k c.offer.new.desk q c.offer.new.queue ks c.offer.new.waiting.members.items c.args.text.now c.args.stmt.now agree c.requires.may.line h in
     let stands = first_stands g.J.Log inside.board board1 k c.offer.new.desk q c.offer.new.queue ks c.offer.new.waiting.members.items c.args.text.now c.args.stmt.now agree c.requires.may.line h in
-    let wrote : c.write_from.new.pen ≡ written_all n (drop from board1.kept.steps) pen0 = c.write_from.ensures ∙ ap (λ (ss : List Step). written_all n (drop from ss) pen0) c.steps.ensures in
-    (
+    let wrote : c.write_from.new.pen ≡ written_all n (drop from board1.kept.steps) pen0 = c.write_from.ensures ∙ ap (λ (ss : List Step). written_all n (drop from ss) pen0) c.steps.ensures in (
       room_grown g.T.Tag.note g.T.Tag.numbers o since inside.note pen0 inside.board.kept out inside.issued i.0 n k.session is_out carries none board1.kept more gr stands c.write_from.new.pen from from_is wrote,
       ap (λ (x : Logged _). x.kept.first_count) h.board ∙ i.1,
       subst (λ (x : Logged _). StoresSince g.J.Log g.T.LogTag.log x) (sym h.board) i.2,
@@ -294,8 +293,7 @@ invariant_of-self-in-Answered g c =
     let more : List Step = k.waiting ++ step_of c.args.text.now h.ran.0 c.in-Answered.reply ∷ [] in
     let gr = served_grows g.J.Log inside.board board1 k c.offer.new.desk q c.offer.new.queue ks c.offer.new.waiting.members.items c.args.text.now c.args.stmt.now agree c.requires.may.line c.in-Answered.reply h in
     let stands = h.desk.agree.stands in
-    let wrote : c.write_from.new.pen ≡ written_all n (drop from board1.kept.steps) pen0 = c.write_from.ensures ∙ ap (λ (ss : List Step). written_all n (drop from ss) pen0) c.steps.ensures in
-    (
+    let wrote : c.write_from.new.pen ≡ written_all n (drop from board1.kept.steps) pen0 = c.write_from.ensures ∙ ap (λ (ss : List Step). written_all n (drop from ss) pen0) c.steps.ensures in (
       room_grown g.T.Tag.note g.T.Tag.numbers o since inside.note pen0 inside.board.kept out inside.issued i.0 n k.session is_out carries none board1.kept more gr stands c.write_from.new.pen from from_is wrote,
       ap (λ (x : Kept). x.first_count) h.ran.1.kept ∙ i.1,
       since_ran g.J.Log g.T.LogTag.log inside.board board1 k c.offer.new.desk agree i.2 c.args.text.now c.in-Answered.reply h.ran,
@@ -593,8 +591,7 @@ invariant_of-self-in_err-told g c =
     let carries : CarriesFor pen0 n k.session = subst (λ (p : AtPen). CarriesFor p n k.session) (sym pen_is) r.carries in
     let none : kept_for n pen0.kept ≡ None = ap (λ (p : AtPen). kept_for n p.kept) pen_is ∙ r.keeps_none in
     let err = c.in_err-told.ensures.err in
-    let l : AtDesk = c.offer.new.desk in
-    (
+    let l : AtDesk = c.offer.new.desk in (
       subst (λ (x : Logged _). RoomFits g.T.Tag.note g.T.Tag.numbers o since inside.note pen0 x.kept out inside.issued) (sym err.board) i.0,
       ap (λ (x : Logged _). x.kept.first_count) err.board ∙ i.1,
       subst (λ (x : Logged _). StoresSince g.J.Log g.T.LogTag.log x) (sym err.board) i.2,
@@ -621,8 +618,7 @@ invariant_of-self g c =
     let agree : Agrees inside.board.kept k = subst (λ (x : Kept). Agrees x k) (sym board_is) r.agree in
     let is_out : IsNoted out n k.session = subst (λ (l : List (ℕ × ℕ)). IsNoted l n k.session) (sym (ap (λ (w : AtWhole _). w.out) c.self.view_is)) r.is_out in
     let carries : CarriesFor pen0 n k.session = subst (λ (p : AtPen). CarriesFor p n k.session) (sym pen_is) r.carries in
-    let none : kept_for n pen0.kept ≡ None = ap (λ (p : AtPen). kept_for n p.kept) pen_is ∙ r.keeps_none in
-    (
+    let none : kept_for n pen0.kept ≡ None = ap (λ (p : AtPen). kept_for n p.kept) pen_is ∙ r.keeps_none in (
       i.0,
       i.1,
       i.2,

@@ -164,8 +164,7 @@ invariant_of-self-2 g c =
     let from : ℕ = length c.steps-from.result.now in
     let from_is : from ≡ length b.steps = ap length c.steps-from.ensures in
     let wrote : c.write_from.new.pen ≡ written_all n (drop from board1.kept.steps) pen0 = c.write_from.ensures ∙ ap (λ (ss : List Step). written_all n (drop from ss) pen0) c.steps.ensures in
-    let empty : inside.waiting.members.items ≡ [] = no_waiting inside.waiting.members.items (ap (λ (w : AtWhole _). w.members) c.self.view_is ∙ c.requires.none) in
-    (
+    let empty : inside.waiting.members.items ≡ [] = no_waiting inside.waiting.members.items (ap (λ (w : AtWhole _). w.members) c.self.view_is ∙ c.requires.none) in (
       room_grown g.T.Tag.note g.T.Tag.numbers o since inside.note pen0 b out inside.issued i.0 n k.session r.is_out r.carries r.keeps_none board1.kept k.waiting gr stands c.write_from.new.pen from from_is wrote,
       ap (λ (x : Kept). x.first_count) entered_is ∙ i.1,
       since_left g.J.Log g.T.LogTag.log inside.board board1 k l r.agree i.2 entered_is (ap (λ (x : Logged _). x.log) c.in_ok-enter.ensures.ok),

@@ -54,8 +54,7 @@ invariant_of-self g c =
     let fits = c.take_in.ensures.fits in
     let is_out : IsNoted out n k.session = i.3 refl n k.session (subst (λ (p : ℕ × ℕ). IsNoted pen0.noted p.0 p.1) (λ j. (at.number_is j, at.session_is j)) fits.is_noted) in
     let settled : (owed_to n pen0.owed ≡ [] → ⊥) ⊎ (pen0.kept ≡ []) = subst (λ (x : ℕ × AtPen). (owed_to x.0 x.1.owed ≡ [] → ⊥) ⊎ (x.1.kept ≡ [])) (λ j. (sym n_is j, sym pen_is j)) c.requires.settled in
-    let same : c.hand_out.new.pen ≡ record pen0 { carried = Some (known q); owed = pen0.owed } = c.in_err-handed.ensures.failed ∙ c.take_in.ensures.taken in
-    (
+    let same : c.hand_out.new.pen ≡ record pen0 { carried = Some (known q); owed = pen0.owed } = c.in_err-handed.ensures.failed ∙ c.take_in.ensures.taken in (
       room_taken g.T.Tag.note g.T.Tag.numbers o g.T.Tag.since inside.note pen0 c.hand_out.new.pen inside.board.kept out inside.issued (Some (known q)) pen0.owed i.0 same,
       i.1,
       i.2,
@@ -85,8 +84,7 @@ invariant_of-self-2 g c =
     let is_out : IsNoted out n k.session = i.3 refl n k.session (subst (λ (p : ℕ × ℕ). IsNoted pen0.noted p.0 p.1) (λ j. (at.number_is j, at.session_is j)) fits.is_noted) in
     let settled : (owed_to n pen0.owed ≡ [] → ⊥) ⊎ (pen0.kept ≡ []) = subst (λ (x : ℕ × AtPen). (owed_to x.0 x.1.owed ≡ [] → ⊥) ⊎ (x.1.kept ≡ [])) (λ j. (sym n_is j, sym pen_is j)) c.requires.settled in
     let handed = c.in_ok-handed.ensures.pen ∙ ap handing c.take_in.ensures.taken in
-    let same = pen_fetched g.T.Tag.note g.T.Tag.numbers o g.T.Tag.since inside.note pen0 inside.board.kept out inside.issued i.0 n k text q at fits is_out inside.waits.items inside.told.items ms i.5 settled c.hand_out.new.pen handed in
-    (
+    let same = pen_fetched g.T.Tag.note g.T.Tag.numbers o g.T.Tag.since inside.note pen0 inside.board.kept out inside.issued i.0 n k text q at fits is_out inside.waits.items inside.told.items ms i.5 settled c.hand_out.new.pen handed in (
       room_taken g.T.Tag.note g.T.Tag.numbers o g.T.Tag.since inside.note pen0 c.hand_out.new.pen inside.board.kept out inside.issued None (without n pen0.owed) i.0 same,
       i.1,
       i.2,
