@@ -1,5 +1,5 @@
 -- Lines that waited together, written with their numbers.
-use Rattle.std.proofs.Common.{◌≡◌, ◌≢◌, ◌⊎◌, inl, inr, ℕ, suc, ◌+◌, Bool, List, [], ◌∷◌, ◌++◌, length, drop, cond, Option, Some, None, refl, sym, ap, ◌∙◌, subst, arith, length-append, append_assoc, append-nil, eq-eqb, ne_eqb}
+use Rattle.std.proofs.Common.{◌≡◌, ◌≢◌, ◌⊎◌, inl, inr, ℕ, suc, ◌+◌, ◌==◌, Bool, List, [], ◌∷◌, ◌++◌, length, drop, cond, Option, Some, None, refl, sym, ap, ◌∙◌, subst, arith, length-append, append_assoc, append-nil, eq-eqb, eqb-true, ne_eqb}
 use Rattle.std.specs.Prelude.{true, false, is_some}
 use Rattle.std.proofs.Math.Seq.{drop-append_seam}
 use mathlib.Core.Option.{some}
@@ -121,6 +121,16 @@ module _ (failed : Bool) (out : List (ℕ × ℕ)) (once : AllOnce out) where
       λ e. single out once t x.0 n (subst (IsNoted out x.0) (sym (session_is m all.0 x.0) ∙ e) a.0) i,
       own_numbered t n i ws ms a.2 all.1,
     )
+
+no_long : {X : Type 0} (xs : List X) → length xs ≡ 0 → xs ≡ []
+no_long [] e = refl
+no_long (x ∷ xs) e = absurd (omega (arith, e))
+
+pub empty_is : {X : Type 0} (n : ℕ) (xs : List X) → n ≡ length xs → (n == 0) ≡ true → xs ≡ []
+empty_is n xs long e = no_long xs (sym long ∙ eqb-true n 0 e)
+
+pub some_is : {X : Type 0} (n : ℕ) (xs : List X) → n ≡ length xs → (n == 0) ≡ false → xs ≡ [] → ⊥
+some_is n xs long e none = Rattle.std.proofs.lemmas.Bool.false≢true (sym e ∙ eq-eqb n 0 (long ∙ ap length none))
 
 -- where no member waits, no line is kept
 pub none_kept_lines : (ws : List (ℕ × Reply)) (ms : List AtMember) → ms ≡ [] → kept_lines ws ms ≡ []

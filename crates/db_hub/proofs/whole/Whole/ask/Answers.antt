@@ -161,6 +161,38 @@ write_from-requires-clause-lines g c =
     let from_is : from ≡ length inside.board.kept.steps = ap length c.steps-from.ensures in
     as_long g.T.Tag.note g.T.Tag.numbers o since inside.note pen0 inside.board.kept out inside.issued i.0 n k.session is_out carries none ∙ sym from_is
 
+pub leave-requires-clause-note : goal.leave-requires-clause-note
+leave-requires-clause-note g c =
+    let inside = c.self.inside in
+    let i = c.self.invariant in
+    let o = g.T.Tag.opened in
+    let since = g.T.Tag.since in
+    let n : ℕ = c.args.number in
+    let k : AtDesk = c.args.desk.now in
+    let out : List (ℕ × ℕ) = inside.out.items in
+    let ks = inside.waiting.members.items in
+    let r = c.requires.ready in
+    let pen0 : AtPen = inside.pen in
+    let pen_is : pen0 ≡ c.args.self.now.pen = ap (λ (w : AtWhole _). w.pen) c.self.view_is in
+    let board_is : inside.board.kept ≡ c.args.self.now.board.kept = ap (λ (w : AtWhole _). w.board.kept) c.self.view_is in
+    let agree : Agrees inside.board.kept k = subst (λ (x : Kept). Agrees x k) (sym board_is) r.agree in
+    let is_out : IsNoted out n k.session = subst (λ (l : List (ℕ × ℕ)). IsNoted l n k.session) (sym (ap (λ (w : AtWhole _). w.out) c.self.view_is)) r.is_out in
+    let carries : CarriesFor pen0 n k.session = subst (λ (p : AtPen). CarriesFor p n k.session) (sym pen_is) r.carries in
+    let none : kept_for n pen0.kept ≡ None = ap (λ (p : AtPen). kept_for n p.kept) pen_is ∙ r.keeps_none in
+    let told = c.in_ok-told.told in
+    let e = c.in_ok-told.ensures in
+    let q = inside.queue in
+    let board1 = c.offer.new.self in
+    let grows = offered_grows g.J.Log inside.board board1 k c.offer.new.desk q c.offer.new.queue ks c.offer.new.waiting.members.items c.args.text.now c.args.stmt.now agree c.requires.may.line told e.first e.answered e.ticketed in
+    let from : ℕ = length c.steps-from.result.now in
+    let from_is : from ≡ length inside.board.kept.steps = ap length c.steps-from.ensures in
+    let h : IsTicketed inside.board board1 k c.offer.new.desk q c.offer.new.queue ks c.offer.new.waiting.members.items c.args.text.now c.in-Ticketed.ticket c.in-Ticketed.reply = subst (λ (x : Offered). IfTicketed x (IsTicketed inside.board board1 k c.offer.new.desk q c.offer.new.queue ks c.offer.new.waiting.members.items c.args.text.now)) c.in-Ticketed.is e.ticketed in
+    let more : List Step = k.waiting in
+    let gr = ticketed_grows g.J.Log inside.board board1 k c.offer.new.desk q c.offer.new.queue ks c.offer.new.waiting.members.items c.args.text.now c.args.stmt.now agree c.requires.may.line c.in-Ticketed.ticket c.in-Ticketed.reply h in
+    let stands = ticketed_stands g.J.Log inside.board board1 k c.offer.new.desk q c.offer.new.queue ks c.offer.new.waiting.members.items c.args.text.now c.args.stmt.now agree c.requires.may.line c.in-Ticketed.ticket c.in-Ticketed.reply h in
+    let wrote : c.write_from.new.pen ≡ written_all n (drop from board1.kept.steps) pen0 = c.write_from.ensures ∙ ap (λ (ss : List Step). written_all n (drop from ss) pen0) c.steps.ensures in
+    (room_grown g.T.Tag.note g.T.Tag.numbers o since inside.note pen0 inside.board.kept out inside.issued i.0 n k.session is_out carries none board1.kept more gr stands c.write_from.new.pen from from_is wrote).pen_is ∙ sym (room_grown g.T.Tag.note g.T.Tag.numbers o since inside.note pen0 inside.board.kept out inside.issued i.0 n k.session is_out carries none board1.kept more gr stands c.write_from.new.pen from from_is wrote).note_is
+
 pub leave-requires-clause-carries : goal.leave-requires-clause-carries
 leave-requires-clause-carries g c =
     let inside = c.self.inside in

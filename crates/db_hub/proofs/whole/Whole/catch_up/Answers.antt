@@ -64,7 +64,7 @@ returns-in_ok-give_back-in-Err-clause-failed g c =
     let v : AtSeat = c.enter_lines.new.seat in
     let w2 = c.enter_lines.new.self in
     let v_is : v ≡ seat_at s.number None s.desk = c.in-Err.ensures.failed.1 ∙ taken.seat in
-    inr (inr (stays g.T.Tag.opened g.T.Tag.since w0 w1 w2 s t taken ready s.desk c.give_back-2.new.seat (subst (λ (x : AtSeat). IsGiven w2.pen x c.give_back-2.new.seat) v_is c.in_ok-give_back-in-Err.ensures.given) [] (ap (λ (p : AtPen). p.lines) c.in-Err.ensures.failed.0 ∙ sym (append-nil w1.pen.lines)) refl refl))
+    inr (inr (stays g.T.Tag.opened g.T.Tag.since w0 w1 w2 s t taken ready s.desk c.give_back-in-Err.new.seat (subst (λ (x : AtSeat). IsGiven w2.pen x c.give_back-in-Err.new.seat) v_is c.in_ok-give_back-in-Err.ensures.given) [] (ap (λ (p : AtPen). p.lines) c.in-Err.ensures.failed.0 ∙ sym (append-nil w1.pen.lines)) refl refl))
 
 pub returns-in_err-give_back-in-Err-clause-failed : goal.returns-in_err-give_back-in-Err-clause-failed
 returns-in_err-give_back-in-Err-clause-failed g c =

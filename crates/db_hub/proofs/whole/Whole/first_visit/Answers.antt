@@ -31,8 +31,8 @@ unreachable-requires g c =
     let text : List ℕ = c.args.text.now in
     absurd ((c.in_ok-offer_line.ensures.settle c.in-None.is).1 c.settle_all.ensures.none)
 
-pub returns-in-Some-2-clause-served : goal.returns-in-Some-2-clause-served
-returns-in-Some-2-clause-served g c =
+pub returns-clause-served : goal.returns-clause-served
+returns-clause-served g c =
     let s : AtSeat = c.args.seat.now in
     let t : AtSeat = c.offer_line.new.seat in
     let h = c.in_ok-visit.ensures.settle c.in_default.is in
@@ -40,8 +40,8 @@ returns-in-Some-2-clause-served g c =
     let u : AtSeat = c.offer_line-2.new.seat in
     served_then g.T.Tag.opened s t u h.0 text c.in-Some-2.visit (subst (λ (x : Option (Visit _ _ _ _)). IfSome x (λ y. IfServed y (SeatVisited g.T.Tag.opened t u text))) c.in-Some-2.is c.in_ok-offer_line.ensures.served)
 
-pub returns-in-Some-2-clause-left : goal.returns-in-Some-2-clause-left
-returns-in-Some-2-clause-left g c =
+pub returns-clause-left : goal.returns-clause-left
+returns-clause-left g c =
     let s : AtSeat = c.args.seat.now in
     let t : AtSeat = c.offer_line.new.seat in
     let h = c.in_ok-visit.ensures.settle c.in_default.is in

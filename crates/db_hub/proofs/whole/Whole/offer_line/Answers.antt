@@ -81,24 +81,6 @@ give_back-requires-in-Settle g c =
     let after : IsHere g.T.Tag.opened g.T.Tag.since w2 v = subst (λ (x : Asked). UnlessWaits x (IsHere g.T.Tag.opened g.T.Tag.since w2 v)) c.in-Settle.is c.in-Ok.ensures.here in
     after
 
-pub give_back-requires-in-Err : goal.give_back-requires-in-Err
-give_back-requires-in-Err g c =
-    let s : AtSeat = c.args.seat.now in
-    let t : AtSeat = c.take_pass.new.seat in
-    let w0 = c.args.self.now in
-    let w1 = c.take_pass.new.self in
-    let text : List ℕ = c.args.text.now in
-    let taken : IsTaken w0 w1 s t = c.in_ok-take_pass.ensures.taken in
-    let here : IsHere g.T.Tag.opened g.T.Tag.since w1 t = c.in_ok-take_pass.ensures.here in
-    let n_is : t.number ≡ s.number = ap (λ (x : AtSeat). x.number) taken.seat in
-    let k_is : t.desk ≡ s.desk = ap (λ (x : AtSeat). x.desk) taken.seat in
-    let ready : IsReady g.T.Tag.opened g.T.Tag.since w1 s.number s.desk = subst (λ (x : AtSeat). IsReady g.T.Tag.opened g.T.Tag.since w1 x.number x.desk) taken.seat here.ready in
-    let v : AtSeat = c.ask_at.new.seat in
-    let w2 = c.ask_at.new.self in
-    let l : AtDesk = v.desk in
-    let v_is : v ≡ seat_at s.number None l = c.ask_at.ensures.seat ∙ ap (λ (j : ℕ). seat_at j None l) n_is in
-    c.in-Err.ensures.failed.2
-
 pub returns-in_ok-pass-in-Waits-clause-left : goal.returns-in_ok-pass-in-Waits-clause-left
 returns-in_ok-pass-in-Waits-clause-left g c =
     let s : AtSeat = c.args.seat.now in
@@ -136,7 +118,7 @@ returns-in_ok-give_back-in-Told-clause-served g c =
     let v_is : v ≡ seat_at s.number None l = c.ask_at.ensures.seat ∙ ap (λ (j : ℕ). seat_at j None l) n_is in
     let a : AnswersNow w1 w2 s.number s.desk l text c.in-Told.reply = subst (λ (x : ℕ × AtDesk). AnswersNow w1 w2 x.0 x.1 l text c.in-Told.reply) (λ j. (n_is j, k_is j)) (subst (λ (x : Asked). IfTold x (AnswersNow w1 w2 t.number t.desk l text)) c.in-Told.is c.in-Ok.ensures.told) in
     let after : IsHere g.T.Tag.opened g.T.Tag.since w2 v = subst (λ (x : Asked). UnlessWaits x (IsHere g.T.Tag.opened g.T.Tag.since w2 v)) c.in-Told.is c.in-Ok.ensures.here in
-    visited g.T.Tag.opened g.T.Tag.since w0 w1 w2 s t taken ready l c.give_back-2.new.seat text c.in-Told.reply a (subst (λ (x : AtSeat). IsReady g.T.Tag.opened g.T.Tag.since w2 x.number x.desk) v_is after.ready) (subst (λ (x : AtSeat). IsGiven w2.pen x c.give_back-2.new.seat) v_is c.in_ok-give_back-in-Told.ensures.given)
+    visited g.T.Tag.opened g.T.Tag.since w0 w1 w2 s t taken ready l c.give_back-in-Told.new.seat text c.in-Told.reply a (subst (λ (x : AtSeat). IsReady g.T.Tag.opened g.T.Tag.since w2 x.number x.desk) v_is after.ready) (subst (λ (x : AtSeat). IsGiven w2.pen x c.give_back-in-Told.new.seat) v_is c.in_ok-give_back-in-Told.ensures.given)
 
 pub returns-in_ok-give_back-in-Settle-clause-settle : goal.returns-in_ok-give_back-in-Settle-clause-settle
 returns-in_ok-give_back-in-Settle-clause-settle g c =
@@ -157,7 +139,7 @@ returns-in_ok-give_back-in-Settle-clause-settle g c =
     let f : SettlesFirst w1 w2 s.desk l = subst (λ (x : AtDesk). SettlesFirst w1 w2 x l) k_is (subst (λ (x : Asked). IfSettle x (SettlesFirst w1 w2 t.desk l)) c.in-Settle.is c.in-Ok.ensures.settle) in
     let after : IsHere g.T.Tag.opened g.T.Tag.since w2 v = subst (λ (x : Asked). UnlessWaits x (IsHere g.T.Tag.opened g.T.Tag.since w2 v)) c.in-Settle.is c.in-Ok.ensures.here in
     λ none. (
-      looked g.T.Tag.opened g.T.Tag.since w0 w1 w2 s t taken ready l c.give_back-3.new.seat (subst (λ (x : AtSeat). IsGiven w2.pen x c.give_back-3.new.seat) v_is c.in_ok-give_back-in-Settle.ensures.given) [] (ap (λ (x : AtWhole _). x.pen.lines) f.whole ∙ sym (append-nil w1.pen.lines)) refl f.desk,
+      looked g.T.Tag.opened g.T.Tag.since w0 w1 w2 s t taken ready l c.give_back-in-Settle.new.seat (subst (λ (x : AtSeat). IsGiven w2.pen x c.give_back-in-Settle.new.seat) v_is c.in_ok-give_back-in-Settle.ensures.given) [] (ap (λ (x : AtWhole _). x.pen.lines) f.whole ∙ sym (append-nil w1.pen.lines)) refl f.desk,
       λ kept. f.some_wait (taken.kept ∙ kept),
       c.in_ok-give_back-in-Settle.ensures.free,
     )

@@ -9,7 +9,9 @@ use Rattle.db_core.specs.Waiting.{members_of}
 use Rattle.db_hub.specs.Rooms.{AllOutIf, StoresSince}
 use Rattle.db_hub.specs.Left.{LinesFit, written_for, told_all, MayWriteAll}
 use Rattle.db_hub.specs.Served.{AtWhole}
-use Rattle.db_hub.proofs.Batches.{none_carried, none_kept_lines, as_many, new_steps, steps_long, may, kept_none, free_still, noted_same, room_settled, lines_settled}
+use Rattle.db_hub.proofs.Batches.{none_carried, none_kept_lines, empty_is, some_is, as_many, new_steps, steps_long, may, kept_none, free_still, noted_same, room_settled, lines_settled}
+use Rattle.db_hub.proofs.Counted.{length_steps}
+use Rattle.db_hub.proofs.Asking.{no_waiting}
 use Rattle.db_hub.proofs.Storing.{since_settled}
 use Rattle.db_hub.proofs.whole.Whole.settle_all.Goals as goal
 
@@ -39,6 +41,11 @@ write_members-requires-clause-within g c =
     let waits = ap length c.as_slice.ensures.value in
     omega (arith, long, many, from, all, waits)
 
+pub write_members-requires-clause-lines : goal.write_members-requires-clause-lines
+write_members-requires-clause-lines g c =
+    let inside = c.self.inside in
+    sym (length_steps inside.pen.lines) ∙ sym (ap length c.self.invariant.0.steps_are) ∙ sym (ap length c.steps-from.ensures)
+
 pub invariant_of-self : goal.invariant_of-self
 invariant_of-self g c =
     let inside = c.self.inside in
@@ -56,7 +63,7 @@ invariant_of-self g c =
     let empty : c.replace-waits.new.dest.items ≡ [] = ap (λ v. v.items) c.replace-waits.ensures.after ∙ c.new.ensures.items in (
       room_settled g.T.Tag.note g.T.Tag.numbers g.T.Tag.opened g.T.Tag.since inside.note inside.pen b inside.out.items inside.issued i.0 inside.waits.items inside.told.items ms i.5 free failed i.4.each i.4.apart pen1 is c.settle-settled.new.self.kept s.settled.kept s.stands,
       ap (λ (k : Kept). k.first_count) s.settled.kept ∙ i.1,
-      since_settled g.J.Log g.T.LogTag.log inside.board c.settle-settled.new.self failed ms ? i.0.stands i.4.each i.4.apart s.settled i.2,
+      since_settled g.J.Log g.T.LogTag.log inside.board c.settle-settled.new.self failed ms (λ e. some_is inside.waiting.members.len ks inside.waiting.members.ok.0 (sym c.is_empty.ensures ∙ c.if-is_empty.false) (no_waiting ks e)) i.0.stands i.4.each i.4.apart s.settled i.2,
       subst (λ (ns : List (ℕ × ℕ)). AllOutIf true ns inside.out.items) (sym (noted_same g.T.Tag.note g.T.Tag.numbers g.T.Tag.opened g.T.Tag.since inside.note inside.pen b inside.out.items inside.issued i.0 inside.waits.items inside.told.items ms i.5 free failed i.4.each i.4.apart pen1 is)) i.3,
       s.offered,
       subst (λ (x : List (ℕ × Reply) × List AtMember). LinesFit inside.out.items pen1 x.0 c.tell_all.new.told.items x.1) (λ j. (sym empty j, members_of (sym s.none j))) (lines_settled g.T.Tag.note g.T.Tag.numbers g.T.Tag.opened g.T.Tag.since inside.note inside.pen b inside.out.items inside.issued i.0 inside.waits.items inside.told.items ms i.5 free failed i.4.each i.4.apart pen1 is c.tell_all.new.told.items told),
@@ -97,7 +104,13 @@ pub returns-clause-members : goal.returns-clause-members
 returns-clause-members g c = ap members_of c.settle-settled.ensures.none
 
 pub returns-then-is_empty-clause-none : goal.returns-then-is_empty-clause-none
-returns-then-is_empty-clause-none g c = ?
+returns-then-is_empty-clause-none g c =
+    let inside = c.self.inside in
+    let empty = empty_is inside.waiting.members.len inside.waiting.members.items inside.waiting.members.ok.0 (sym c.is_empty.ensures ∙ c.if-is_empty.true) in
+    ap (λ (w : AtWhole _). w.pen.kept) (sym c.self.view_is) ∙ c.self.invariant.5.kept_are ∙ none_kept_lines inside.waits.items (members_of inside.waiting.members.items) (ap members_of empty)
 
 pub returns-then-is_empty-clause-members : goal.returns-then-is_empty-clause-members
-returns-then-is_empty-clause-members g c = ?
+returns-then-is_empty-clause-members g c =
+    let inside = c.self.inside in
+    let empty = empty_is inside.waiting.members.len inside.waiting.members.items inside.waiting.members.ok.0 (sym c.is_empty.ensures ∙ c.if-is_empty.true) in
+    ap (λ (w : AtWhole _). w.members) (sym c.self.view_is) ∙ ap members_of empty
