@@ -1,10 +1,11 @@
-use Rattle.std.proofs.Common.{◌≡◌, ◌++◌, ℕ, List, length, take, drop, sym, ap, ◌∙◌, subst, arith}
+use Rattle.std.proofs.Common.{◌≡◌, ◌++◌, ℕ, List, length, take, drop, refl, sym, ap, ◌∙◌, subst, arith}
 use Rattle.atomic_table.specs.Seated.{TableId}
 use Rattle.db_value.specs.declared.step.Step.{Step}
 use Rattle.db_store.specs.State.{State}
 use Rattle.db_value.specs.declared.reply.Reply.{Reply}
 use Rattle.db_core.specs.Waiting.{members_of}
 use Rattle.db_core.proofs.Batches.{offered_none}
+use Rattle.db_core.proofs.Hearing.{steps_none}
 use Rattle.db_hub.specs.Left.{LinesFit}
 use Rattle.db_hub.specs.Own.{AllNoted}
 use Rattle.db_hub.proofs.Batches.{lines_none}
@@ -14,6 +15,12 @@ use Rattle.session_run.proofs.Loops.{written_back}
 use Rattle.session_run.proofs.Placing.{as_many, as_many_run, run_of}
 use Rattle.session_run.proofs.Finishing.{not_run, beginning, interleaved}
 use Rattle.session_run.proofs.run.run_named.Goals as goal
+
+pub returns-clause-err : goal.returns-clause-err
+returns-clause-err g c = not_run c.args.sections.now c.args.board.kept c.args.board.kept c.requires.board refl
+
+pub returns-clause-stored-2 : goal.returns-clause-stored-2
+returns-clause-stored-2 g c = steps_none g.J.Log c.args.board c.requires.board.1
 
 pub returns-in-Err-clause-err : goal.returns-in-Err-clause-err
 returns-in-Err-clause-err g c =
