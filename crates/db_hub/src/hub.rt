@@ -1,44 +1,78 @@
-//! The room under a lock.
-ghost use Rattle.std.specs.Prelude.{◌≡◌, [], true, false, is_some, IfOk, IfErr, OnErr};
+//! What threads share: a board and its note under a lock.
+ghost use Rattle.std.specs.Prelude.{◌≡◌, [], Some, true, false, is_some, IfOk, IfErr, OnErr};
+ghost use Rattle.history_note.specs.Shown.{is_carrying};
+ghost use Rattle.db_core.specs.Desk.{waits};
 ghost use Rattle.db_core.specs.Order.{said_of};
 ghost use Rattle.db_core.specs.Sits.{heard};
 ghost use Rattle.db_core.specs.Kept.{Stands};
 ghost use Rattle.db_hub.specs.Entered.{steps_of};
 ghost use Rattle.db_hub.specs.Own.{AllNoted};
 ghost use Rattle.db_hub.specs.Rooms.{StoresSince};
-ghost use Rattle.db_hub.specs.Seats.{SeatVisited, SeatClosed, SeatFailed};
+ghost use Rattle.db_hub.specs.Seats.{SeatClosed, SeatFailed};
+ghost use Rattle.db_hub.specs.Served.{SeatServed};
 
 use crate::room::{Room, Shut};
 use crate::seat::Seat;
 use crate::tag::LogTag;
+use crate::whole::{Visit, Whole};
+use db_core::Waiting;
 use db_store::Store;
 use db_value::{LineText, Reply};
 use entry_codec::Log;
+use flush_queue::FlushQueue;
 use history_note::Pass;
 use std::alloc::AllocError;
+use std::marker::PhantomData;
 use std::sync::{Mutex, Wait};
+use std::thread;
 use stmt_text::Stmt;
 
-/// A hub is a room under a lock, which threads share. All seats of the room stay out: one that was
-/// given up goes on to be listed.
+/// A hub is what a room has, and the lines that wait for the log together, under a lock, which threads
+/// share. All seats of the room stay out: one that was given up goes on to be listed.
 #[derive(Drop)]
 pub struct Hub<St: Store, J: Log<St>, T: LogTag<J>> {
-    pub lock: Mutex<Room<St, J, T>>,
+    pub lock: Mutex<Whole<St, J, T>>,
     ghost stays: { T.stays ≡ true },
 }
 
 impl<St: Store, J: Log<St>, T: LogTag<J>> Hub<St, J, T> {
-    /// A hub of a room, on which the seats were made before.
-    pub fn new(room: Room<St, J, T>) -> Hub<St, J, T>
-        requires { T.stays ≡ true }
+    /// A hub of a room, on which the seats were made before, and of a queue and members, of which none
+    /// waits.
+    pub fn new(room: Room<St, J, T>, queue: FlushQueue, waiting: Waiting<St>) -> Hub<St, J, T>
+        requires stays { T.stays ≡ true }
+        requires none { (queue.waiting ≡ []) × (waiting.members.items ≡ []) }
     {
+        let Room {
+            alloc,
+            board,
+            note,
+            pen,
+            out,
+            issued,
+            ..
+        } = room;
+        let whole = Whole {
+            alloc,
+            board,
+            note,
+            pen,
+            out,
+            issued,
+            queue,
+            waiting,
+            waits: Vec::new(alloc),
+            told: Vec::new(alloc),
+            of: PhantomData,
+        };
         Hub {
-            lock: Mutex::new(room),
+            lock: Mutex::new(whole),
         }
     }
 
     /// Enters the lines that wait at the seat's desk, and then answers one more and enters it, for a
-    /// line to which `local` answered None.
+    /// line to which `local` answered None. A line that ends its transaction with a commit waits for
+    /// its batch in between, and other sessions may go on: their lines may then stand before it and
+    /// behind it.
     pub fn line<R: Wait>(
         &self,
         rt: &R,
@@ -46,11 +80,21 @@ impl<St: Store, J: Log<St>, T: LogTag<J>> Hub<St, J, T> {
         text: &LineText,
         stmt: &Stmt,
     ) -> Result<Reply, AllocError>
-        requires { said_of text.now false ≡ heard seat.old.desk.session stmt.now }
-        ensures seat { IfOk result (SeatVisited T.opened seat.old seat.new text.now) }
+        requires line { said_of text.now false ≡ heard seat.old.desk.session stmt.now }
+        requires local { waits seat.old.desk (Some stmt.now) ≡ false }
+        ensures seat { IfOk result (SeatServed T.opened seat.old seat.new text.now) }
         ensures failed { OnErr result (SeatFailed seat.old seat.new) }
     {
-        self.lock.lock(rt).visit(seat, text, stmt)
+        let visit = self.lock.lock(rt).first_visit(seat, text, stmt)?;
+        match visit {
+            Visit::Served { reply } => Ok(reply),
+            Visit::Left { pass } => {
+                // Others may offer lines to the same batch.
+                thread::yield_now();
+                let reply = self.lock.lock(rt).second_visit(seat, pass, text)?;
+                Ok(reply)
+            }
+        }
     }
 
     /// Enters the lines that wait at the seat's desk, and gives the seat up. A seat whose session has a
@@ -64,7 +108,8 @@ impl<St: Store, J: Log<St>, T: LogTag<J>> Hub<St, J, T> {
         ensures ok { IfOk result (SeatClosed T.note T.opened seat) }
         ensures failed { IfErr result (λ e. SeatFailed seat e.1) }
     {
-        match self.lock.lock(rt).catch_up(&mut seat) {
+        let caught = self.lock.lock(rt).catch_up(&mut seat);
+        match caught {
             Err(stop) => Err((stop, seat)),
             Ok(()) => match seat.into_pass() {
                 None => unreachable!(),
@@ -74,7 +119,7 @@ impl<St: Store, J: Log<St>, T: LogTag<J>> Hub<St, J, T> {
     }
 
     /// The board, whose log did for its lines what a log does, the note and its pen, whose list is that
-    /// of the board's steps.
+    /// of the board's steps. Lines that wait are settled first, unless a pass was lost.
     pub fn into_board(self) -> Shut<St, J>
         ensures named { (result.note.note ≡ T.note) × (result.pen.note ≡ T.note) }
         ensures opened { (result.board.kept.opening ≡ T.opened)
@@ -83,15 +128,17 @@ impl<St: Store, J: Log<St>, T: LogTag<J>> Hub<St, J, T> {
         ensures stands { Stands result.board.kept
             × (result.board.kept.steps ≡ steps_of result.pen.lines) }
         ensures noted { AllNoted T.numbers result.pen.lines }
-        ensures owed { (result.pen.owed ≡ []) × (result.pen.kept ≡ []) }
+        ensures kept { is_carrying result.pen ≡ false → result.pen.kept ≡ [] }
     {
         let Hub { lock } = self;
-        let Room {
+        let mut whole = lock.into_inner();
+        whole.finish();
+        let Whole {
             board,
             note,
             pen,
             ..
-        } = lock.into_inner();
+        } = whole;
         Shut { board, note, pen }
     }
 }

@@ -21,7 +21,9 @@ mod keyed;
 mod room;
 mod seat;
 mod sessions;
+mod settling;
 mod tag;
+mod whole;
 mod writing;
 
 pub use hub::Hub;
@@ -29,3 +31,4 @@ pub use room::{Room, Shut};
 pub use seat::Seat;
 pub use sessions::SessionList;
 pub use tag::{LogTag, Tag};
+pub use whole::Whole;

@@ -29,13 +29,13 @@ use stmt_text::Stmt;
 /// lies under a lock, and threads share that.
 #[derive(Drop)]
 pub struct Room<St: Store, J: Log<St>, T: LogTag<J>> {
-    alloc: Global,
+    pub alloc: Global,
     pub board: Board<St, J>,
     pub note: Note<St>,
     pub pen: Pen<St>,
-    out: Vec<(u32, u32)>,
+    pub out: Vec<(u32, u32)>,
     desks: Vec<(u32, Desk<St>)>,
-    issued: u32,
+    pub issued: u32,
     of: PhantomData<T>,
 }
 
@@ -45,7 +45,7 @@ impl<St: Store, J: Log<St>, T: LogTag<J>> Model for Room<St, J, T> {
     ghost use Rattle.db_store.specs.Table.{contents_code};
     ghost use Rattle.branch_tx.specs.Granted.{granted_code};
     ghost use Rattle.db_hub.specs.Desks.{DesksFit};
-    ghost use Rattle.db_hub.specs.Rooms.{AtRoom, RoomFits, AllOutIf, StoresSince};
+    ghost use Rattle.db_hub.specs.Rooms.{AtRoom, RoomFits, IsQuiet, AllOutIf, StoresSince};
 
     ghost Value = { AtRoom J };
 
@@ -64,7 +64,8 @@ impl<St: Store, J: Log<St>, T: LogTag<J>> Model for Room<St, J, T> {
         × (r.board.kept.first_count ≡ T.first)
         × StoresSince J.Log T.log r.board
         × DesksFit r.board.kept r.pen.noted r.out.items r.desks.items
-        × AllOutIf T.stays r.pen.noted r.out.items };
+        × AllOutIf T.stays r.pen.noted r.out.items
+        × IsQuiet r.pen };
 }
 
 /// What a room leaves.

@@ -1,5 +1,5 @@
 -- Sections, their numbers, their jobs, and lists that are interleavings of them.
-use Rattle.std.specs.Prelude.{◌≡◌, ◌⊎◌, ℕ, ◌+◌, ◌==◌, Bool, true, false, List, [], ◌∷◌, ◌++◌, cond, Option, Some, IfSome, slice_get}
+use Rattle.std.specs.Prelude.{◌≡◌, ◌⊎◌, ℕ, ◌+◌, ◌==◌, Bool, true, false, List, [], ◌∷◌, ◌++◌, cond, Option, Some, None, IfSome, slice_get}
 use Rattle.atomic_table.specs.Seated.{TableId}
 use Rattle.db_value.specs.declared.step.Step.{Step}
 use Rattle.db_store.specs.State.{State}
@@ -132,6 +132,7 @@ pub record PassRan (note : TableId) (o : State) (k : ℕ) (section : Section) (w
   pub number_is : p.number ≡ k
   pub session_is : p.session ≡ section.session
   pub mine_is : p.mine ≡ places k p.seen
+  pub left_none : p.left ≡ None
   pub part : SaysPart o k (texts_in section.lines) section.session p.seen
   pub all : whole ≡ true → SaysAll o k (texts_in section.lines) section.session p.seen
 
@@ -161,10 +162,10 @@ AreRun note o k [] (j ∷ js) = ⊥
 AreRun note o k (s ∷ ss) [] = ⊥
 AreRun note o k (s ∷ ss) (j ∷ js) = JobRan note o k s j × AreRun note o (k + 1) ss js
 
--- each last pass is of the note
+-- each last pass is of the note, and left no line
 abbrev pub AreOf : TableId → List AtJob → Type 0
 AreOf note [] = Unit {0}
-AreOf note (j ∷ js) = IfSome j.last (λ p. p.note ≡ note) × AreOf note js
+AreOf note (j ∷ js) = IfSome j.last (λ p. (p.note ≡ note) × (p.left ≡ None)) × AreOf note js
 
 -- the last pass of each job is there, and fits the pen's list
 abbrev pub AreTied : AtPen → List AtJob → Type 0

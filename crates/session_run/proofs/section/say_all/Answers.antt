@@ -4,7 +4,7 @@ use Rattle.db_hub.specs.Entered.{steps_of}
 use Rattle.session_run.specs.Said.{HasLines, HasSaidPart}
 use Rattle.session_run.proofs.AbortText.{open_small}
 use Rattle.session_run.proofs.Saying.{failed_kept, on_err}
-use Rattle.session_run.proofs.Ending.{said_aborted, part_lines, keeps_same}
+use Rattle.session_run.proofs.Ending.{said_aborted, part_lines, keeps_same, abort_asked}
 use Rattle.session_run.proofs.section.say_all.Goals as goal
 
 pub abort_line-requires : goal.abort_line-requires
@@ -36,3 +36,9 @@ returns-in_ok-line-clause-said g c =
     let mid = c.run_lines.new.seat in
     let h = subst (λ (ls : List TextLine). HasLines ls c.args.seat.now mid) c.as_slice.ensures c.in_ok-run_lines.ensures.said in
     said_aborted g.T.Tag.opened c.args.section.now c.args.seat.now mid c.line.new.seat c.in_ok-text.text c.in_ok-line.field-0 c.requires h c.in_ok-line.ensures.seat c.in_ok-text.ensures.text c.in_ok-text.ensures.said (sym c.if-is_open.ensures.desk)
+
+pub line-requires-clause-local : goal.line-requires-clause-local
+line-requires-clause-local g c =
+    let mid = c.run_lines.new.seat in
+    let h = c.in_ok-run_lines.ensures.said in
+    abort_asked mid.desk (c.if-is_open.ensures.goes h.there c.if-is_open.true) (sym c.if-is_open.ensures.desk ∙ c.if-is_open.true)

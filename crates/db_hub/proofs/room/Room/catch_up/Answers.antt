@@ -7,7 +7,7 @@ use Rattle.db_core.specs.Kept.{Kept}
 use Rattle.db_core.specs.Desk.{AtDesk, entered}
 use Rattle.db_hub.specs.Seats.{AtSeat, seat_at, PassFits, PassFitsIf, SeatCaughtUp, SeatFailed}
 use Rattle.db_hub.specs.Rooms.{AtRoom, RoomStays, PenGrown, PassGrown}
-use Rattle.db_hub.proofs.Visits.{is_out, caught_by, same_caught, first_caught, on_ok, noted_now, grows_caught, caught_now, failed_caught, agree, issued_now, as_many, owes_still, keeps_still, carries_it, room_for, room_now, desks_now, stays_now, whole_now, pass_now}
+use Rattle.db_hub.proofs.Visits.{is_out, caught_by, same_caught, first_caught, on_ok, noted_now, grows_caught, caught_now, failed_caught, agree, issued_now, as_many, owes_still, keeps_still, carries_it, room_for, room_now, desks_now, stays_now, quiet_now, whole_now, pass_now}
 use Rattle.db_hub.proofs.Storing.{since_caught}
 use Rattle.db_hub.proofs.room.Room.catch_up.Goals as goal
 
@@ -70,8 +70,8 @@ write_and_give-requires-clause-ready g c =
     record {
       issued = issued_now named numbers o since note pen0 board out issued rf n k q pf pen1 taken fits i;
       carried = carries_it named numbers o since note pen0 board out issued rf n k q pf pen1 taken fits i;
-      owes_nothing = owes_still named numbers o since note pen0 board out issued rf n k q pf pen1 taken fits i;
-      keeps_nothing = keeps_still named numbers o since note pen0 board out issued rf n k q pf pen1 taken fits i;
+      owes_none = owes_still named numbers o since note pen0 board out issued rf n k q pf pen1 taken fits i;
+      keeps_none = keeps_still named numbers o since note pen0 board out issued rf n k q pf pen1 taken fits i;
       within = subst (λ (m : ℕ). m ≤ length c.steps.result.now) (sym from_is) (subst (λ (ss : List Step). length board.steps ≤ length ss) (sym c.steps.ensures) (room_for named numbers o since note pen0 board out issued rf n k q pf pen1 taken fits i grown2 more.0 more.1 now.stands));
       at = as_many named numbers o since note pen0 board out issued rf n k q pf pen1 taken fits i ∙ sym from_is;
     }
@@ -114,6 +114,7 @@ invariant_of-self g c =
       since_caught g.J.Log g.T.LogTag.log c.self.inside.board c.enter-told.new.self k k1 (agree named numbers o since note pen0 board out issued rf n k q pf pen1 taken fits i) c.self.invariant.2 c.enter-told.result c.enter-told.ensures.ok c.enter-told.ensures.err,
       desks_now named numbers o since note pen0 board out issued rf n k q pf pen1 taken fits i grown2 more.0 more.1 now.stands pen2 from from_is grown c.self.inside.desks.items c.self.invariant.3,
       stays_now named numbers o since note pen0 board out issued rf n k q pf pen1 taken fits i grown2 more.0 more.1 now.stands pen2 from from_is grown g.T.Tag.stays c.self.invariant.4,
+      quiet_now named numbers o since note pen0 board out issued rf n k q pf pen1 taken fits i pen2 c.write_and_give.ensures.keeps c.self.invariant.5,
     )
 
 pub invariant_of-self-2 : goal.invariant_of-self-2
@@ -154,6 +155,7 @@ invariant_of-self-2 g c =
       since_caught g.J.Log g.T.LogTag.log c.self.inside.board c.enter-told.new.self k k1 (agree named numbers o since note pen0 board out issued rf n k q pf pen1 taken fits i) c.self.invariant.2 c.enter-told.result c.enter-told.ensures.ok c.enter-told.ensures.err,
       desks_now named numbers o since note pen0 board out issued rf n k q pf pen1 taken fits i grown2 more.0 more.1 now.stands pen2 from from_is grown c.self.inside.desks.items c.self.invariant.3,
       stays_now named numbers o since note pen0 board out issued rf n k q pf pen1 taken fits i grown2 more.0 more.1 now.stands pen2 from from_is grown g.T.Tag.stays c.self.invariant.4,
+      quiet_now named numbers o since note pen0 board out issued rf n k q pf pen1 taken fits i pen2 c.write_and_give.ensures.keeps c.self.invariant.5,
     )
 
 pub returns-in_err-pass-clause-stays : goal.returns-in_err-pass-clause-stays

@@ -79,6 +79,7 @@ invariant_of-self-in-Ok g c =
       subst (λ (x : List (ℕ × ℕ) × List (ℕ × AtDesk)). DesksFit board inside.pen.noted x.0 x.1) (λ j. (sym c.take_at.ensures.rest j, sym items j))
           (desks_close board inside.pen.noted out desks c.self.invariant.3 rf.out_fits.once n s k i idle),
       λ stays. absurd (false≢true (sym c.requires.leaves ∙ stays)),
+      c.self.invariant.5,
     )
 
 pub returns-in-Some-take_at-clause-ok : goal.returns-in-Some-take_at-clause-ok

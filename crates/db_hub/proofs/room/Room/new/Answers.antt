@@ -2,7 +2,7 @@ use Rattle.std.proofs.Common.{ℕ, List, sym, subst}
 use Rattle.db_core.specs.Desk.{AtDesk}
 use Rattle.db_hub.specs.Desks.{DesksFit}
 use Rattle.db_hub.specs.Rooms.{RoomFits, AllOutIf}
-use Rattle.db_hub.proofs.Giving.{room_new, desks_new, stays_new}
+use Rattle.db_hub.proofs.Giving.{room_new, desks_new, stays_new, quiet_new}
 use Rattle.db_hub.proofs.Storing.{since_none}
 use Rattle.db_hub.proofs.room.Room.new.Goals as goal
 
@@ -14,4 +14,5 @@ invariant_of-result g c = (
   since_none g.J.Log g.T.LogTag.log c.args.board c.requires.board.1 c.requires.log,
   subst (λ (x : List (ℕ × ℕ) × List (ℕ × AtDesk)). DesksFit c.args.board.kept c.args.pen.noted x.0 x.1) (λ i. (sym c.new.ensures.items i, sym c.new-2.ensures.items i)) (desks_new c.args.board.kept c.args.note c.args.pen c.requires.pen),
   subst (AllOutIf g.T.Tag.stays c.args.pen.noted) (sym c.new.ensures.items) (stays_new g.T.Tag.stays c.args.note c.args.pen c.requires.pen),
+  quiet_new c.args.note c.args.pen c.requires.pen,
 )

@@ -7,9 +7,9 @@ use Rattle.db_core.specs.Kept.{Kept}
 use Rattle.db_core.specs.Desk.{AtDesk, IsDeskOf, new_desk}
 use Rattle.db_hub.specs.Keyed.{at_key}
 use Rattle.db_hub.specs.Desks.{DesksFit}
-use Rattle.db_hub.specs.Rooms.{AtRoom, AllOutIf, IsBehind, giving}
+use Rattle.db_hub.specs.Rooms.{AtRoom, IsQuiet, AllOutIf, IsBehind, giving}
 use Rattle.db_hub.proofs.Leaving.{desks_give}
-use Rattle.db_hub.proofs.Giving.{room_same, room_given, stays_more, not_issued, given_desk, schema_now, pass_new}
+use Rattle.db_hub.proofs.Giving.{room_same, room_given, quiet_noting, stays_more, not_issued, given_desk, schema_now, pass_new}
 use Rattle.db_hub.proofs.room.Room.seat.Goals as goal
 
 pub issue-requires-clause-new : goal.issue-requires-clause-new
@@ -49,6 +49,7 @@ invariant_of-self-in_err-pass g c =
       c.self.invariant.2,
       subst (λ (x : AtPen × List (ℕ × ℕ)). DesksFit board x.0.noted x.1 desks) (λ j. (sym c.in_err-pass.ensures.failed j, sym c.reserve.ensures.items j)) c.self.invariant.3,
       subst (λ (x : AtPen × List (ℕ × ℕ)). AllOutIf g.T.Tag.stays x.0.noted x.1) (λ j. (sym c.in_err-pass.ensures.failed j, sym c.reserve.ensures.items j)) c.self.invariant.4,
+      subst IsQuiet (sym c.in_err-pass.ensures.failed) c.self.invariant.5,
     )
 
 pub invariant_of-result : goal.invariant_of-result
@@ -99,6 +100,7 @@ invariant_of-self-2 g c =
       c.self.invariant.2,
       subst (λ (x : AtPen × List (ℕ × ℕ) × List (ℕ × AtDesk)). DesksFit board x.0.noted x.1 x.2) (λ j. (sym c.in_ok-pass.ensures.pen j, sym out_is j, sym c.take_at.ensures.rest j)) (desks_give board pen0.noted out desks c.self.invariant.3 issued session),
       stays_more named numbers o since note pen0 board out issued rf session g.T.Tag.stays c.issue.new.pen c.push_reserved.new.self.items c.in_ok-pass.ensures.pen out_is c.self.invariant.4,
+      quiet_noting issued session pen0 c.issue.new.pen c.in_ok-pass.ensures.pen c.self.invariant.5,
     )
 
 pub returns-clause-room : goal.returns-clause-room
@@ -158,4 +160,5 @@ invariant_of-self g c =
       c.self.invariant.2,
       subst (λ (x : List (ℕ × ℕ)). DesksFit board pen0.noted x desks) (sym c.reserve.ensures.items) c.self.invariant.3,
       subst (AllOutIf g.T.Tag.stays pen0.noted) (sym c.reserve.ensures.items) c.self.invariant.4,
+      c.self.invariant.5,
     )

@@ -10,7 +10,7 @@ use Rattle.db_core.specs.Answered.{Ran}
 use Rattle.db_core.specs.Desk.{AtDesk, entered}
 use Rattle.db_hub.specs.Seats.{AtSeat, seat_at, PassFits, PassFitsIf, SeatVisited, SeatFailed}
 use Rattle.db_hub.specs.Rooms.{AtRoom, RoomStays, PenGrown, PassGrown}
-use Rattle.db_hub.proofs.Visits.{is_out, told_by, first_told, on_ok, noted_now, grows_told, visited_told, failed_told, agree, issued_now, as_many, owes_still, keeps_still, carries_it, room_for, room_now, desks_now, stays_now, whole_now, pass_now}
+use Rattle.db_hub.proofs.Visits.{is_out, told_by, first_told, on_ok, noted_now, grows_told, visited_told, failed_told, agree, issued_now, as_many, owes_still, keeps_still, carries_it, room_for, room_now, desks_now, stays_now, quiet_now, whole_now, pass_now}
 use Rattle.db_hub.proofs.Storing.{since_told}
 use Rattle.db_hub.proofs.room.Room.visit.Goals as goal
 
@@ -100,8 +100,8 @@ write_and_give-requires-clause-ready g c =
     record {
       issued = issued_now named numbers o since note pen0 board out issued rf n k q pf pen1 taken fits i;
       carried = carries_it named numbers o since note pen0 board out issued rf n k q pf pen1 taken fits i;
-      owes_nothing = owes_still named numbers o since note pen0 board out issued rf n k q pf pen1 taken fits i;
-      keeps_nothing = keeps_still named numbers o since note pen0 board out issued rf n k q pf pen1 taken fits i;
+      owes_none = owes_still named numbers o since note pen0 board out issued rf n k q pf pen1 taken fits i;
+      keeps_none = keeps_still named numbers o since note pen0 board out issued rf n k q pf pen1 taken fits i;
       within = subst (λ (m : ℕ). m ≤ length c.steps.result.now) (sym from_is) (subst (λ (ss : List Step). length board.steps ≤ length ss) (sym c.steps.ensures) (room_for named numbers o since note pen0 board out issued rf n k q pf pen1 taken fits i grown2 more.0 more.1 now.stands));
       at = as_many named numbers o since note pen0 board out issued rf n k q pf pen1 taken fits i ∙ sym from_is;
     }
@@ -146,6 +146,7 @@ invariant_of-self g c =
       since_told g.J.Log g.T.LogTag.log c.self.inside.board c.visit-told.new.self k k1 (agree named numbers o since note pen0 board out issued rf n k q pf pen1 taken fits i) c.self.invariant.2 text c.visit-told.result c.visit-told.ensures.answered c.visit-told.ensures.err,
       desks_now named numbers o since note pen0 board out issued rf n k q pf pen1 taken fits i grown2 more.0 more.1 now.stands pen2 from from_is grown c.self.inside.desks.items c.self.invariant.3,
       stays_now named numbers o since note pen0 board out issued rf n k q pf pen1 taken fits i grown2 more.0 more.1 now.stands pen2 from from_is grown g.T.Tag.stays c.self.invariant.4,
+      quiet_now named numbers o since note pen0 board out issued rf n k q pf pen1 taken fits i pen2 c.write_and_give.ensures.keeps c.self.invariant.5,
     )
 
 pub invariant_of-self-2 : goal.invariant_of-self-2
@@ -188,6 +189,7 @@ invariant_of-self-2 g c =
       since_told g.J.Log g.T.LogTag.log c.self.inside.board c.visit-told.new.self k k1 (agree named numbers o since note pen0 board out issued rf n k q pf pen1 taken fits i) c.self.invariant.2 text c.visit-told.result c.visit-told.ensures.answered c.visit-told.ensures.err,
       desks_now named numbers o since note pen0 board out issued rf n k q pf pen1 taken fits i grown2 more.0 more.1 now.stands pen2 from from_is grown c.self.inside.desks.items c.self.invariant.3,
       stays_now named numbers o since note pen0 board out issued rf n k q pf pen1 taken fits i grown2 more.0 more.1 now.stands pen2 from from_is grown g.T.Tag.stays c.self.invariant.4,
+      quiet_now named numbers o since note pen0 board out issued rf n k q pf pen1 taken fits i pen2 c.write_and_give.ensures.keeps c.self.invariant.5,
     )
 
 pub returns-in_err-pass-clause-stays : goal.returns-in_err-pass-clause-stays
