@@ -16,11 +16,11 @@ use Rattle.session_run.proofs.Placing.{as_many, as_many_run, run_of}
 use Rattle.session_run.proofs.Finishing.{not_run, beginning, interleaved}
 use Rattle.session_run.proofs.run.run_named.Goals as goal
 
-pub returns-clause-err : goal.returns-clause-err
-returns-clause-err g c = not_run c.args.sections.now c.args.board.kept c.args.board.kept c.requires.board refl
+pub returns-in_default-clause-err : goal.returns-in_default-clause-err
+returns-in_default-clause-err g c = not_run c.args.sections.now c.args.board.kept c.args.board.kept c.requires.board refl
 
-pub returns-clause-stored-2 : goal.returns-clause-stored-2
-returns-clause-stored-2 g c = steps_none g.J.Log c.args.board c.requires.board.1
+pub returns-in_default-clause-stored : goal.returns-in_default-clause-stored
+returns-in_default-clause-stored g c = steps_none g.J.Log c.args.board c.requires.board.1
 
 pub returns-in-Err-clause-err : goal.returns-in-Err-clause-err
 returns-in-Err-clause-err g c =
@@ -31,8 +31,8 @@ pub tie_all-requires-clause-passes : goal.tie_all-requires-clause-passes
 tie_all-requires-clause-passes g c =
     let ss = c.args.sections.now in
     let jobs : List AtJob = c.run_jobs.new.jobs in
-    let long : c.in-Ok.jobs.len ≡ length jobs = c.in-Ok.jobs.ok.0 ∙ sym (as_many 0 ss c.in-Ok.jobs.items c.in-Ok.ensures.jobs) ∙ as_many_run g.T.Tag.note g.T.Tag.opened 0 ss jobs c.run_jobs.ensures in
-    let back : take c.in-Ok.jobs.len (jobs ++ drop (length jobs) c.in-Ok.jobs.items) ≡ jobs = written_back c.in-Ok.jobs.len jobs (drop (length jobs) c.in-Ok.jobs.items) long in
+    let long : c.in-Ok-seated.jobs.len ≡ length jobs = c.in-Ok-seated.jobs.ok.0 ∙ sym (as_many 0 ss c.in-Ok-seated.jobs.items c.in-Ok-seated.ensures.jobs) ∙ as_many_run g.T.Tag.note g.T.Tag.opened 0 ss jobs c.run_jobs.ensures in
+    let back : take c.in-Ok-seated.jobs.len (jobs ++ drop (length jobs) c.in-Ok-seated.jobs.items) ≡ jobs = written_back c.in-Ok-seated.jobs.len jobs (drop (length jobs) c.in-Ok-seated.jobs.items) long in
     subst (λ (p : TableId × List AtJob). AreOf p.0 p.1) (λ i. (sym c.whole.invariant.0.note_is i, sym back i)) (run_of g.T.Tag.note g.T.Tag.opened 0 ss jobs c.run_jobs.ensures)
 
 pub returns-in-Err-tie_all-clause-err : goal.returns-in-Err-tie_all-clause-err
@@ -42,8 +42,8 @@ returns-in-Err-tie_all-clause-err g c =
     let n = c.requires.named.2 in
     let pen = c.whole.inside.pen in
     let jobs : List AtJob = c.run_jobs.new.jobs in
-    let long : c.in-Ok.jobs.len ≡ length jobs = c.in-Ok.jobs.ok.0 ∙ sym (as_many 0 ss c.in-Ok.jobs.items c.in-Ok.ensures.jobs) ∙ as_many_run g.T.Tag.note g.T.Tag.opened 0 ss jobs c.run_jobs.ensures in
-    let back : take c.in-Ok.jobs.len (jobs ++ drop (length jobs) c.in-Ok.jobs.items) ≡ jobs = written_back c.in-Ok.jobs.len jobs (drop (length jobs) c.in-Ok.jobs.items) long in
+    let long : c.in-Ok-seated.jobs.len ≡ length jobs = c.in-Ok-seated.jobs.ok.0 ∙ sym (as_many 0 ss c.in-Ok-seated.jobs.items c.in-Ok-seated.ensures.jobs) ∙ as_many_run g.T.Tag.note g.T.Tag.opened 0 ss jobs c.run_jobs.ensures in
+    let back : take c.in-Ok-seated.jobs.len (jobs ++ drop (length jobs) c.in-Ok-seated.jobs.items) ≡ jobs = written_back c.in-Ok-seated.jobs.len jobs (drop (length jobs) c.in-Ok-seated.jobs.items) long in
     let tied = subst (λ (js : List AtJob). AreTiedIf pen js c.in-Err-tie_all.why) back c.in-Err-tie_all.ensures.stopped in
     let all = subst (λ (l : List (ℕ × ℕ)). AllNoted l pen.lines) n.numbers_are (noted_in pen.noted g.T.Tag.numbers pen.lines i.all_named i.lines_noted) in
     let h = beginning ss c.requires.sections.2 g.T.Tag.note g.T.Tag.opened pen all jobs c.run_jobs.ensures c.in-Err-tie_all.why tied in (
@@ -58,8 +58,8 @@ returns-clause-ok g c =
     let n = c.requires.named.2 in
     let pen = c.whole.inside.pen in
     let jobs : List AtJob = c.run_jobs.new.jobs in
-    let long : c.in-Ok.jobs.len ≡ length jobs = c.in-Ok.jobs.ok.0 ∙ sym (as_many 0 ss c.in-Ok.jobs.items c.in-Ok.ensures.jobs) ∙ as_many_run g.T.Tag.note g.T.Tag.opened 0 ss jobs c.run_jobs.ensures in
-    let back : take c.in-Ok.jobs.len (jobs ++ drop (length jobs) c.in-Ok.jobs.items) ≡ jobs = written_back c.in-Ok.jobs.len jobs (drop (length jobs) c.in-Ok.jobs.items) long in
+    let long : c.in-Ok-seated.jobs.len ≡ length jobs = c.in-Ok-seated.jobs.ok.0 ∙ sym (as_many 0 ss c.in-Ok-seated.jobs.items c.in-Ok-seated.ensures.jobs) ∙ as_many_run g.T.Tag.note g.T.Tag.opened 0 ss jobs c.run_jobs.ensures in
+    let back : take c.in-Ok-seated.jobs.len (jobs ++ drop (length jobs) c.in-Ok-seated.jobs.items) ≡ jobs = written_back c.in-Ok-seated.jobs.len jobs (drop (length jobs) c.in-Ok-seated.jobs.items) long in
     let tied = subst (λ (js : List AtJob). AreTied pen js × AreWhole js) back c.in-Ok-tie_all.ensures.whole in
     let all = subst (λ (l : List (ℕ × ℕ)). AllNoted l pen.lines) n.numbers_are (noted_in pen.noted g.T.Tag.numbers pen.lines i.all_named i.lines_noted) in
     let h = interleaved ss c.requires.sections.2 g.T.Tag.note g.T.Tag.opened pen all jobs c.run_jobs.ensures tied.0 tied.1 in (
@@ -86,6 +86,6 @@ invariant_of-whole g c =
       i.2,
       λ e. i.4 c.requires.named.2.all_stay,
       offered_none g.St.Store.Prepares r.board.ready r.board.kept c.in-Ok.queue ks c.in-Ok.ensures.1 c.in-Ok.ensures.0,
-      subst (λ (x : List (ℕ × Reply) × List (ℕ × Reply)). LinesFit r.out.items r.pen x.0 x.1 (members_of ks)) (λ j. (sym c.new.ensures.items j, sym c.new-2.ensures.items j)) (lines_none r.out.items r.pen (members_of ks) i.5 (ap members_of c.in-Ok.ensures.1)),
-      omega (arith, c.new.ensures, c.new-2.ensures),
+      subst (λ (x : List (ℕ × Reply) × List (ℕ × Reply)). LinesFit r.out.items r.pen x.0 x.1 (members_of ks)) (λ j. (sym c.new.ensures.items j, sym c.new-in-Ok-seated.ensures.items j)) (lines_none r.out.items r.pen (members_of ks) i.5 (ap members_of c.in-Ok.ensures.1)),
+      omega (arith, c.new.ensures, c.new-in-Ok-seated.ensures),
     )

@@ -1,4 +1,4 @@
-use Rattle.std.proofs.Common.{◌<◌, ◌≤◌, ◌++◌, ℕ, List, sym, ◌∙◌, subst}
+use Rattle.std.proofs.Common.{◌<◌, ◌≤◌, ◌++◌, ℕ, List, refl, sym, ◌∙◌, subst}
 use Rattle.stmt_text.specs.declared.sections.TextLine.{TextLine}
 use Rattle.db_hub.specs.Entered.{steps_of}
 use Rattle.session_run.specs.Said.{HasLines, HasSaidPart}
@@ -41,4 +41,4 @@ pub line-requires-clause-local : goal.line-requires-clause-local
 line-requires-clause-local g c =
     let mid = c.run_lines.new.seat in
     let h = c.in_ok-run_lines.ensures.said in
-    abort_asked mid.desk (c.if-is_open.ensures.goes h.there c.if-is_open.true) (sym c.if-is_open.ensures.desk ∙ c.if-is_open.true)
+    abort_asked mid.desk (c.if-is_open.ensures.goes h.there refl) (sym c.if-is_open.ensures.desk)
