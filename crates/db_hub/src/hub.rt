@@ -23,9 +23,15 @@ use flush_queue::FlushQueue;
 use history_note::Pass;
 use std::alloc::AllocError;
 use std::marker::PhantomData;
-use std::sync::{Mutex, Wait};
+use std::sync::{Mutex, MutexGuard, Wait};
 use std::thread;
 use stmt_text::Stmt;
+
+/// How often a thread looks for the lock before it sleeps. To wake one takes longer than most visits.
+const LOOKS: u32 = 200;
+
+/// How often a thread whose line waits lets others go first, before it settles their batch.
+const YIELDS: u32 = 30;
 
 /// A hub is what a room has, and the lines that wait for the log together, under a lock, which threads
 /// share. All seats of the room stay out: one that was given up goes on to be listed.
@@ -35,7 +41,25 @@ pub struct Hub<St: Store, J: Log<St>, T: LogTag<J>> {
     ghost stays: { T.stays ≡ true },
 }
 
+// Others may offer lines to the same batch.
+fn let_others_offer() {
+    for _ in 0..YIELDS {
+        thread::yield_now();
+    }
+}
+
 impl<St: Store, J: Log<St>, T: LogTag<J>> Hub<St, J, T> {
+    // What lies under the lock, which no other thread has until the guard is dropped.
+    fn enter<R: Wait>(&self, rt: &R) -> MutexGuard<'_, Whole<St, J, T>> {
+        for _ in 0..LOOKS {
+            if let Some(guard) = self.lock.try_lock() {
+                return guard;
+            }
+            thread::yield_now();
+        }
+        self.lock.lock(rt)
+    }
+
     /// A hub of a room, on which the seats were made before, and of a queue and members, of which none
     /// waits.
     pub fn new(room: Room<St, J, T>, queue: FlushQueue, waiting: Waiting<St>) -> Hub<St, J, T>
@@ -85,13 +109,12 @@ impl<St: Store, J: Log<St>, T: LogTag<J>> Hub<St, J, T> {
         ensures seat { IfOk result (SeatServed T.opened seat.old seat.new text.now) }
         ensures failed { OnErr result (SeatFailed seat.old seat.new) }
     {
-        let visit = self.lock.lock(rt).first_visit(seat, text, stmt)?;
+        let visit = self.enter(rt).first_visit(seat, text, stmt)?;
         match visit {
             Visit::Served { reply } => Ok(reply),
             Visit::Left { pass } => {
-                // Others may offer lines to the same batch.
-                thread::yield_now();
-                let reply = self.lock.lock(rt).second_visit(seat, pass, text)?;
+                let_others_offer();
+                let reply = self.enter(rt).second_visit(seat, pass, text)?;
                 Ok(reply)
             }
         }
@@ -108,7 +131,7 @@ impl<St: Store, J: Log<St>, T: LogTag<J>> Hub<St, J, T> {
         ensures ok { IfOk result (SeatClosed T.note T.opened seat) }
         ensures failed { IfErr result (λ e. SeatFailed seat e.1) }
     {
-        let caught = self.lock.lock(rt).catch_up(&mut seat);
+        let caught = self.enter(rt).catch_up(&mut seat);
         match caught {
             Err(stop) => Err((stop, seat)),
             Ok(()) => match seat.into_pass() {

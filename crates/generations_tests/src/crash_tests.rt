@@ -1,7 +1,7 @@
 //! A crash at each call of making a dataset and of two appends. The expected counts are written by
 //! hand.
 use crate::asserts::{holds, holds_at};
-use crate::files::{ONE, TWO, Told, appends, batch_of, created, opened};
+use crate::files::{BOTH, ONE, TWO, Told, appends, batch_of, created, opened};
 use db_memdev::{Fill, MemDisk};
 use generations::{Dataset, OpenStop, Pair};
 use std::alloc::Global;
@@ -106,6 +106,60 @@ fn closes_the_gate_of_a_failed_append_first(rt: HostRuntime) -> Result<(), Fail>
     let Pair { first, second: _ } = dataset.into_disks();
     for (call, fill, entries) in &REPAIRS {
         leaves(&rt, rt.alloc(), &first, *call, *fill, *entries);
+    }
+    Ok(())
+}
+
+// A batch of two entries is appended.
+fn batch_appended(alloc: Global) -> Option<(Dataset<MemDisk>, bool)> {
+    let mut dataset = created(alloc, &[])?;
+    let both = batch_of(alloc, &BOTH)?;
+    let is_stored = appends(&mut dataset, &both);
+    Some((dataset, is_stored))
+}
+
+// A crash at a call leaves both entries of the batch, or none.
+fn leaves_both(
+    rt: &impl Abort,
+    alloc: Global,
+    disk: &MemDisk,
+    call: u64,
+    fill: Fill,
+    are_there: bool,
+) {
+    let both = if are_there {
+        (233, 2, 0, 2)
+    } else {
+        (124, 0, 0, 0)
+    };
+    holds_at(
+        rt,
+        "the call",
+        call,
+        left(alloc, disk, call, fill) == Some(Ok(both)),
+    );
+}
+
+// The append is the calls 7 to 10: its bytes, a sync, the opening of the gate, and a sync.
+const BATCH_STOPS: [(u64, bool, bool); 5] = [
+    (6, false, false),
+    (7, false, false),
+    (8, false, false),
+    (9, false, true),
+    (10, true, true),
+];
+
+#[test]
+fn leaves_both_entries_of_a_batch_or_none(rt: HostRuntime) -> Result<(), Fail> {
+    let Some((dataset, true)) = batch_appended(rt.alloc()) else {
+        return Err("not appended")?;
+    };
+    let Pair { first, second: _ } = dataset.into_disks();
+    for (call, before, after) in &BATCH_STOPS {
+        leaves_both(&rt, rt.alloc(), &first, *call, Fill::Old, *before);
+        leaves_both(&rt, rt.alloc(), &first, *call, Fill::New, *after);
+        leaves_both(&rt, rt.alloc(), &first, *call, Fill::Byte(1), *after);
+        leaves_both(&rt, rt.alloc(), &first, *call, Fill::Byte(7), *before);
     }
     Ok(())
 }
