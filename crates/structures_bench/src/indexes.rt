@@ -107,7 +107,7 @@ fn duplicate_often(index: &KeyIndex, size: u32) -> Result<u64, AllocError>
     Ok(sum)
 }
 
-fn time_in_full<R: Clock + Print + AllocGlobal>(
+fn time_changes<R: Clock + Print + AllocGlobal>(
     rt: &R,
     index: &KeyIndex,
     size: u32,
@@ -115,23 +115,49 @@ fn time_in_full<R: Clock + Print + AllocGlobal>(
 ) -> Result<()>
     requires { 0 < size }
 {
-    let (mut change, mut find, mut copy) = (Timing::new(), Timing::new(), Timing::new());
+    let mut timing = Timing::new();
     for _ in 0..rounds {
         let start = Instant::now(rt)?;
         let sum = change_often(index, rt.alloc(), size)?;
-        change.add(start.elapsed(rt)?, sum);
+        timing.add(start.elapsed(rt)?, sum);
+    }
+    timing.print(rt, "key_index one change", size, "keys", CALLS)?;
+    Ok(())
+}
 
+fn time_finds<R: Clock + Print + AllocGlobal>(
+    rt: &R,
+    index: &KeyIndex,
+    size: u32,
+    rounds: u32,
+) -> Result<()>
+    requires { 0 < size }
+{
+    let mut timing = Timing::new();
+    for _ in 0..rounds {
         let start = Instant::now(rt)?;
         let sum = find_all(index, size);
-        find.add(start.elapsed(rt)?, sum);
+        timing.add(start.elapsed(rt)?, sum);
+    }
+    timing.print(rt, "key_index find", size, "keys", size)?;
+    Ok(())
+}
 
+fn time_copies<R: Clock + Print + AllocGlobal>(
+    rt: &R,
+    index: &KeyIndex,
+    size: u32,
+    rounds: u32,
+) -> Result<()>
+    requires { 0 < size }
+{
+    let mut timing = Timing::new();
+    for _ in 0..rounds {
         let start = Instant::now(rt)?;
         let sum = duplicate_often(index, size)?;
-        copy.add(start.elapsed(rt)?, sum);
+        timing.add(start.elapsed(rt)?, sum);
     }
-    change.print(rt, "key_index one change", size, "keys", CALLS)?;
-    find.print(rt, "key_index find", size, "keys", size)?;
-    copy.print(rt, "key_index duplicate", size, "keys", CALLS)?;
+    timing.print(rt, "key_index duplicate", size, "keys", CALLS)?;
     Ok(())
 }
 
@@ -148,5 +174,7 @@ pub fn time_indexes<R: Clock + Print + AllocGlobal>(rt: &R, size: u32, rounds: u
         "key_index ascending change by 1024",
     )?;
     let index = ascending(rt.alloc(), size, BATCH)?;
-    time_in_full(rt, &index, size, rounds)
+    time_changes(rt, &index, size, rounds)?;
+    time_finds(rt, &index, size, rounds)?;
+    time_copies(rt, &index, size, rounds)
 }

@@ -170,6 +170,55 @@ fn time_page<R: Clock + Print + AllocGlobal>(
     Ok(())
 }
 
+fn time_reads<R: Clock + Print + AllocGlobal>(
+    rt: &R,
+    segment: &Segment,
+    rounds: u32,
+) -> Result<()> {
+    let mut timing = Timing::new();
+    for _ in 0..rounds {
+        let start = Instant::now(rt)?;
+        let sum = sum_in(segment);
+        timing.add(start.elapsed(rt)?, sum);
+    }
+    timing.print(rt, "segment read", segment.len(), "records", segment.len())?;
+    Ok(())
+}
+
+fn time_longer<R: Clock + Print + AllocGlobal>(
+    rt: &R,
+    segment: &Segment,
+    rows: &Records,
+    rounds: u32,
+) -> Result<()>
+    requires fields { AreWide segment.now.fields rows.now }
+    requires few { length segment.now.records + length rows.now < 2 ^ 32 }
+{
+    let mut timing = Timing::new();
+    for _ in 0..rounds {
+        let start = Instant::now(rt)?;
+        let sum = extend_often(segment, rows)?;
+        timing.add(start.elapsed(rt)?, sum);
+    }
+    timing.print(rt, "segment extended", segment.len(), "records", LONGER)?;
+    Ok(())
+}
+
+fn time_lasts<R: Clock + Print + AllocGlobal>(
+    rt: &R,
+    segment: &Segment,
+    rounds: u32,
+) -> Result<()> {
+    let mut timing = Timing::new();
+    for _ in 0..rounds {
+        let start = Instant::now(rt)?;
+        let sum = sum_of_lasts(segment, segment.len());
+        timing.add(start.elapsed(rt)?, sum);
+    }
+    timing.print(rt, "segment last", segment.len(), "records", segment.len())?;
+    Ok(())
+}
+
 /// Times the records of a page and of a segment of `size` records, segments that are longer by one, and the last
 /// slots of keys.
 pub fn time_pages<R: Clock + Print + AllocGlobal>(rt: &R, size: u32, rounds: u32) -> Result<()>
@@ -177,24 +226,9 @@ pub fn time_pages<R: Clock + Print + AllocGlobal>(rt: &R, size: u32, rounds: u32
 {
     time_page(rt, "record_page read 2 fields", 2, rounds)?;
     time_page(rt, "record_page read 15 fields", 15, rounds)?;
-    let (mut read, mut longer, mut last) = (Timing::new(), Timing::new(), Timing::new());
     let segment = segment_of(rt.alloc(), 2, size)?;
     let rows = rows_of(rt.alloc(), 2, 1)?;
-    for _ in 0..rounds {
-        let start = Instant::now(rt)?;
-        let sum = sum_in(&segment);
-        read.add(start.elapsed(rt)?, sum);
-
-        let start = Instant::now(rt)?;
-        let sum = extend_often(&segment, &rows)?;
-        longer.add(start.elapsed(rt)?, sum);
-
-        let start = Instant::now(rt)?;
-        let sum = sum_of_lasts(&segment, size);
-        last.add(start.elapsed(rt)?, sum);
-    }
-    read.print(rt, "segment read", size, "records", size)?;
-    longer.print(rt, "segment extended", size, "records", LONGER)?;
-    last.print(rt, "segment last", size, "records", size)?;
-    Ok(())
+    time_reads(rt, &segment, rounds)?;
+    time_longer(rt, &segment, &rows, rounds)?;
+    time_lasts(rt, &segment, rounds)
 }

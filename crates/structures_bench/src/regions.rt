@@ -86,6 +86,23 @@ fn time_takes<T: Item, R: Clock + Print + AllocGlobal>(
     Ok(())
 }
 
+// All frames are placed on, and then given back.
+fn time_round<T: Item, R: Clock + AllocGlobal>(
+    rt: &R,
+    region: &mut Region<T>,
+    place: &mut Timing,
+    give_back: &mut Timing,
+) -> Result<()> {
+    let start = Instant::now(rt)?;
+    let frames = place_all(rt.alloc(), region)?;
+    place.add(start.elapsed(rt)?, sum_of(region, &frames));
+
+    let start = Instant::now(rt)?;
+    give_back_all(region, frames);
+    give_back.add(start.elapsed(rt)?, u64::from(region.free()));
+    Ok(())
+}
+
 fn time_frames<T: Item, R: Clock + Print + AllocGlobal>(
     rt: &R,
     size: u32,
@@ -96,13 +113,7 @@ fn time_frames<T: Item, R: Clock + Print + AllocGlobal>(
     let mut region: Region<T> = Region::take(rt.alloc(), size)?;
     let (mut place, mut give_back) = (Timing::new(), Timing::new());
     for _ in 0..rounds {
-        let start = Instant::now(rt)?;
-        let frames = place_all(rt.alloc(), &mut region)?;
-        place.add(start.elapsed(rt)?, sum_of(&region, &frames));
-
-        let start = Instant::now(rt)?;
-        give_back_all(&mut region, frames);
-        give_back.add(start.elapsed(rt)?, u64::from(region.free()));
+        time_round(rt, &mut region, &mut place, &mut give_back)?;
     }
     place.print(rt, place_work, size, "frames", size)?;
     give_back.print(rt, give_back_work, size, "frames", size)?;
