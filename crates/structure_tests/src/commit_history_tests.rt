@@ -102,16 +102,35 @@ fn scattered_history(alloc: Global, count: u32) -> Result<History, AllocError> {
     Ok(history)
 }
 
+fn fold_scattered(alloc: Global, plain: &mut Vec<bool>, n: u32) -> Result<(), AllocError> {
+    fold(plain, &scattered(alloc, n)?)
+}
+
+// Each bitmap of the history is that of a plain fold, which begins with no place.
+fn is_fold(
+    rt: &impl Abort,
+    alloc: Global,
+    history: &History,
+    plain: &mut Vec<bool>,
+) -> Result<(), AllocError> {
+    for n in 0..101 {
+        is_at(rt, "at", history, n, plain.as_slice())?;
+        fold_scattered(alloc, plain, n)?;
+    }
+    Ok(())
+}
+
+fn folds(rt: &impl Abort, alloc: Global, history: &History) -> Result<(), AllocError> {
+    let mut plain = Vec::new(alloc);
+    is_fold(rt, alloc, history, &mut plain)
+}
+
 #[test]
 fn combines_as_a_plain_fold_up_to_100(rt: HostRuntime) -> Result<(), Fail> {
     let history = scattered_history(rt.alloc(), 100)?;
+    folds(&rt, rt.alloc(), &history)?;
     let copy = history.duplicate()?;
-    let mut plain = Vec::new(rt.alloc());
-    for n in 0..101 {
-        is_at(&rt, "at", &history, n, &plain)?;
-        is_at(&rt, "the copy at", &copy, n, &plain)?;
-        fold(&mut plain, &scattered(rt.alloc(), n)?)?;
-    }
+    folds(&rt, rt.alloc(), &copy)?;
     Ok(())
 }
 
@@ -123,18 +142,37 @@ fn in_turn(alloc: Global, n: u32) -> Result<Bits, AllocError> {
     bits_of(alloc, &[n % 2 == 0, n % 3 == 0, n % 5 == 0, n % 7 == 0])
 }
 
+fn grow(
+    alloc: Global,
+    history: &mut History,
+    plain: &mut Vec<bool>,
+    n: u32,
+) -> Result<(), AllocError> {
+    let delta = in_turn(alloc, n)?;
+    fold(plain, &delta)?;
+    push(history, delta)
+}
+
+fn grows_as_a_fold(
+    rt: &impl Abort,
+    alloc: Global,
+    history: &mut History,
+    plain: &mut Vec<bool>,
+) -> Result<(), AllocError> {
+    for n in 1..4_201 {
+        grow(alloc, history, plain, n)?;
+        if TURNS.contains(&n) {
+            is_at(rt, "at", history, n, plain.as_slice())?;
+        }
+    }
+    Ok(())
+}
+
 #[test]
 fn combines_long_histories_as_a_plain_fold(rt: HostRuntime) -> Result<(), Fail> {
     let mut history = History::new(rt.alloc());
     let mut plain = Vec::new(rt.alloc());
-    for n in 1..4_201 {
-        let delta = in_turn(rt.alloc(), n)?;
-        fold(&mut plain, &delta)?;
-        push(&mut history, delta)?;
-        if TURNS.contains(&n) {
-            is_at(&rt, "at", &history, n, &plain)?;
-        }
-    }
+    grows_as_a_fold(&rt, rt.alloc(), &mut history, &mut plain)?;
     Ok(())
 }
 
