@@ -39,6 +39,10 @@ AreTold lines [] (d ∷ ds) = ⊥
 AreTold lines (o ∷ os) [] = ⊥
 AreTold lines (o ∷ os) (d ∷ ds) = (d.0 ≡ o.0) × IsToldAt lines o.1 d.1 × AreTold lines os ds
 
+-- whatever the pen owes are lines that were settled, and whose sessions haven't come back since
+abbrev pub OwesSettled : AtPen → Type 0
+OwesSettled p = (told : List (ℕ × Reply)) × AreTold p.lines p.owed told
+
 -- ---- what lies under the lock
 
 -- The lines that the note keeps are those of the members that wait, and what it owes are the lines that were settled.
