@@ -66,7 +66,7 @@ branch_adds s b x e =
     let p = bind_ok (number_at w32 o.0.1) (λ p. test (is_position s.0 p.0) o.0.1 >>= λ w. Ok ((s.0 ++ record { name = nm.0.0; origin = record { branch = o.0.0; position = p.0 } } ∷ [], s.1 ++ base_of s.1 (record { branch = o.0.0; position = p.0 }) ∷ []), p.1)) x v.2 in
     let w = bind_ok (test (is_position s.0 p.0.0) o.0.1) (λ w. Ok ((s.0 ++ record { name = nm.0.0; origin = record { branch = o.0.0; position = p.0.0 } } ∷ [], s.1 ++ base_of s.1 (record { branch = o.0.0; position = p.0.0 }) ∷ []), p.0.1)) x p.2 in
     let made : (List BranchPart × List VersionPlace) × List ℕ = ((s.0 ++ record { name = nm.0.0; origin = record { branch = o.0.0; position = p.0.0 } } ∷ [], s.1 ++ base_of s.1 (record { branch = o.0.0; position = p.0.0 }) ∷ []), p.0.1) in
-    subst (λ (y : (List BranchPart × List VersionPlace) × List ℕ). AddsBranch s y.0) (ok_is made x w.2) (record {
+    subst (λ (y : (List BranchPart × List VersionPlace) × List ℕ). AddsBranch s y.0) {x = made} (ok_is made x w.2) (record {
       added = record { name = nm.0.0; origin = record { branch = o.0.0; position = p.0.0 } };
       turn = tested _ b u.0 u.1;
       earlier = tested _ nm.0.1 v.0 v.1;

@@ -1,4 +1,4 @@
-use Rattle.std.proofs.Common.{[], sym, subst, take}
+use Rattle.std.proofs.Common.{ℕ, ◌<◌, [], sym, subst, take}
 use Rattle.std.specs.List.{All}
 use Rattle.std.proofs.lemmas.List.{take_more}
 use Rattle.std.proofs.lemmas.List.Elements.{All-push}
@@ -11,5 +11,6 @@ loop-slot-preserved g c =
     let rows = c.args.segment.now.records in
     let slot = c.loop-slot.slot in
     let row = record_at rows slot in
-    subst (All IsRanged) (sym (take_more rows slot (record { key = 0; fields = [] }) c.loop-slot-test.true))
+    let below = subst (λ (n : ℕ). slot < n) c.len-slot-end.ensures.count c.loop-slot-test.true in
+    subst (All IsRanged) (sym (take_more rows slot (record { key = 0; fields = [] }) below))
     (All-push IsRanged (take slot rows) row c.loop-slot.invariant (subst IsRanged c.read.ensures.row c.fits_its_types.ensures))
