@@ -64,22 +64,44 @@ const CASES: [(&str, u32, &[u32]); 3] = [
     ("of one without room", 2, &[]),
 ];
 
+// Without room there are no segments.
+fn has_none(rt: &impl Abort, alloc: Global) -> Result<(), AllocError> {
+    let rows = BranchSegments::new(alloc);
+    has(rt, "without room", &rows, 0, &[])
+}
+
+fn has_those_of_each(rt: &impl Abort, rows: &BranchSegments) -> Result<(), AllocError> {
+    for (name, branch, segments) in &CASES {
+        has(rt, name, rows, *branch, segments)?;
+    }
+    Ok(())
+}
+
+fn tells_segments(rt: &impl Abort, alloc: Global, rows: &BranchSegments) -> Result<(), AllocError> {
+    has_those_of_each(rt, rows)?;
+    unites(rt, alloc, rows, &[1, 0], &[0, 1, 2])?;
+    unites(rt, alloc, rows, &[], &[])
+}
+
 #[test]
 fn tells_the_segments_of_branches(rt: HostRuntime) -> Result<(), Fail> {
-    has(
-        &rt,
-        "without room",
-        &BranchSegments::new(rt.alloc()),
-        0,
-        &[],
-    )?;
+    has_none(&rt, rt.alloc())?;
     let rows = two_branches(rt.alloc())?;
-    for (name, branch, segments) in &CASES {
-        has(&rt, name, &rows, *branch, segments)?;
-    }
-    unites(&rt, rt.alloc(), &rows, &[1, 0], &[0, 1, 2])?;
-    unites(&rt, rt.alloc(), &rows, &[], &[])?;
+    tells_segments(&rt, rt.alloc(), &rows)?;
     Ok(())
+}
+
+fn has_one_more(
+    rt: &impl Abort,
+    rows: &mut BranchSegments,
+    copy: &BranchSegments,
+) -> Result<(), AllocError>
+    requires branch { 1 < length rows.old.rows }
+    requires segment { 129 < rows.old.segments }
+{
+    mark(rows, 1, 129);
+    has(rt, "with one more", rows, 1, &[0, 2, 129])?;
+    has(rt, "of the copy", copy, 1, &[0, 2])
 }
 
 #[test]
@@ -87,8 +109,6 @@ fn a_copy_keeps_its_segments(rt: HostRuntime) -> Result<(), Fail> {
     let mut rows = two_branches(rt.alloc())?;
     rows.reserve(3, 130)?;
     let copy = rows.duplicate()?;
-    mark(&mut rows, 1, 129);
-    has(&rt, "with one more", &rows, 1, &[0, 2, 129])?;
-    has(&rt, "of the copy", &copy, 1, &[0, 2])?;
+    has_one_more(&rt, &mut rows, &copy)?;
     Ok(())
 }

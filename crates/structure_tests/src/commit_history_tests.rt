@@ -125,12 +125,20 @@ fn folds(rt: &impl Abort, alloc: Global, history: &History) -> Result<(), AllocE
     is_fold(rt, alloc, history, &mut plain)
 }
 
+fn copy_folds(rt: &impl Abort, alloc: Global, history: &History) -> Result<(), AllocError> {
+    let copy = history.duplicate()?;
+    folds(rt, alloc, &copy)
+}
+
+fn folds_with_a_copy(rt: &impl Abort, alloc: Global, history: &History) -> Result<(), AllocError> {
+    folds(rt, alloc, history)?;
+    copy_folds(rt, alloc, history)
+}
+
 #[test]
 fn combines_as_a_plain_fold_up_to_100(rt: HostRuntime) -> Result<(), Fail> {
     let history = scattered_history(rt.alloc(), 100)?;
-    folds(&rt, rt.alloc(), &history)?;
-    let copy = history.duplicate()?;
-    folds(&rt, rt.alloc(), &copy)?;
+    folds_with_a_copy(&rt, rt.alloc(), &history)?;
     Ok(())
 }
 
