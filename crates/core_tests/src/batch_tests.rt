@@ -6,7 +6,7 @@ ghost use Rattle.db_core.specs.Sits.{heard};
 ghost use Rattle.db_core.specs.Kept.{Stands};
 ghost use Rattle.db_core.specs.Waiting.{AreOffered};
 ghost use Rattle.core_tests.specs.Batched.{MayTell, HasJoined, IsTold};
-ghost use Rattle.core_tests.specs.Desks.{IsBare};
+ghost use Rattle.core_tests.specs.Desks.{IsBare, KeepsOthers};
 
 use crate::desk_tests::{bytes_of, hold, new_store, tells_no_rows, text_of, two_desks};
 use crate::fault_tests::Faulty;
@@ -272,6 +272,25 @@ fn settle<St: Store, J: Log<St>>(
     are_last(rt, alloc, shared.board.steps(), rows)
 }
 
+// Session 2 begins dev, and changes it in a transaction.
+fn change_dev<St: Store, J: Log<St>>(
+    alloc: Global,
+    board: &mut Board<St, J>,
+    desk: &mut Desk<St>,
+) -> Result<(), Fail>
+    requires { IsBare 2 board.old.kept desk.old }
+    ensures bare { OnOk result (IsBare 2 board.new.kept desk.new) }
+    ensures others { OnOk result (KeepsOthers 2 board.old.kept board.new.kept) }
+{
+    let made = "> 2 branch dev of master\nok dev@0\n";
+    hold(alloc, board, desk, "2 branch dev of master", made)?;
+    hold(alloc, board, desk, "2 on dev", "> 2 on dev\nok\n")?;
+    hold(alloc, board, desk, "2 begin", "> 2 begin\nok\n")?;
+    let changed = "> 2 insert items 7 7 7\nok\n";
+    hold(alloc, board, desk, "2 insert items 7 7 7", changed)?;
+    Ok(())
+}
+
 // A board, and desks of the sessions 1 and 2. Session 2 has changed dev in its open transaction.
 fn with_change<St: Store, J: Log<St>>(
     alloc: Global,
@@ -282,35 +301,37 @@ fn with_change<St: Store, J: Log<St>>(
     ensures second { IfOk result (λ p. IsBare 2 p.0.kept p.2) }
 {
     let (mut board, first, mut second) = two_desks(alloc, store, log)?;
-    let made = "> 2 branch dev of master\nok dev@0\n";
-    hold(
-        alloc,
-        &mut board,
-        &mut second,
-        "2 branch dev of master",
-        made,
-    )?;
-    hold(
-        alloc,
-        &mut board,
-        &mut second,
-        "2 on dev",
-        "> 2 on dev\nok\n",
-    )?;
-    hold(alloc, &mut board, &mut second, "2 begin", "> 2 begin\nok\n")?;
-    let changed = "> 2 insert items 7 7 7\nok\n";
-    hold(
-        alloc,
-        &mut board,
-        &mut second,
-        "2 insert items 7 7 7",
-        changed,
-    )?;
+    change_dev(alloc, &mut board, &mut second)?;
     Ok((board, first, second))
 }
 
 // A line of one session waits, and lines of the other are offered beside it, until one of these waits
 // too. Then both are settled.
+fn share_in<St: Store, J: Log<St>>(
+    rt: &impl Abort,
+    alloc: Global,
+    shared: &mut Batched<St, J>,
+    one: &mut Desk<St>,
+    first: u32,
+    other: &mut Desk<St>,
+    second: u32,
+    rows: [&str; 4],
+    versions: u32,
+) -> Result<(), Fail>
+    requires one { MayTell St.Prepares first shared.old.board.ready shared.old.board.kept
+        one.old shared.old.queue shared.old.waiting.members.items }
+    requires other { MayTell St.Prepares second shared.old.board.ready shared.old.board.kept
+        other.old shared.old.queue shared.old.waiting.members.items }
+    requires two { second ≢ first }
+{
+    let [joins, beside, other_joins, settled] = rows;
+    join(rt, alloc, shared, one, first, joins)?;
+    offer_rows(rt, alloc, shared, other, second, beside)?;
+    join(rt, alloc, shared, other, second, other_joins)?;
+    settle(rt, alloc, shared, settled, versions)
+}
+
+// That, on a board and with desks at which no line waits.
 fn share<St: Store, J: Log<St>>(
     rt: &impl Abort,
     alloc: Global,
@@ -324,14 +345,20 @@ fn share<St: Store, J: Log<St>>(
     requires other { IsBare other.1 board.kept other.0 }
     requires two { other.1 ≢ one.1 }
 {
-    let [joins, beside, other_joins, settled] = rows;
     let (mut one, first) = one;
     let (mut other, second) = other;
     let mut shared = new_batched(alloc, board)?;
-    join(rt, alloc, &mut shared, &mut one, first, joins)?;
-    offer_rows(rt, alloc, &mut shared, &mut other, second, beside)?;
-    join(rt, alloc, &mut shared, &mut other, second, other_joins)?;
-    settle(rt, alloc, &mut shared, settled, versions)
+    share_in(
+        rt,
+        alloc,
+        &mut shared,
+        &mut one,
+        first,
+        &mut other,
+        second,
+        rows,
+        versions,
+    )
 }
 
 // The commit of session 2 waits first.

@@ -4,9 +4,5 @@ use Rattle.core_tests.proofs.batch_tests.with_change.Goals as goal
 
 pub returns-clause-first : goal.returns-clause-first
 returns-clause-first g c =
-    let k = c.in_ok-board.first in
     let other : 1 ≢ 2 = λ e. absurd (cc e) in
-    bare_beside 1 2 _ _ k other c.in_ok-hold-4.ensures.others (
-    bare_beside 1 2 _ _ k other c.in_ok-hold-3.ensures.others (
-    bare_beside 1 2 _ _ k other c.in_ok-hold-2.ensures.others (
-    bare_beside 1 2 _ _ k other c.in_ok-hold.ensures.others c.in_ok-board.ensures.first)))
+    bare_beside 1 2 _ _ c.in_ok-board.first other c.in_ok-change_dev.ensures.others c.in_ok-board.ensures.first
