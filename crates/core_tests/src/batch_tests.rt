@@ -104,14 +104,13 @@ fn offer_stmt<St: Store, J: Log<St>>(
         shared.new.waiting.members.items)) }
 {
     match desk.local(text, Some(stmt))? {
-        Some(_) => Err("answered at the desk".into()),
-        None => {
-            let offered = shared
-                .board
-                .offer(desk, text, stmt, &mut shared.queue, &mut shared.waiting)?;
-            Ok(offered)
-        }
+        Some(_) => return Err("answered at the desk".into()),
+        None => {}
     }
+    let offered = shared
+        .board
+        .offer(desk, text, stmt, &mut shared.queue, &mut shared.waiting)?;
+    Ok(offered)
 }
 
 // A row's first word, its line, and its reply.

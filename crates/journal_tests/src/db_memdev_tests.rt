@@ -8,15 +8,6 @@ use std::test::Fail;
 // A disk can be handed to another thread.
 fn can_be_sent<T: Send>(_disk: &T) {}
 
-// The third call fails, as does a write past the room.
-fn writes(rt: &impl Abort, disk: &mut MemDisk) {
-    assert!(rt; disk.write_at(1, b"XY").is_ok());
-    assert!(rt; disk.sync().is_ok());
-    assert!(rt; disk.write_at(4, b"12345") == Err(Failed));
-    assert!(rt; disk.write_at(6, b"ghi").is_ok());
-    assert!(rt; disk.write_at(0, b"too long") == Err(Failed));
-}
-
 // One call more is as many as the disk takes.
 fn takes_one_more(rt: &impl Abort, disk: &mut MemDisk) {
     assert!(rt; disk.sync().is_ok());
@@ -40,16 +31,26 @@ const STOPS: [(u64, Fill, &[u8]); 12] = [
     (99, Fill::New, b"aXYdefghi"),
 ];
 
+fn stops(rt: &impl Abort, disk: &MemDisk) -> Result<(), Fail> {
+    for (call, fill, expected) in &STOPS {
+        let stopped = disk.stop(*call, *fill)?;
+        holds_at(rt, "the call", *call, stopped.bytes() == *expected);
+    }
+    Ok(())
+}
+
 #[test]
 fn stops_by_the_table(rt: HostRuntime) -> Result<(), Fail> {
     let mut disk = MemDisk::of(rt.alloc(), b"abcdef", &[3], 6, 10)?;
     can_be_sent(&disk);
-    writes(&rt, &mut disk);
+    // The third call fails, as does a write past the room.
+    assert!(rt; disk.write_at(1, b"XY").is_ok());
+    assert!(rt; disk.sync().is_ok());
+    assert!(rt; disk.write_at(4, b"12345") == Err(Failed));
+    assert!(rt; disk.write_at(6, b"ghi").is_ok());
+    assert!(rt; disk.write_at(0, b"too long") == Err(Failed));
     assert!(rt; disk.bytes() == b"aXYdefghi".as_slice());
-    for (call, fill, expected) in &STOPS {
-        let stopped = disk.stop(*call, *fill)?;
-        holds_at(&rt, "the call", *call, stopped.bytes() == *expected);
-    }
+    stops(&rt, &disk)?;
     takes_one_more(&rt, &mut disk);
     Ok(())
 }

@@ -1,4 +1,4 @@
-use Rattle.std.proofs.Common.{◌≢◌, cc}
+use Rattle.std.proofs.Common.{◌≢◌}
 use Rattle.core_tests.proofs.Batches.{bare_beside}
 use Rattle.core_tests.proofs.batch_tests.with_change.Goals as goal
 
