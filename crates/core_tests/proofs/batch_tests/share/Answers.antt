@@ -1,4 +1,4 @@
-use Rattle.std.proofs.Common.{◌≡◌, ap, sym, subst, []}
+use Rattle.std.proofs.Common.{ap, sym, subst, []}
 use Rattle.db_core.specs.Kept.{Kept, Logged}
 use Rattle.core_tests.specs.Desks.{IsBare}
 use Rattle.core_tests.proofs.Batches.{none_same}
