@@ -132,11 +132,7 @@ pub fn image_after_one(alloc: Global) -> Option<Vec<u8>> {
 /// The store of that dataset after the entries of bodies.
 pub fn stored(alloc: Global, bodies: &[&[u8]]) -> Option<DatasetStore> {
     let file = file_of(alloc, 1, &IMAGE, bodies)?;
-    let disks = Pair {
-        first: MemDisk::of(alloc, &file, &[], 1000, 1000).ok()?,
-        second: MemDisk::of(alloc, b"", &[], 1000, 1000).ok()?,
-    };
-    match reopen(alloc, disks) {
+    match reopen(alloc, disks_of(alloc, &file, b"")?) {
         Ok((_, store)) => Some(store),
         Err(_) => None,
     }
@@ -162,19 +158,25 @@ pub fn not_created(
     }
 }
 
+fn disks_of(alloc: Global, first: &[u8], second: &[u8]) -> Option<Pair<MemDisk>> {
+    let first = MemDisk::of(alloc, first, &[], 1000, 100_000).ok()?;
+    let second = MemDisk::of(alloc, second, &[], 1000, 100_000).ok()?;
+    Some(Pair { first, second })
+}
+
+fn told_of(dataset: &Dataset<MemDisk>, store: &DatasetStore) -> Told {
+    (
+        dataset.place(),
+        dataset.entries_read(),
+        dataset.counted(),
+        store.last(0),
+    )
+}
+
 /// What opening two files of these bytes tells. `None` is want of memory.
 pub fn opened(alloc: Global, first: &[u8], second: &[u8]) -> Option<Result<Told, OpenStop>> {
-    let disks = Pair {
-        first: MemDisk::of(alloc, first, &[], 1000, 100_000).ok()?,
-        second: MemDisk::of(alloc, second, &[], 1000, 100_000).ok()?,
-    };
-    match reopen(alloc, disks) {
-        Ok((dataset, store)) => Some(Ok((
-            dataset.place(),
-            dataset.entries_read(),
-            dataset.counted(),
-            store.last(0),
-        ))),
+    match reopen(alloc, disks_of(alloc, first, second)?) {
+        Ok((dataset, store)) => Some(Ok(told_of(&dataset, &store))),
         Err((OpenStop::Memory, _)) => None,
         Err((stop, _)) => Some(Err(stop)),
     }

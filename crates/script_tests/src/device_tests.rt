@@ -11,21 +11,22 @@ use std::test::Fail;
 
 const MORE_THAN_ANY: u64 = 100_000;
 
+// Is a line read from a source of which this call fails, or is it told that the source failed?
+fn is_read(alloc: Global, call: u64) -> Result<bool, Fail> {
+    let mut source = MemSource::of(alloc, b"1 scan items\n", &[call])?;
+    match read_all(alloc, &mut source) {
+        Ok(input) if input.as_slice() == b"1 scan items\n".as_slice() => Ok(true),
+        Err(InputStop::Fault) => Ok(false),
+        _ => Err("neither".into()),
+    }
+}
+
 #[test]
 fn tells_a_source_that_fails(rt: HostRuntime) -> Result<(), Fail> {
-    let alloc = rt.alloc();
     // The second call is the one that would find the end.
-    for call in [1u64, 2] {
-        let mut source = MemSource::of(alloc, b"1 scan items\n", &[call])?;
-        match read_all(alloc, &mut source) {
-            Ok(_) => return Err("read".into()),
-            Err(stop) => assert_eq!(rt; stop, InputStop::Fault, "{call}"),
-        }
-    }
-    let mut source = MemSource::of(alloc, b"1 scan items\n", &[3])?;
-    match read_all(alloc, &mut source) {
-        Ok(input) => assert!(rt; input.as_slice() == b"1 scan items\n".as_slice()),
-        Err(_) => return Err("not read".into()),
+    for (call, is) in [(1, false), (2, false), (3, true)] {
+        let read = is_read(rt.alloc(), call)?;
+        assert!(rt; read == is, "{call}");
     }
     Ok(())
 }
@@ -78,6 +79,18 @@ fn new_core(alloc: Global) -> Result<Core<DatasetStore, NoLog>, Fail> {
     }
 }
 
+fn ends_on(
+    rt: &impl Abort,
+    core: &mut Core<DatasetStore, NoLog>,
+    script: &[u8],
+    sink: &mut MemSink,
+    ended: Result<(), RunStop>,
+    output: &str,
+) {
+    assert!(rt; run_script(core, script, sink) == ended, "{output}");
+    assert!(rt; sink.bytes() == output.as_bytes(), "{output}");
+}
+
 // How a script ends on a sink of which some calls fail, and what the sink received.
 fn ends(
     rt: &impl Abort,
@@ -88,8 +101,7 @@ fn ends(
     output: &str,
 ) -> Result<(), Fail> {
     let mut core = new_core(alloc)?;
-    assert_eq!(rt; run_script(&mut core, script, &mut sink), ended);
-    assert!(rt; sink.bytes() == output.as_bytes(), "{output}");
+    ends_on(rt, &mut core, script, &mut sink, ended, output);
     Ok(())
 }
 

@@ -80,24 +80,41 @@ fn is_at(
     Ok(())
 }
 
+fn push_values(history: &mut History, alloc: Global, values: &[bool]) -> Result<(), AllocError> {
+    let delta = bits_of(alloc, values)?;
+    push(history, delta)
+}
+
+fn push_both(history: &mut History, alloc: Global) -> Result<(), AllocError> {
+    push_values(history, alloc, &[true, false, true])?;
+    push_values(history, alloc, &[false, true, true])
+}
+
+fn are_combined(rt: &impl Abort, history: &History) -> Result<(), AllocError> {
+    holds(rt, "two deltas", history.len() == 2);
+    is_at(rt, "at", history, 0, &[])?;
+    is_at(rt, "at", history, 1, &[true, false, true])?;
+    is_at(rt, "at", history, 2, &[true, true, false])
+}
+
 #[test]
 fn combines_two_deltas(rt: HostRuntime) -> Result<(), Fail> {
     let mut history = History::new(rt.alloc());
-    for values in &[[true, false, true], [false, true, true]] {
-        push(&mut history, bits_of(rt.alloc(), values)?)?;
-    }
-    assert!(rt; history.len() == 2);
-    is_at(&rt, "at", &history, 0, &[])?;
-    is_at(&rt, "at", &history, 1, &[true, false, true])?;
-    is_at(&rt, "at", &history, 2, &[true, true, false])?;
+    push_both(&mut history, rt.alloc())?;
+    are_combined(&rt, &history)?;
     Ok(())
+}
+
+fn push_scattered(history: &mut History, alloc: Global, n: u32) -> Result<(), AllocError> {
+    let delta = scattered(alloc, n)?;
+    push(history, delta)
 }
 
 // A history of deltas that look random.
 fn scattered_history(alloc: Global, count: u32) -> Result<History, AllocError> {
     let mut history = History::new(alloc);
     for n in 0..count {
-        push(&mut history, scattered(alloc, n)?)?;
+        push_scattered(&mut history, alloc, n)?;
     }
     Ok(history)
 }
@@ -188,8 +205,9 @@ fn combines_long_histories_as_a_plain_fold(rt: HostRuntime) -> Result<(), Fail> 
 fn placed(rt: &impl Abort, alloc: Global, len: u32, places: &[u32]) -> Result<Bits, AllocError>
     requires { All (λ place. place < len) places.now }
 {
+    let delta = Delta::of_places(alloc, len, places)?;
     let mut history = History::new(alloc);
-    let next = history.ready_delta(Delta::of_places(alloc, len, places)?)?;
+    let next = history.ready_delta(delta)?;
     history.push(next);
     holds(rt, "the length", history.delta(0).len() == len);
     history.delta(0).bits(alloc)
