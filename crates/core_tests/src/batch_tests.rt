@@ -335,25 +335,25 @@ fn share<St: Store, J: Log<St>>(
     rt: &impl Abort,
     alloc: Global,
     board: Board<St, J>,
-    one: (Desk<St>, u32),
-    other: (Desk<St>, u32),
+    one: &mut Desk<St>,
+    first: u32,
+    other: &mut Desk<St>,
+    second: u32,
     rows: [&str; 4],
     versions: u32,
 ) -> Result<(), Fail>
-    requires one { IsBare one.1 board.kept one.0 }
-    requires other { IsBare other.1 board.kept other.0 }
-    requires two { other.1 ≢ one.1 }
+    requires one { IsBare first board.kept one.old }
+    requires other { IsBare second board.kept other.old }
+    requires two { second ≢ first }
 {
-    let (mut one, first) = one;
-    let (mut other, second) = other;
     let mut shared = new_batched(alloc, board)?;
     share_in(
         rt,
         alloc,
         &mut shared,
-        &mut one,
+        one,
         first,
-        &mut other,
+        other,
         second,
         rows,
         versions,
@@ -369,8 +369,18 @@ fn commit_first<St: Store, J: Log<St>>(
     rows: [&str; 4],
     versions: u32,
 ) -> Result<(), Fail> {
-    let (board, first, second) = with_change(alloc, store, log)?;
-    share(rt, alloc, board, (second, 2), (first, 1), rows, versions)
+    let (board, mut first, mut second) = with_change(alloc, store, log)?;
+    share(
+        rt,
+        alloc,
+        board,
+        &mut second,
+        2,
+        &mut first,
+        1,
+        rows,
+        versions,
+    )
 }
 
 // A change of session 1 waits first.
@@ -380,8 +390,8 @@ fn insert_first<St: Store>(
     store: St,
     rows: [&str; 4],
 ) -> Result<(), Fail> {
-    let (board, first, second) = with_change(alloc, store, NoLog)?;
-    share(rt, alloc, board, (first, 1), (second, 2), rows, 1)
+    let (board, mut first, mut second) = with_change(alloc, store, NoLog)?;
+    share(rt, alloc, board, &mut first, 1, &mut second, 2, rows, 1)
 }
 
 #[test]
