@@ -101,6 +101,14 @@ fn text_of(answer: &Result<(), WorkStop>) -> &'static str {
     }
 }
 
+fn tell_answers<R: Print>(rt: &R, answers: &[Result<(), WorkStop>; 12]) -> Result<()> {
+    println!(rt; "done")?;
+    for answer in answers {
+        println!(rt; "{}", text_of(answer))?;
+    }
+    Ok(())
+}
+
 /// Makes working tables, writes `begun`, changes them, and then writes the answers.
 pub fn tell_changes<St: Store, R: Print + AllocGlobal>(rt: &R, store: &St) -> Result<()> {
     if store.branches() == 0 || store.schema().relations().is_empty() {
@@ -114,9 +122,5 @@ pub fn tell_changes<St: Store, R: Print + AllocGlobal>(rt: &R, store: &St) -> Re
     let mut crowded = Work::over(alloc, store.view(at)?, 1)?;
     println!(rt; "begun")?;
     let answers = answers_of(&mut work, &mut merged, &mut crowded, &sets, &changes);
-    println!(rt; "done")?;
-    for answer in &answers {
-        println!(rt; "{}", text_of(answer))?;
-    }
-    Ok(())
+    tell_answers(rt, &answers)
 }

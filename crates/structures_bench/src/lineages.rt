@@ -99,6 +99,50 @@ fn time_adds<R: Clock + Print + AllocGlobal>(rt: &R, size: u32, rounds: u32) -> 
     Ok(made)
 }
 
+fn time_common<R: Clock + Print + AllocGlobal>(
+    rt: &R,
+    graph: &Graph,
+    left: u32,
+    right: u32,
+    size: u32,
+    rounds: u32,
+) -> Result<()>
+    requires left_there { left < length graph.now.versions }
+    requires right_there { right < length graph.now.versions }
+    requires left_descends { Reaches graph.now.versions left 0 }
+    requires right_descends { Reaches graph.now.versions right 0 }
+{
+    let mut timing = Timing::new();
+    for _ in 0..rounds {
+        let start = Instant::now(rt)?;
+        let sum = common_often(graph, left, right)?;
+        timing.add(start.elapsed(rt)?, sum);
+    }
+    timing.print(rt, "version_graph common", size, "versions", CALLS)?;
+    Ok(())
+}
+
+fn time_ancestor<R: Clock + Print + AllocGlobal>(
+    rt: &R,
+    graph: &Graph,
+    base: u32,
+    head: u32,
+    size: u32,
+    rounds: u32,
+) -> Result<()>
+    requires base_there { base < length graph.now.versions }
+    requires head_there { head < length graph.now.versions }
+{
+    let mut timing = Timing::new();
+    for _ in 0..rounds {
+        let start = Instant::now(rt)?;
+        let sum = ask_often(graph, base, head)?;
+        timing.add(start.elapsed(rt)?, sum);
+    }
+    timing.print(rt, "version_graph is_ancestor", size, "versions", CALLS)?;
+    Ok(())
+}
+
 /// Times the making of the graph, and the questions about its two heads.
 pub fn time_lineages<R: Clock + Print + AllocGlobal>(rt: &R, size: u32, rounds: u32) -> Result<()>
     requires { 0 < size }
@@ -108,18 +152,6 @@ pub fn time_lineages<R: Clock + Print + AllocGlobal>(rt: &R, size: u32, rounds: 
     let base = trunk_of(size) - 1;
     let grown = graph.is_ancestor(0, left)? && graph.is_ancestor(0, right)?;
     ensure!(grown, "a head is not made from the first version");
-
-    let (mut common, mut ancestor) = (Timing::new(), Timing::new());
-    for _ in 0..rounds {
-        let start = Instant::now(rt)?;
-        let sum = common_often(&graph, left, right)?;
-        common.add(start.elapsed(rt)?, sum);
-
-        let start = Instant::now(rt)?;
-        let sum = ask_often(&graph, base, right)?;
-        ancestor.add(start.elapsed(rt)?, sum);
-    }
-    common.print(rt, "version_graph common", size, "versions", CALLS)?;
-    ancestor.print(rt, "version_graph is_ancestor", size, "versions", CALLS)?;
-    Ok(())
+    time_common(rt, &graph, left, right, size, rounds)?;
+    time_ancestor(rt, &graph, base, right, size, rounds)
 }

@@ -66,15 +66,43 @@ fn share_all(locks: &mut Locks, alloc: Global, size: u32) -> Result<(), AllocErr
     Ok(())
 }
 
+fn admit_timed<R: Clock>(rt: &R, locks: &mut Locks, size: u32, timing: &mut Timing) -> Result<()> {
+    let start = Instant::now(rt)?;
+    admit_all(locks, size)?;
+    timing.add(start.elapsed(rt)?, 0);
+    Ok(())
+}
+
+fn admit_round<R: Clock + AllocGlobal>(rt: &R, size: u32, timing: &mut Timing) -> Result<()> {
+    let mut locks = Locks::new(rt.alloc())?;
+    admit_timed(rt, &mut locks, size, timing)
+}
+
 fn time_admits<R: Clock + Print + AllocGlobal>(rt: &R, size: u32, rounds: u32) -> Result<()> {
     let mut timing = Timing::new();
     for _ in 0..rounds {
-        let mut locks = Locks::new(rt.alloc())?;
-        let start = Instant::now(rt)?;
-        admit_all(&mut locks, size)?;
-        timing.add(start.elapsed(rt)?, 0);
+        admit_round(rt, size, &mut timing)?;
     }
     timing.print(rt, "lock_table admit", size, "sessions", size)?;
+    Ok(())
+}
+
+fn ask_rounds<R: Clock>(
+    rt: &R,
+    locks: &mut Locks,
+    session: u32,
+    needs: &Needs,
+    rounds: u32,
+    timing: &mut Timing,
+) -> Result<()>
+    requires admitted { IsAdmitted locks.old session }
+    requires locks { All (λ n. n.lock < LOCKS) needs.now }
+{
+    for _ in 0..rounds {
+        let start = Instant::now(rt)?;
+        let granted = ask_often(locks, session, needs);
+        timing.add(start.elapsed(rt)?, granted);
+    }
     Ok(())
 }
 
@@ -92,11 +120,7 @@ fn time_asks<R: Clock + Print + AllocGlobal>(
     let needs = one_need(rt.alloc(), lock, true)?;
     locks.admit(size)?;
     let mut timing = Timing::new();
-    for _ in 0..rounds {
-        let start = Instant::now(rt)?;
-        let granted = ask_often(&mut locks, size, &needs);
-        timing.add(start.elapsed(rt)?, granted);
-    }
+    ask_rounds(rt, &mut locks, size, &needs, rounds, &mut timing)?;
     timing.print(rt, work, size, "sessions", CALLS)?;
     Ok(())
 }
