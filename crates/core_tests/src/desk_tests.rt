@@ -161,6 +161,23 @@ pub fn hold<St: Store, J: Log<St>>(
     }
 }
 
+// The board answers a line of session 2 in a transaction that begins before it.
+fn open_with<St: Store, J: Log<St>>(
+    alloc: Global,
+    board: &mut Board<St, J>,
+    desk: &mut Desk<St>,
+    line: &str,
+    expected: &str,
+) -> Result<(), Fail>
+    requires { IsBare 2 board.old.kept desk.old }
+    ensures bare { OnOk result (IsBare 2 board.new.kept desk.new) }
+    ensures others { OnOk result (KeepsOthers 2 board.old.kept board.new.kept) }
+{
+    hold(alloc, board, desk, "2 begin", "> 2 begin\nok\n")?;
+    hold(alloc, board, desk, line, expected)?;
+    Ok(())
+}
+
 /// A board, and desks of the sessions 1 and 2. Session 2 has a transaction open, in which it had this
 /// line, and got this reply.
 pub fn with_open<St: Store>(
@@ -174,8 +191,7 @@ pub fn with_open<St: Store>(
     ensures sessions { IfOk result (λ p. (p.1.session ≡ 1) × (p.2.session ≡ 2)) }
 {
     let (mut board, first, mut second) = two_desks(alloc, store, NoLog)?;
-    hold(alloc, &mut board, &mut second, "2 begin", "> 2 begin\nok\n")?;
-    hold(alloc, &mut board, &mut second, line, expected)?;
+    open_with(alloc, &mut board, &mut second, line, expected)?;
     Ok((board, first, second))
 }
 
