@@ -1,7 +1,8 @@
 -- A line that joins a batch.
-use Rattle.std.proofs.Common.{◌≡◌, ◌<◌, ◌≤◌, ◌+◌, ◌∙◌, ℕ, not, Bool, true, false, List, [], ◌∷◌, ◌++◌, length, None, Some, refl, sym, ap, subst, arith}
+use Rattle.std.proofs.Common.{◌≡◌, ◌<◌, ◌≤◌, ◌+◌, ◌∙◌, ℕ, not, Bool, true, false, List, [], ◌∷◌, ◌++◌, length, Option, None, Some, refl, sym, ap, subst, arith}
 use Rattle.std.proofs.lemmas.Bool.{ltb-false, ltb-true}
 use Rattle.std.proofs.lemmas.List.{length-append}
+use Rattle.std.specs.Prelude.{IfSome}
 use Rattle.db_value.specs.declared.entry.Entry.{Entry}
 use Rattle.db_value.specs.declared.entry.Entry.TheVariants.{Commit, Branch}
 use Rattle.db_value.specs.declared.reply.Reply.{Reply}
@@ -35,6 +36,10 @@ use Rattle.db_core.proofs.Members.{roomy, call_is, call_line, asks_line}
 use Rattle.db_core.proofs.Committing.{asks_is}
 use Rattle.db_core.proofs.Offering.{offered_more}
 
+pub commit_named : (e : Entry) → IsCommit e → IsNamed e
+commit_named (Commit b second changes) h = tt
+commit_named (Branch name origin) h = absurd h
+
 module _ (b : Kept) (s : ℕ) (text : List ℕ) (ns : List Need) (e : Entry) (told : Reply) (ms : List AtMember) (may : MayJoin b s text ns e told ms) where
   abbrev w : World
   w = world_of b
@@ -44,13 +49,6 @@ module _ (b : Kept) (s : ℕ) (text : List ℕ) (ns : List Need) (e : Entry) (to
 
   pub join_commit : IsCommit e
   join_commit = asks_is e (subst AsksCommit may.asked (asks_line w m may.waits))
-
-  pub join_named : IsNamed e
-  join_named = by e join_commit
-    where
-      by : (f : Entry) → IsCommit f → IsNamed f
-      by (Commit c second changes) h = tt
-      by (Branch name origin) h = absurd h
 
   entry_is : last_entry w s may.waits.stmt ≡ Some e
   entry_is = sym (called_of may.waits.stmt (last_entry w s may.waits.stmt)) ∙ ap entry_called (sym (call_is w m may.waits) ∙ sym (call_line w m may.waits) ∙ may.asked)
@@ -79,7 +77,18 @@ module _ {St V P Q : Type 0} (Prepares : P → State → Entry → Type 0) where
       (ap (λ (m : AtMember). entry_called (call_in (world_of b) (unmarked m.line))) same ∙ ap entry_called may.asked)
       (subst (AllTwo (members_of ks)) (sym same) may.others) is few ticket ready o
 
+  pub offered_as : (r n : ℕ) (b c : Kept) (q p : AtQueue) (ks ms : List (Member St V P Q)) → n ≡ r → c ≡ b → p ≡ q → ms ≡ ks → AreOffered Prepares r b q ks → AreOffered Prepares n c p ms
+  offered_as r n b c q p ks ms ready board queue members h =
+      subst (λ (x : ℕ × (Kept × (AtQueue × List (Member St V P Q)))). AreOffered Prepares x.0 x.1.0 x.1.1.0 x.1.1.1)
+      (λ i. (sym ready i, (sym board i, (sym queue i, sym members i)))) h
+
 -- ---- whether its entry fits beside those that wait
+
+-- the ticket that it has then, and the batch with its spelling
+pub taken : (q p : AtQueue) (t : ℕ) (o : Option ℕ) (bytes spelled : List ℕ) → o ≡ Some t → bytes ≡ spelled → IfSome o (λ n. (n ≡ next_ticket q) × (p ≡ record q { waiting = q.waiting ++ bytes }))
+    → (t ≡ next_ticket q) × (p ≡ record q { waiting = q.waiting ++ spelled })
+taken q p t o bytes spelled is same h =
+    subst (λ (x : Option ℕ × List ℕ). IfSome x.0 (λ n. (n ≡ next_ticket q) × (p ≡ record q { waiting = q.waiting ++ x.1 }))) (λ i. (is i, same i)) h
 
 pub short_of : (e : Entry) → IsEntry e → length (spelling e) ≤ most_body
 short_of e is = omega (arith, size_is e, entry_few e is)

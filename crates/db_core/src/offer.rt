@@ -1,5 +1,5 @@
 //! Lines that are offered to a batch, whose members wait for the log together.
-ghost use Rattle.std.specs.Prelude.{◌≡◌, ◌<◌, ◌≤◌, ◌+◌, ◌++◌, [], None, Some, true, false, not, is_some, nat_lt, vec_len, vec_capacity, length, All, IfOk, IfSome, OnOk, OnErr};
+ghost use Rattle.std.specs.Prelude.{◌≡◌, ◌<◌, ◌≤◌, ◌+◌, ◌++◌, [], None, Some, true, false, not, is_some, nat_lt, length, All, IfOk, IfSome, OnOk, OnErr};
 ghost use Rattle.db_store.specs.State.{dataset_of};
 ghost use Rattle.lock_table.specs.Rows.{conflict, conflicts};
 ghost use Rattle.branch_tx.specs.Laws.{IsRoomy};
@@ -19,13 +19,14 @@ ghost use Rattle.db_core.specs.Waiting.{AreOffered, members_of};
 ghost use Rattle.db_core.specs.Offers.{any_conflict, is_hindered, is_alone, must_settle, takes_alone, is_commit, may_commit, overflows, settles_first, IsCommitOf, MayOffer, MayJoin, IsRightly, IfFirst, IfAnswered, IfTicketed, IsStillAt, IsNotOffered, IsUntouched, IsServedFor, IsTicketed};
 
 use crate::board::{Board, ready_after};
+use crate::brought::{add_member, bring, move_steps, reserve_for};
 use crate::desk::Desk;
 use crate::member::{Member, Waiting};
-use crate::session::{Session, answer, close, session_needs};
+use crate::session::{Session, answer, session_needs};
 use db_outside::BatchStop;
 use db_store::Store;
 use db_value::{Entry, LineText, Reply, Step};
-use entry_codec::{Log, encode, fitting_law};
+use entry_codec::Log;
 use flush_queue::{FlushQueue, Ticket};
 use lock_table::{Locks, Need, Needs};
 use std::alloc::{AllocError, Global};
@@ -215,20 +216,6 @@ fn commit_of<St: Store>(
     }
 }
 
-// Moves steps to the end of a list that has room for them.
-fn move_steps(steps: &mut Vec<Step>, waiting: &mut Vec<Step>)
-    requires { vec_len steps.old + vec_len waiting.old ≤ vec_capacity steps.old }
-    ensures steps { steps.new.items ≡ steps.old.items ++ waiting.old.items }
-    ensures len { vec_len steps.new ≡ vec_len steps.old + vec_len waiting.old }
-    ensures capacity { vec_capacity steps.old ≤ vec_capacity steps.new }
-    ensures none { waiting.new.items ≡ [] }
-{
-    match steps.append(waiting) {
-        Ok(()) => {}
-        Err(_) => unreachable!(),
-    }
-}
-
 // The ticket of an entry's spelling that waits now; none if it doesn't fit beside those that waited.
 fn ticket_of(queue: &mut FlushQueue, spelled: &[u8]) -> Result<Option<Ticket>, AllocError>
     ensures fits { IfOk result (λ o. is_some o
@@ -371,27 +358,21 @@ impl<St: Store, J: Log<St>> Board<St, J> {
         ensures err { OnErr result (IsUntouched self.old self.new desk.old desk.new queue.old
             queue.new waiting.old.members.items waiting.new.members.items) }
     {
-        fitting_law();
-        let line = text.duplicate()?;
-        waiting.members.reserve(1)?;
-        self.steps.reserve(desk.waiting.len() + self.ready + 1)?;
-        let bytes = encode(self.alloc, entry)?;
-        let prepared = self.store.prepare(entry)?;
-        match ticket_of(queue, bytes.as_slice())? {
+        reserve_for(&mut self.steps, &mut waiting.members, desk, self.ready)?;
+        let brought = bring(self.alloc, &mut self.store, text, entry)?;
+        match ticket_of(queue, brought.spelled.as_slice())? {
             None => Ok(None),
             Some(ticket) => {
-                move_steps(&mut self.steps, &mut desk.waiting);
                 self.ready += 1;
-                close(&mut desk.session, false);
-                let (reply, copy) = told.into_both();
-                waiting.members.push_reserved(Member {
+                let reply = add_member(
+                    &mut self.steps,
+                    desk,
+                    &mut waiting.members,
                     ticket,
-                    session: desk.session.number,
-                    line,
-                    reply: copy,
                     needs,
-                    prepared,
-                });
+                    told,
+                    brought,
+                );
                 Ok(Some((ticket, reply)))
             }
         }
