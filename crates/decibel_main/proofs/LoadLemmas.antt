@@ -1,6 +1,6 @@
 -- The summary of a load, and what was written of it.
 use Rattle.std.proofs.Common.{◌≡◌, ◌≢◌, ◌⊎◌, inl, inr, ◌∙◌, [], List, ℕ, map, sym, ap, subst, Option}
-use Rattle.std.specs.Prelude.{Result, Ok, Err, IfOk}
+use Rattle.std.specs.Prelude.{Result, Ok, Err, IfOk, OnOk}
 use Rattle.db_value.specs.Schema.{schema_of}
 use Rattle.db_value.specs.declared.reply.Reply.{Reply}
 use Rattle.db_value.specs.declared.schema.Relation.{Relation}
@@ -28,7 +28,7 @@ load_is n k s schema rest text reads opens ran is =
     ∙ sym (ap (summary_with n) reads)
 
 -- so it is of a text that is there
-pub load_ok : {V E : Type 0} (r : Result V E) (items : V → List ℕ) (n : ℕ) (k : Kept) (s : State) (schema : List Relation) (rest : List (List ℕ)) → schema_of (script_of n) ≡ Ok (schema, rest) → s ≡ new_state schema → HasRun k s rest
+pub load_ok : {V E : Type 0} (r : Result V E) (items : V → List ℕ) (n : ℕ) (k : Kept) (s : State) (schema : List Relation) (rest : List (List ℕ)) → schema_of (script_of n) ≡ Ok (schema, rest) → s ≡ new_state schema → OnOk r (HasRun k s rest)
     → IfOk r (λ (v : V). items v ≡ summary_of n (map (λ (x : Step). x.reply) k.steps) k.now) → IfOk r (λ (v : V). items v ≡ load_text n)
 load_ok (Ok v) items n k s schema rest reads opens ran is = load_is n k s schema rest (items v) reads opens ran is
 load_ok (Err e) items n k s schema rest reads opens ran is = tt
