@@ -147,6 +147,14 @@ def records_from(c, at):
         at += 37 + size
 
 
+def with_entries(c):
+    """A file's bytes up to its records, and their bodies run together, since entries may share a record."""
+    if not has_header(c):
+        return c, b""
+    at = 57 + struct.unpack("<Q", c[17:25])[0]
+    return c[:at], b"".join(body for _, body in records_from(c, at))
+
+
 def opened(c):
     """Generation, dataset and number of entries of a file with a header."""
     generation, size = struct.unpack("<QQ", c[9:25])

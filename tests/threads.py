@@ -1,11 +1,11 @@
 """`sessions` on real files: each session's lines on a thread of its own, and the program killed while threads run.
 
 Which interleaving comes is not known, so it is read off the echo. What is written for it is compared with what `script` and the model give for the echoed
-lines, and the files with those that `script` leaves.
+lines, and the entries of the files with those that `script` leaves: lines that commit at the same time share a record.
 """
 import os, random, re, subprocess, tempfile, time
 
-import model, on_files, random_scripts, worked
+import files, model, on_files, random_scripts, worked
 
 SCHEMA = worked.USUAL
 SCRIPTS, KILLED, SESSIONS, COMMITS = 50, 50, 8, 100
@@ -97,7 +97,7 @@ def one_script(base, other, given):
         wrong.append("sessions %s are left open" % left)
     if other.run("script", as_input(echo)) != (0, written, b""):
         wrong.append("the replies, by `script`")
-    if (base.read(0), base.read(1)) != (other.read(0), other.read(1)):
+    if [files.with_entries(base.read(file)) for file in (0, 1)] != [files.with_entries(other.read(file)) for file in (0, 1)]:
         wrong.append("the files")
     if base.run("check") != base.told() or base.run("check") != other.run("check"):
         wrong.append("what `check` tells")
