@@ -100,13 +100,24 @@ fn grants<St: Store>(rt: &impl Abort, alloc: Global, store: St) -> Result<(), Fa
     is_granted(rt, alloc, &mut board, &mut second)
 }
 
-// What session 1 asks for is held by session 2.
-fn holds<St: Store>(rt: &impl Abort, alloc: Global, store: St) -> Result<(), Fail> {
-    let (mut board, mut first, _second) = with_open(alloc, store, CHANGE, CHANGED)?;
+// What a session asks for is held by session 2.
+fn is_held_there<St: Store>(
+    rt: &impl Abort,
+    alloc: Global,
+    board: &mut Board<St, NoLog>,
+    desk: &mut Desk<St>,
+) -> Result<(), Fail>
+    requires { Agrees board.old.kept desk.old }
+{
     let get = stmt_of(alloc, "1 get items 1")?;
-    let told = board.grant(&mut first, &get)?;
+    let told = board.grant(desk, &get)?;
     assert!(rt; is_held(told, b"master", 2));
     Ok(())
+}
+
+fn holds<St: Store>(rt: &impl Abort, alloc: Global, store: St) -> Result<(), Fail> {
+    let (mut board, mut first, _second) = with_open(alloc, store, CHANGE, CHANGED)?;
+    is_held_there(rt, alloc, &mut board, &mut first)
 }
 
 // Session 2 has changed master, and its transaction is committed.
