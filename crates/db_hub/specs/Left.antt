@@ -39,9 +39,9 @@ AreTold lines [] (d ∷ ds) = ⊥
 AreTold lines (o ∷ os) [] = ⊥
 AreTold lines (o ∷ os) (d ∷ ds) = (d.0 ≡ o.0) × IsToldAt lines o.1 d.1 × AreTold lines os ds
 
--- whatever the pen owes are lines that were settled, and whose sessions haven't come back since
-abbrev pub OwesSettled : AtPen → Type 0
-OwesSettled p = (told : List (ℕ × Reply)) × AreTold p.lines p.owed told
+-- every place that the pen owes is one at which a line stands
+abbrev pub OwesLines : AtPen → Type 0
+OwesLines p = (told : List (ℕ × Reply)) × AreTold p.lines p.owed told
 
 -- ---- what lies under the lock
 

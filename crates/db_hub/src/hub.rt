@@ -6,7 +6,7 @@ ghost use Rattle.db_core.specs.Order.{said_of};
 ghost use Rattle.db_core.specs.Sits.{heard};
 ghost use Rattle.db_core.specs.Kept.{Stands};
 ghost use Rattle.db_hub.specs.Entered.{steps_of};
-ghost use Rattle.db_hub.specs.Left.{OwesSettled};
+ghost use Rattle.db_hub.specs.Left.{OwesLines};
 ghost use Rattle.db_hub.specs.Own.{AllNoted};
 ghost use Rattle.db_hub.specs.Rooms.{StoresSince};
 ghost use Rattle.db_hub.specs.Seats.{SeatClosed, SeatFailed};
@@ -144,7 +144,7 @@ impl<St: Store, J: Log<St>, T: LogTag<J>> Hub<St, J, T> {
 
     /// The board, whose log did for its lines what a log does, the note and its pen, whose list is that
     /// of the board's steps. Lines that wait are settled first, unless a pass was lost. The pen may owe
-    /// lines to sessions that were between their two visits.
+    /// places of lines, to sessions that were between their two visits.
     pub fn into_board(self) -> Shut<St, J>
         ensures named { (result.note.note ≡ T.note) × (result.pen.note ≡ T.note) }
         ensures opened { (result.board.kept.opening ≡ T.opened)
@@ -154,7 +154,7 @@ impl<St: Store, J: Log<St>, T: LogTag<J>> Hub<St, J, T> {
             × (result.board.kept.steps ≡ steps_of result.pen.lines) }
         ensures noted { AllNoted T.numbers result.pen.lines }
         ensures kept { is_carrying result.pen ≡ false → result.pen.kept ≡ [] }
-        ensures owed { OwesSettled result.pen }
+        ensures owed { OwesLines result.pen }
     {
         let Hub { lock } = self;
         let mut whole = lock.into_inner();
