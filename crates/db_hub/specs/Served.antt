@@ -1,30 +1,29 @@
 -- A line that is served at a hub: at once, or in a later visit.
-use Rattle.std.specs.Prelude.{◌≡◌, ◌⊎◌, ◌≤◌, ◌+◌, ℕ, Bool, true, false, List, [], ◌∷◌, ◌++◌, length, is_some, Option, Some, None}
+use Rattle.std.specs.Prelude.{◌≡◌, ◌≤◌, ℕ, Bool, true, false, List, [], ◌∷◌, ◌++◌, length, is_some, Some, None}
 use Rattle.atomic_table.specs.Seated.{TableId}
 use Rattle.db_value.specs.declared.reply.Reply.{Reply}
-use Rattle.db_value.specs.declared.step.Step.{Step}
 use Rattle.db_store.specs.State.{State}
 use Rattle.stmt_text.specs.declared.stmt.Stmt.{Stmt}
 use Rattle.history_note.specs.declared.view.NotedLine.{NotedLine}
 use Rattle.history_note.specs.declared.view.PassView.{PassView}
 use Rattle.history_note.specs.Views.{noted_line}
-use Rattle.history_note.specs.Shown.{AtPen, AtPass, FitsPen, carrying, is_carrying}
+use Rattle.history_note.specs.Shown.{AtPen, AtPass}
 use Rattle.history_note.specs.Places.{places, places_from, owed_to, kept_for, IsNoted}
 use Rattle.reply_text.specs.Reply.{NamesItsRows}
 use Rattle.db_core.specs.Order.{Said, said_of, reply_in}
 use Rattle.db_core.specs.Laws.{AllHaveRoom}
-use Rattle.db_core.specs.Kept.{Kept, Logged, Stands, step_of, saids}
+use Rattle.db_core.specs.Kept.{Logged, step_of, saids}
 use Rattle.db_core.specs.Answered.{IsAnswered}
 use Rattle.db_core.specs.Sits.{heard}
-use Rattle.db_core.specs.Desk.{AtDesk, Agrees, AllOthers, entered, cleared, waits}
+use Rattle.db_core.specs.Desk.{AtDesk, Agrees, AllOthers, entered, waits}
 use Rattle.db_core.specs.Members.{AtMember}
 use Rattle.db_core.specs.Awaiting.{AgreesAfter, ticketed_desk}
 use Rattle.db_hub.specs.declared.whole.Asked.{Asked}
 use Rattle.db_hub.specs.declared.whole.Asked.TheVariants.{Settle, Told, Waits}
 use Rattle.db_hub.specs.declared.whole.Visit.{Visit}
 use Rattle.db_hub.specs.declared.whole.Visit.TheVariants.{Served, Left}
-use Rattle.db_hub.specs.Entered.{steps_of, lines_of, IsFront, world_after, is_open_after, kept_at}
-use Rattle.db_hub.specs.Seats.{AtSeat, PassFits, seat_at}
+use Rattle.db_hub.specs.Entered.{steps_of, lines_of, IsFront, world_after, is_open_after}
+use Rattle.db_hub.specs.Seats.{AtSeat, seat_at}
 
 -- ---- what callers see
 

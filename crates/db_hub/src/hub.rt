@@ -144,7 +144,7 @@ impl<St: Store, J: Log<St>, T: LogTag<J>> Hub<St, J, T> {
 
     /// The board, whose log did for its lines what a log does, the note and its pen, whose list is that
     /// of the board's steps. Lines that wait are settled first, unless a pass was lost. The pen may owe
-    /// places of lines, to sessions that were between their two visits.
+    /// places of lines to sessions that were between their two visits: of each the place of its own line.
     pub fn into_board(self) -> Shut<St, J>
         ensures named { (result.note.note ≡ T.note) × (result.pen.note ≡ T.note) }
         ensures opened { (result.board.kept.opening ≡ T.opened)

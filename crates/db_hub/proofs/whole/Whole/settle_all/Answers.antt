@@ -1,12 +1,12 @@
-use Rattle.std.proofs.Common.{◌≡◌, ◌∙◌, ◌≤◌, ◌+◌, ◌++◌, ℕ, List, [], Bool, true, length, drop, refl, sym, ap, subst, arith}
+use Rattle.std.proofs.Common.{◌≡◌, ◌∙◌, ◌++◌, ℕ, List, [], Bool, true, length, drop, sym, ap, subst, arith}
 use Rattle.std.specs.Prelude.{is_some, is_err, vec_len}
 use Rattle.db_value.specs.declared.reply.Reply.{Reply}
 use Rattle.db_value.specs.declared.step.Step.{Step}
 use Rattle.history_note.specs.Shown.{AtPen}
-use Rattle.db_core.specs.Kept.{Kept, Logged, Stands, world_of}
-use Rattle.db_core.specs.Members.{AtMember, AllWaitIn, AllApart, member_steps, settled_board}
+use Rattle.db_core.specs.Kept.{Kept}
+use Rattle.db_core.specs.Members.{AtMember, member_steps}
 use Rattle.db_core.specs.Waiting.{members_of}
-use Rattle.db_hub.specs.Rooms.{AllOutIf, StoresSince}
+use Rattle.db_hub.specs.Rooms.{AllOutIf}
 use Rattle.db_hub.specs.Left.{LinesFit, written_for, told_all, MayWriteAll}
 use Rattle.db_hub.specs.Served.{AtWhole}
 use Rattle.db_hub.proofs.Batches.{none_carried, none_kept_lines, empty_is, some_is, as_many, new_steps, steps_long, may, kept_none, free_still, noted_same, room_settled, lines_settled}
