@@ -3,8 +3,8 @@
 
 Each session works on a branch of its own, in transactions of 50 gets and 5 updates, so that all but each transaction's first line of a kind are
 answered outside the lock, and then in transactions of 1,000 gets and 5 updates, so that nearly all lines are. The files are in memory, so that no
-sync is measured but one on a real file where it says so. Of each figure the least of some runs counts; the time of the same script without the
-sessions' lines is taken off.
+sync is measured, and then in the current folder, where each commit is synced. Of each figure the least of some runs counts; the time of the same
+script without the sessions' lines is taken off.
 """
 import os, shutil, subprocess, sys, tempfile, time
 
@@ -55,8 +55,8 @@ def woven(sections):
     return "".join("".join(line) for line in zip(*sections))
 
 
-def throughput(folder, turns, gets):
-    print("transactions of %d gets and 5 updates" % gets, flush=True)
+def throughput(folder, turns, gets, where):
+    print("transactions of %d gets and 5 updates, %s" % (gets, where), flush=True)
     base = os.path.join(folder, "data")
     first = None
     for sessions in (1, 2, 4, 8):
@@ -87,8 +87,9 @@ def main():
     here, there = tempfile.mkdtemp(dir="."), tempfile.mkdtemp(dir="/dev/shm")
     try:
         print("%d processors" % os.cpu_count())
-        throughput(there, TURNS, 50)
-        throughput(there, TURNS // 18, 1000)
+        for folder, where in ((there, "in memory"), (here, "on real files")):
+            throughput(folder, TURNS, 50, where)
+            throughput(folder, TURNS // 18, 1000, where)
         many(here)
     finally:
         shutil.rmtree(here)
