@@ -136,6 +136,10 @@ fn compare(
     Ok(())
 }
 
+fn is_word(rt: &impl Abort, word: &str, wanted: &str, line: &str) {
+    assert!(rt; word == wanted, "{line}");
+}
+
 // Offers the line of a row, and compares its answer. Does it wait?
 fn offer_row<St: Store, J: Log<St>>(
     rt: &impl Abort,
@@ -165,16 +169,16 @@ fn offer_row<St: Store, J: Log<St>>(
             }
             match offer_stmt(shared, desk, &text, &read.stmt)? {
                 Offered::SettleFirst => {
-                    assert!(rt; word == "first", "{line}");
+                    is_word(rt, word, "first", line);
                     Ok(false)
                 }
                 Offered::Answered { reply } => {
-                    assert!(rt; word == "answered", "{line}");
+                    is_word(rt, word, "answered", line);
                     compare(rt, alloc, &text, &reply, row)?;
                     Ok(false)
                 }
                 Offered::Ticketed { reply, .. } => {
-                    assert!(rt; word == "ticketed", "{line}");
+                    is_word(rt, word, "ticketed", line);
                     compare(rt, alloc, &text, &reply, row)?;
                     Ok(true)
                 }

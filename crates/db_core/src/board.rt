@@ -20,6 +20,7 @@ use entry_codec::Log;
 use lock_table::Locks;
 use std::alloc::{AllocError, Global};
 use std::marker::Model;
+use std::mem::forget;
 use stmt_text::Stmt;
 use store_tx::{Answer, branch_of, carry_out, refusal, save};
 
@@ -151,6 +152,23 @@ impl<St: Store, J: Log<St>> Board<St, J> {
     {
         let Board { store, log, .. } = self;
         (store, log)
+    }
+
+    /// The log, for a program that ends: the memory of lines and dataset isn't given back one by one,
+    /// since the system takes back all of it.
+    pub fn into_log(self) -> J
+        ensures log { result ≡ self.log }
+    {
+        let Board {
+            opening,
+            store,
+            log,
+            steps,
+            locks,
+            ..
+        } = self;
+        forget((opening, store, steps, locks));
+        log
     }
 
     // Answers a line of a session at once, and keeps it with its reply and mark. Want of memory leaves

@@ -224,9 +224,9 @@ pub record SeatReturns (opened : State) (p : AtPass) (old new : AtSeat) (text : 
 -- what holds of the reply of a line that was served in it
 abbrev pub IfServed : {St V P Q : Type 0} → Visit St V P Q → (Reply → Type 0) → Type 0
 IfServed (Served reply) P = P reply
-IfServed (Left pass) P = Unit {0}
+IfServed (Left pass all_wait) P = Unit {0}
 
 -- what holds of the pass that left its line
 abbrev pub IfLeft : {St V P Q : Type 0} → Visit St V P Q → (AtPass → Type 0) → Type 0
 IfLeft (Served reply) P = Unit {0}
-IfLeft (Left pass) P = P pass
+IfLeft (Left pass all_wait) P = P pass

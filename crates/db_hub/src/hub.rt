@@ -42,8 +42,11 @@ pub struct Hub<St: Store, J: Log<St>, T: LogTag<J>> {
     ghost stays: { T.stays ≡ true },
 }
 
-// Others may offer lines to the same batch.
-fn let_others_offer() {
+// Others may offer lines to the same batch, unless a line of each waits.
+fn let_others_offer(all_wait: bool) {
+    if all_wait {
+        return;
+    }
     for _ in 0..YIELDS {
         thread::yield_now();
     }
@@ -113,8 +116,8 @@ impl<St: Store, J: Log<St>, T: LogTag<J>> Hub<St, J, T> {
         let visit = self.enter(rt).first_visit(seat, text, stmt)?;
         match visit {
             Visit::Served { reply } => Ok(reply),
-            Visit::Left { pass } => {
-                let_others_offer();
+            Visit::Left { pass, all_wait } => {
+                let_others_offer(all_wait);
                 let reply = self.enter(rt).second_visit(seat, pass, text)?;
                 Ok(reply)
             }

@@ -88,8 +88,8 @@ enum Asked {
 pub enum Visit<St: Store> {
     /// The line was answered and entered.
     Served { reply: Reply },
-    /// It waits for its batch, with the pass that left it.
-    Left { pass: Pass<St> },
+    /// It waits for its batch, with the pass that left it. It tells whether a line of each seat waits.
+    Left { pass: Pass<St>, all_wait: bool },
 }
 
 // Memory for one line more that waits.
@@ -239,7 +239,8 @@ impl<St: Store, J: Log<St>, T: LogTag<J>> Whole<St, J, T> {
             Ok(asked) => match asked {
                 Asked::Waits => {
                     let pass = self.hand()?;
-                    Ok(Some(Visit::Left { pass }))
+                    let all_wait = self.waits.len() == self.out.len();
+                    Ok(Some(Visit::Left { pass, all_wait }))
                 }
                 Asked::Told { reply } => {
                     self.give_back(seat)?;

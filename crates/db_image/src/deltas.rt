@@ -1,11 +1,12 @@
 //! The deltas of a layout, from those of an image.
-ghost use Rattle.std.specs.Prelude.{◌≡◌, ℕ, ◌<◌, ◌≤◌, ◌/◌, ◌%◌, false, cond, [], ◌∷◌, ◌++◌, IfOk, OnOk};
+ghost use Rattle.std.specs.Prelude.{◌≡◌, ℕ, ◌<◌, ◌≤◌, ◌/◌, ◌%◌, false, IfOk, OnOk};
 ghost use Rattle.std.specs.List.{All};
 ghost use Rattle.commit_history.specs.Sparse.{is_flipped};
 ghost use Rattle.image_parts.specs.Whole.{delta_bit, word_bit};
 ghost use Rattle.db_image.specs.Parts.{bits_of, slots_between};
 
 use commit_history::Delta;
+use image_parts::next_bit;
 use image_text::Delta as DeltaRead;
 use std::alloc::{AllocError, Global};
 
@@ -67,22 +68,6 @@ fn next_word(slot: u32, end: u32) -> u32
     end
 }
 
-fn has_bit(word: u64, slot: u32) -> bool
-    ensures { result ≡ word_bit word (slot % 64) }
-{
-    (word >> (slot % 64)) % 2 == 1
-}
-
-fn put_slot(slots: &mut Vec<u32>, slot: u32, is_set: bool) -> Result<(), AllocError>
-    ensures { OnOk result (slots.new.items
-        ≡ cond is_set (slots.old.items ++ slot ∷ []) slots.old.items) }
-{
-    if is_set {
-        slots.push(slot)?;
-    }
-    Ok(())
-}
-
 // Puts the slots of a word from one up to another, whose bits are set, after the others.
 fn put_word(slots: &mut Vec<u32>, delta: &DeltaRead, slot: u32, next: u32) -> Result<(), AllocError>
     requires before { slot ≤ next }
@@ -92,11 +77,14 @@ fn put_word(slots: &mut Vec<u32>, delta: &DeltaRead, slot: u32, next: u32) -> Re
         → slots.new.items ≡ slots_between (delta_bit delta.now) from next) }
 {
     let word = word_of(delta, slot);
-    if word == 0 {
-        return Ok(());
-    }
-    'bits: for k in slot..next {
-        put_slot(slots, k, has_bit(word, k))?;
+    let mut at = slot;
+    'bits: while at < next {
+        let ahead = next_bit(word, at % 64) - at % 64;
+        if next - at <= ahead {
+            return Ok(());
+        }
+        slots.push(at + ahead)?;
+        at += ahead + 1;
     }
     Ok(())
 }

@@ -55,13 +55,13 @@ where
     match run_sessions(rt, alloc, sections, board, gate) {
         Ok(board) => {
             let put = put_steps(rt, alloc, board.steps(), sink);
-            let (_, log) = board.into_parts();
+            let log = board.into_log();
             let status = ended(put, before, log.fault_count());
             (status, log)
         }
         Err((_, board)) => {
             let _ = put_steps(rt, alloc, board.steps(), sink);
-            let (_, log) = board.into_parts();
+            let log = board.into_log();
             (Status::Memory, log)
         }
     }

@@ -1,5 +1,5 @@
 -- Which bits a walk changes, bit by bit and word by word.
-use Rattle.std.proofs.Common.{◌≡◌, ◌≢◌, ◌⊎◌, ℕ, zero, suc, ◌+◌, ◌-◌, ◌*◌, ◌/◌, ◌%◌, ◌^◌, ◌<◌, ◌≤◌, ◌==◌, ◌&&◌, Bool, true, false, not, cond, List, [], ◌∷◌, length, get_or, set, refl, sym, ap, inl, inr, subst, ◌∙◌, arith}
+use Rattle.std.proofs.Common.{◌≡◌, ◌≢◌, ◌⊎◌, ℕ, ◌+◌, ◌-◌, ◌*◌, ◌/◌, ◌%◌, ◌^◌, ◌<◌, ◌≤◌, ◌==◌, ◌&&◌, Bool, true, false, not, List, length, get_or, set, refl, sym, ap, inl, inr, subst, ◌∙◌, arith}
 use Rattle.std.specs.Prelude.{nat_lt, nat_le}
 use Rattle.std.proofs.lemmas.Bool.{eqb-true, eqb-false, cases_lt, lt-ltb, le-ltb, leb-true, le-leb}
 use Rattle.std.proofs.Math.Nat.{zero-div}
@@ -129,6 +129,39 @@ no_bits at word slot = ap (λ (b : Bool). (slot / 64 == at) && (b && word_bit wo
 
 pub all_bits : (at word k slot : ℕ) → 64 ≤ k → word_at at word slot ≡ first_bits at word k slot
 all_bits at word k slot le = ap (λ (b : Bool). (slot / 64 == at) && (b && word_bit word (slot % 64))) (sym (lt-ltb (slot % 64) k (omega (arith, le))))
+
+-- bits that are clear are passed over
+pub bits_over : (at word k next slot : ℕ) → k ≤ next → ((j : ℕ) → k ≤ j → j < next → word_bit word j ≡ false) → first_bits at word next slot ≡ first_bits at word k slot
+bits_over at word k next slot le none =
+    elim (cases_lt (slot % 64) k) [
+      | inl lt ↦ ap (λ (b : Bool). (slot / 64 == at) && (b && word_bit word (slot % 64))) (lt-ltb (slot % 64) next (omega (arith, lt, le)) ∙ sym (lt-ltb (slot % 64) k lt))
+      | inr ge ↦ behind ge (cases_lt (slot % 64) next)
+    ]
+  where
+    behind : k ≤ slot % 64 → (slot % 64 < next) ⊎ (next ≤ slot % 64) → first_bits at word next slot ≡ first_bits at word k slot
+    behind ge (inl lt) = ap (λ (b : Bool). (slot / 64 == at) && b) (clear (nat_lt (slot % 64) next) (nat_lt (slot % 64) k) (word_bit word (slot % 64)) (none (slot % 64) ge lt))
+      where
+        clear : (l m w : Bool) → w ≡ false → (l && w) ≡ (m && w)
+        clear l m w e = rw e (and_false l ∙ sym (and_false m))
+    behind ge (inr more) = ap (λ (b : Bool). (slot / 64 == at) && (b && word_bit word (slot % 64))) (le-ltb (slot % 64) next more ∙ sym (le-ltb (slot % 64) k ge))
+
+-- no bit is set before the first one
+pub starts : (base size at word next : ℕ) (bits : List Bool) → ((j : ℕ) → 0 ≤ j → j < next → word_bit word j ≡ false) → Flips base size (first_bits at word next) bits bits
+starts base size at word next bits none = flips_none base size (first_bits at word next) bits (λ slot lt. bits_over at word 0 next slot (omega arith) none ∙ no_bits at word slot)
+
+-- a bit is changed, and the next one is found
+pub turns : (base size at word k next : ℕ) (old mid new : List Bool) → k < 64 → word_bit word k ≡ true → k + 1 ≤ next → ((j : ℕ) → k + 1 ≤ j → j < next → word_bit word j ≡ false)
+    → Flips base size (first_bits at word k) old mid → Flips base size (λ slot. slot == 64 * at + k) mid new → Flips base size (first_bits at word next) old new
+turns base size at word k next old mid new lt is more none f g =
+    flips_then base size (first_bits at word k) (λ slot. slot == 64 * at + k) (first_bits at word next) old mid new f g
+    (λ slot less. bits_over at word (k + 1) next slot more none ∙ bit_more at word k slot lt is)
+
+-- a bit that is none of the segment is passed over, and the next one is found
+pub passes : (base size at word k next : ℕ) (old new : List Bool) → k < 64 → size ≤ 64 * at + k → k + 1 ≤ next → ((j : ℕ) → k + 1 ≤ j → j < next → word_bit word j ≡ false)
+    → Flips base size (first_bits at word k) old new → Flips base size (first_bits at word next) old new
+passes base size at word k next old new lt out more none f =
+    flips_same base size (first_bits at word k) (first_bits at word next) old new f
+    (λ slot less. bits_over at word (k + 1) next slot more none ∙ bit_clear size at word k slot lt less (λ inside. absurd (omega (arith, inside, out))))
 
 -- ---- a delta
 

@@ -1,3 +1,4 @@
+pub mod Bits
 pub mod Heads
 pub mod Turns
 pub mod Flips

@@ -15,6 +15,7 @@ ghost use Rattle.image_parts.specs.Whole.{word_bit, delta_bit, lane_of, is_keyed
 ghost use Rattle.image_parts.specs.Walk.{weigh, AreSmall, Agrees, Flips, word_at, turned, own_keys, all_keys, first_of, Shows};
 ghost use Rattle.image_parts.specs.Order.{ArePlaced, IsOrder, number_after};
 
+use crate::words::next_bit;
 use image_text::{Delta, RowPart, SegmentPart};
 use std::alloc::{AllocError, Global};
 
@@ -135,14 +136,13 @@ impl Walk {
         ensures agrees { Agrees numbers.now self.new }
         ensures flips { Flips base size (word_at at word) self.old.bits.items self.new.bits.items }
     {
-        if word == 0 {
-            return;
-        }
-        'bits: for k in 0..64u32 {
+        let mut k = next_bit(word, 0);
+        'bits: while k < 64 {
             let slot = 64 * at + k as usize;
-            if slot < size && (word >> k) % 2 == 1 {
+            if slot < size {
                 self.turn(numbers, base + slot);
             }
+            k = next_bit(word, k + 1);
         }
     }
 

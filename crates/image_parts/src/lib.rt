@@ -8,6 +8,7 @@
 //! |---|---|
 //! | `specs/Whole.antt` | the rules over the whole, and what bytes are an image |
 //! | `src/whole.rt` | how the rules over the whole are tried |
+//! | `src/words.rt` | how the set bits of a word are found |
 //! | `src/keys.rt` | how the rule on distinct keys is tried |
 //! | `src/writing.rt` | how an image is written |
 //! | `src/decoding.rt` | how bytes are read as an image |
@@ -17,7 +18,9 @@ mod decoding;
 mod keys;
 mod laws;
 mod whole;
+mod words;
 mod writing;
 
 pub use decoding::{ImageStop, decode};
+pub use words::next_bit;
 pub use writing::encode;

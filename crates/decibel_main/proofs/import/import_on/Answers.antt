@@ -15,9 +15,9 @@ returns-in-Err-clause-imports g c =
 pub returns-clause-imports : goal.returns-clause-imports
 returns-clause-imports g c =
     imports_told g.J.Log c.in-Ok.core c.import-imported.new.core (g.St.Store.state c.args.store) _ c.args.log _ c.args.relation.now c.args.input.now _ c.ended-status.result _ _ c.import-imported.result
-    c.in-Ok.ensures.kept c.in-Ok.ensures.log c.into_parts-log.ensures.log c.import-imported.ensures.told c.import-imported.ensures.first c.import-imported.ensures.all c.import-imported.ensures.stops c.ended-status.ensures.told
+    c.in-Ok.ensures.kept c.in-Ok.ensures.log c.into_log-log.ensures.log c.import-imported.ensures.told c.import-imported.ensures.first c.import-imported.ensures.all c.import-imported.ensures.stops c.ended-status.ensures.told
 
 pub returns-clause-disk : goal.returns-clause-disk
 returns-clause-disk g c = λ is.
-    counted_less (g.J.Log.faults c.args.log) (g.J.Log.faults c.into_parts-log.result.1)
+    counted_less (g.J.Log.faults c.args.log) (g.J.Log.faults c.into_log-log.result)
     (subst (λ (p : ℕ × ℕ). p.0 < p.1) (λ i. (c.fault_count-before.ensures i, c.fault_count.ensures i)) (ltb-true _ _ (c.ended-status.ensures.disk is)))

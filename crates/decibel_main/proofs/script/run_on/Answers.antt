@@ -17,5 +17,5 @@ returns-in-Err-clause-runs g c =
 pub returns-clause-runs : goal.returns-clause-runs
 returns-clause-runs g c =
     run_told g.J.Log c.in-Ok.core c.run_script-ran.new.core (g.St.Store.state c.args.store) _ c.args.log _ (lines_run (lines c.args.script.now)) _ _ c.run_script-ran.result c.ended-status.result _ _
-    c.in-Ok.ensures.kept c.in-Ok.ensures.log c.into_parts-log.ensures.log c.fault_count-before.ensures c.fault_count.ensures
+    c.in-Ok.ensures.kept c.in-Ok.ensures.log c.into_log-log.ensures.log c.fault_count-before.ensures c.fault_count.ensures
     c.run_script-ran.ensures.all c.run_script-ran.ensures.cut c.run_script-ran.ensures.whole c.ended-status.ensures

@@ -1,4 +1,4 @@
-use Rattle.std.proofs.Common.{rules, ◌≡◌, ◌<◌, ◌≤◌, ◌+◌, ℕ, length, get_or, refl, sym, ap, ◌∙◌, arith, nat_lt, Fits, w64}
+use Rattle.std.proofs.Common.{rules, ◌≡◌, ◌+◌, ℕ, get_or, refl, ap, arith, nat_lt}
 use Rattle.image_parts.proofs.Turns.{added, count_at, count_room, weigh_few}
 use Rattle.image_parts.proofs.keys.Walk.add.Goals as goal
 

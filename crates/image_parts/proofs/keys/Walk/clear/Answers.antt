@@ -1,4 +1,4 @@
-use Rattle.std.proofs.Common.{rules, ◌≡◌, ◌<◌, ◌≤◌, ◌+◌, ◌-◌, ℕ, length, get_or, refl, sym, ap, ◌∙◌, arith, Fits, w64}
+use Rattle.std.proofs.Common.{rules, ◌≡◌, ◌-◌, ℕ, get_or, refl, ap, arith}
 use Rattle.image_parts.proofs.Turns.{cleared, count_at, some_count}
 use Rattle.image_parts.proofs.keys.Walk.clear.Goals as goal
 
