@@ -30,10 +30,6 @@ version_part v = record { branch = v.branch; second = v.second }
 abbrev pub bits_of : ℕ → Delta → List Bool
 bits_of size d = map (delta_bit d) (range_with_len 0 size)
 
--- the slots from one up to another for which a rule holds
-abbrev pub slots_between : (ℕ → Bool) → ℕ → ℕ → List ℕ
-slots_between p from slot = filter p (range_with_len from (slot - from))
-
 -- a row over so many records, as the layout has it
 abbrev pub row_part : ℕ → RowPart → RowLaid
 row_part size x = record { branch = x.branch; from = x.from; deltas = map (bits_of size) x.deltas }

@@ -22,5 +22,4 @@ mod words;
 mod writing;
 
 pub use decoding::{ImageStop, decode};
-pub use words::next_bit;
 pub use writing::encode;

@@ -4,7 +4,7 @@ ghost use Rattle.image_parts.specs.Whole.{word_bit};
 
 /// The place of the first bit that is set from this place on, or 64 if there is none.
 #[tactic(auto, using(crate::proofs::Bits::none_ahead, crate::proofs::Bits::clear_ahead, crate::proofs::Bits::found_ahead))]
-pub fn next_bit(word: u64, from: u32) -> u32
+pub(crate) fn next_bit(word: u64, from: u32) -> u32
     requires { from ≤ 64 }
     ensures further { from ≤ result }
     ensures within { result ≤ 64 }
