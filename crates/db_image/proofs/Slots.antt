@@ -118,9 +118,9 @@ bits_are size d grown bits is long each =
     let inside : k < size = omega (arith, lt, many) in
     get_or_default bits k e false lt
     ∙ each k (omega (arith, lt, long))
-    ∙ ap (differ (delta_bit d k)) (ap (λ l. bit_of l k) is ∙ default_everywhere size k false)
+    ∙ ap (differ (delta_bit d k)) (ap (λ l. bit_of l k) is ∙ default_everywhere (size - 0) k false)
     ∙ differ_false (delta_bit d k)
-    ∙ sym (get_or-map-range_with_len (delta_bit d) 0 size k k e inside refl))
+    ∙ sym (get_or-map-range_with_len (delta_bit d) 0 size k k e inside (omega arith)))
   where
     many : length bits ≡ size
-    many = long ∙ ap length is ∙ length-replicate size false
+    many = let whole_size : size - 0 ≡ size = omega arith in long ∙ ap length is ∙ length-replicate (size - 0) false ∙ whole_size

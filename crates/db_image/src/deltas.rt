@@ -14,7 +14,6 @@ use std::alloc::{AllocError, Global};
 const WORD_BITS: u32 = 64;
 
 // The lowest bits of a word, as many as asked for.
-#[tactic(auto, using(crate::proofs::Slots::low_fits, crate::proofs::Slots::low_same))]
 fn low_bits(word: u64, many: u32) -> u64
     requires { many < 64 }
     ensures fits { (k : ℕ) → is_set result k ≡ true → k < many }
