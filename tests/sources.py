@@ -1,5 +1,5 @@
 """The crates as text: their files, their functions with the names of their clauses, their tests and their edits."""
-import functools, os, re
+import functools, os, re, subprocess
 from dataclasses import dataclass, field
 
 TOP = os.path.dirname(os.path.dirname(os.path.abspath(__file__)))
@@ -36,7 +36,11 @@ def crates():
 
 @functools.cache
 def tracked():
-    """The files of the repository, by their paths from the top, without what is made from them."""
+    """The files of the repository, by their paths from the top, without what is made from them: those that git knows, if there is git."""
+    if os.path.exists(os.path.join(TOP, ".git")):
+        listed = subprocess.run(["git", "ls-files", "-z"], cwd=TOP, stdout=subprocess.PIPE)
+        if listed.returncode == 0:
+            return sorted(path for path in listed.stdout.decode().split("\0") if os.path.isfile(os.path.join(TOP, path)))
     found = []
     for folder, folders, files in os.walk(TOP):
         folders[:] = [name for name in folders if name not in (".git", "out", "__pycache__")]
