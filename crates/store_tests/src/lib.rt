@@ -1,5 +1,5 @@
-//! Tests of entries, of stores, of working tables, of merges, and of questions to versions of a plain
-//! store. Nothing here is called.
+//! Tests of entries, of stores, of working tables, of merges, and of questions to versions of a
+//! plain store. Nothing here is called.
 #![tactic(auto)]
 
 #[cfg(test)]
