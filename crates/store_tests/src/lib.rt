@@ -1,4 +1,5 @@
-//! Tests of entries, of merges, and of questions to versions of a plain store. Nothing here is called.
+//! Tests of entries, of stores, of working tables, of merges, and of questions to versions of a
+//! plain store. Nothing here is called.
 #![tactic(auto)]
 
 #[cfg(test)]
@@ -16,6 +17,10 @@ mod merge_tests;
 #[cfg(test)]
 mod part_tests;
 #[cfg(test)]
+mod plain_tests;
+#[cfg(test)]
 mod scan_tests;
 #[cfg(test)]
 mod watched;
+#[cfg(test)]
+mod work_tests;

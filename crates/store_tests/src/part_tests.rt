@@ -1,5 +1,7 @@
 //! The parts that a version of a store of segments shows. The expected ones are written by hand.
 ghost use Rattle.std.specs.Prelude.{◌≡◌, ◌<◌, ◌∷◌, [], length, IfOk};
+ghost use Rattle.db_store.specs.State.{dataset_of};
+ghost use Rattle.db_store.specs.Parts.{IsViewable};
 ghost use Rattle.hybrid_store.specs.Parts.{AreSound};
 ghost use Rattle.hybrid_store.proofs.PartExamples.{head_of_one};
 
@@ -42,9 +44,13 @@ fn put<St: Store>(
     Ok(())
 }
 
-// A version, with a first relation.
-fn version<St: Store>(store: &St, at: VersionPlace) -> Result<St::View, Fail>
-    ensures { IfOk result (λ v. 0 < length (St.View.table v)) }
+/// A version, with a first relation.
+pub fn version<St: Store>(store: &St, at: VersionPlace) -> Result<St::View, Fail>
+    ensures some { IfOk result (λ v. 0 < length (St.View.table v)) }
+    ensures wide { IfOk result
+        (λ v. length (St.View.table v) ≡ length (dataset_of (St.state store.now)).schema) }
+    ensures viewable { IfOk result
+        (λ v. IsViewable (St.View.table v) (St.View.parts_of v)) }
 {
     let made = at.branch < store.branches() && at.position <= store.last(at.branch);
     if !made || store.schema().relations().is_empty() {
