@@ -7,11 +7,11 @@ use Rattle.std.specs.FinMap.{from_entries}
 use Rattle.key_index.specs.Overlaid.{Overlaid, touched}
 use Rattle.key_index.specs.declared.fork.Fork.{Fork}
 use Rattle.key_index.specs.declared.fork.End.TheVariants.{At}
-use Rattle.key_index.specs.Forks.{led, is_at, link_at, trail, items_of, AreForks}
+use Rattle.key_index.specs.Forks.{new_fork, led, is_at, link_at, trail, items_of, AreForks}
 use Rattle.key_index.proofs.Touches.{pair_eq, pair_sym, put_view, pushed_view}
 use Rattle.key_index.proofs.Walks.{same_place, stands}
 use Rattle.key_index.proofs.Trails.{entry_of, map_entries, with_new, item_at, some_at}
-use Rattle.key_index.proofs.Growth.{both_hold, new_fork}
+use Rattle.key_index.proofs.Growth.{both_hold}
 
 same_pair : (p q s : ℕ × ℕ) → pair_eq p q ≡ true → pair_eq p s ≡ pair_eq q s
 same_pair p q s e =
@@ -64,12 +64,11 @@ module _ {X : Type 0} where
   entries_pushed [] new = refl
   entries_pushed (fork ∷ forks) new = ap (λ (es : List ((ℕ × ℕ) × X)). entry_of fork ∷ es) (entries_pushed forks new)
 
-  entry_led : (fork : Fork X) (side : Bool) (to : ℕ) → entry_of (led fork side to) ≡ entry_of fork
-  entry_led fork true to = refl
-  entry_led fork false to = refl
+  entry_led : (fork : Fork X) (side : ℕ) (to : ℕ) → entry_of (led fork side to) ≡ entry_of fork
+  entry_led fork side to = refl
 
   -- links make no difference to the items
-  pub entries_led : (forks : List (Fork X)) (at : ℕ) (old : Fork X) (side : Bool) (to : ℕ) → old ≡ get_or forks at old → map_entries (set forks at (led old side to)) ≡ map_entries forks
+  pub entries_led : (forks : List (Fork X)) (at : ℕ) (old : Fork X) (side : ℕ) (to : ℕ) → old ≡ get_or forks at old → map_entries (set forks at (led old side to)) ≡ map_entries forks
   entries_led forks at old side to is = map-set_same entry_of forks at (led old side to) old (entry_led old side to ∙ ap entry_of is)
 
   -- the view after a fork was added for a new key

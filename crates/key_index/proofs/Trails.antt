@@ -7,9 +7,9 @@ use Rattle.std.specs.Map.{lookup}
 use Rattle.key_index.specs.declared.fork.Fork.{Fork}
 use Rattle.key_index.specs.declared.fork.End.{End}
 use Rattle.key_index.specs.declared.fork.End.TheVariants.{At, Past, Lost}
-use Rattle.key_index.specs.Forks.{step, is_odd, side_of, is_of, is_at, link_at, walk, trail, AreForks}
+use Rattle.key_index.specs.Forks.{step, way_of, link_of, is_of, is_at, link_at, walk, trail, AreForks}
 use Rattle.key_index.proofs.Touches.{pair_eq}
-use Rattle.key_index.proofs.Walks.{same_place, at_lost, past_lost, at_past, stands, is_free, not_lost}
+use Rattle.key_index.proofs.Walks.{same_place, at_lost, past_lost, at_past, stands, is_free, not_lost, way_small}
 
 module _ {X : Type 0} where
   abbrev pub entry_of : Fork X → (ℕ × ℕ) × X
@@ -58,8 +58,12 @@ module _ {X : Type 0} where
   pub in_range : (forks : List (Fork X)) (relation key at : ℕ) → AreForks forks → 0 < length forks → trail forks relation key ≡ At at → at < length forks
   in_range forks relation key at are some e = (stands (is_at forks relation key) (link_at forks) (length forks) are.within (length forks) 0 key at some e).1
 
-  pub free_at : (forks : List (Fork X)) (relation key at : ℕ) (side : Bool) → AreForks forks → 0 < length forks → trail forks relation key ≡ Past at side → (link_at forks at side ≡ 0) × (at < length forks)
+  pub free_at : (forks : List (Fork X)) (relation key at : ℕ) (side : ℕ) → AreForks forks → 0 < length forks → trail forks relation key ≡ Past at side → (link_at forks at side ≡ 0) × (at < length forks)
   free_at forks relation key at side are some e = is_free (is_at forks relation key) (link_at forks) (length forks) are.within (length forks) 0 key at side some e
+
+  -- the way past a fork is one of four
+  pub way_within : (forks : List (Fork X)) (relation key at way : ℕ) → trail forks relation key ≡ Past at way → way < 4
+  way_within forks relation key at way e = way_small (is_at forks relation key) (link_at forks) (length forks) 0 key at way e
 
   -- no trail is lost
   pub never_lost : (forks : List (Fork X)) (relation key : ℕ) → AreForks forks → 0 < length forks → trail forks relation key ≡ Lost → ⊥
@@ -73,7 +77,7 @@ module _ {X : Type 0} where
   pub some_at : (forks : List (Fork X)) (relation key at : ℕ) → trail forks relation key ≡ At at → 0 < length forks
   some_at forks relation key at is = some_of forks relation key (At at) (at_lost at) is
 
-  pub some_past : (forks : List (Fork X)) (relation key at : ℕ) (side : Bool) → trail forks relation key ≡ Past at side → 0 < length forks
+  pub some_past : (forks : List (Fork X)) (relation key at : ℕ) (side : ℕ) → trail forks relation key ≡ Past at side → 0 < length forks
   some_past forks relation key at side is = some_of forks relation key (Past at side) (past_lost at side) is
 
   -- a trail is lost only where there is no fork
@@ -82,12 +86,12 @@ module _ {X : Type 0} where
   none_lost (fork ∷ forks) relation key are is = absurd (never_lost (fork ∷ forks) relation key are (omega arith) is)
 
   -- a key whose trail ends past a fork has no item
-  pub none_past : (forks : List (Fork X)) (relation key at : ℕ) (side : Bool) → AreForks forks → trail forks relation key ≡ Past at side → lookup (pair_eq (relation, key)) (map entry_of forks) ≡ None
+  pub none_past : (forks : List (Fork X)) (relation key at : ℕ) (side : ℕ) → AreForks forks → trail forks relation key ≡ Past at side → lookup (pair_eq (relation, key)) (map entry_of forks) ≡ None
   none_past forks relation key at side are is = has_none relation key forks (λ p h. at_past p at side (sym (are.found relation key p h) ∙ is))
 
   nothing : AreForks {X = X} []
   unfolding is_at link_at
-  nothing = record { later = λ at right h. absurd (omega (arith, h)); within = λ at right h. absurd (omega (arith, h)); found = λ relation key at h. absurd (false≢true h) }
+  nothing = record { later = λ at way h. absurd (omega (arith, h)); within = λ at way h. absurd (omega (arith, h)); found = λ relation key at h. absurd (false≢true h) }
 
   pub none_there : (forks : List (Fork X)) → forks ≡ [] → AreForks forks
   none_there forks e = subst AreForks (sym e) nothing
@@ -96,9 +100,9 @@ module _ {X : Type 0} where
   unfolding is_at
   here_is forks relation key at fork h l = get_or-map (is_of relation key) forks at fork false l ∙ ap (is_of relation key) (sym h)
 
-  link_is : (forks : List (Fork X)) (at : ℕ) (right : Bool) (fork : Fork X) → fork ≡ get_or forks at fork → at < length forks → link_at forks at right ≡ side_of fork right
+  link_is : (forks : List (Fork X)) (at : ℕ) (way : ℕ) (fork : Fork X) → fork ≡ get_or forks at fork → at < length forks → link_at forks at way ≡ link_of fork way
   unfolding link_at
-  link_is forks at right fork h l = get_or-map (λ (f : Fork X). side_of f right) forks at fork 0 l ∙ ap (λ (f : Fork X). side_of f right) (sym h)
+  link_is forks at way fork h l = get_or-map (λ (f : Fork X). link_of f way) forks at fork 0 l ∙ ap (λ (f : Fork X). link_of f way) (sym h)
 
   module _ (forks : List (Fork X)) (relation key at rest : ℕ) (fork : Fork X) (is : fork ≡ get_or forks at fork) (l : at < length forks) where
     abbrev on : ℕ → ℕ → ℕ → End
@@ -106,52 +110,52 @@ module _ {X : Type 0} where
 
     pub stand_at : (fuel : ℕ) → 0 < fuel → is_of relation key fork ≡ true → on fuel at rest ≡ At at
     stand_at zero f h = absurd (omega (arith, f))
-    stand_at (suc fuel) f h = ap (λ (b : Bool). step b (link_at forks at (is_odd rest)) at (is_odd rest) (on fuel (link_at forks at (is_odd rest)) (rest / 2))) (here_is forks relation key at fork is l ∙ h)
+    stand_at (suc fuel) f h = ap (λ (b : Bool). step b (link_at forks at (way_of rest)) at (way_of rest) (on fuel (link_at forks at (way_of rest)) (rest / 4))) (here_is forks relation key at fork is l ∙ h)
 
-    pub stop_past : (fuel : ℕ) → 0 < fuel → is_of relation key fork ≡ false → side_of fork (is_odd rest) ≡ 0 → on fuel at rest ≡ Past at (is_odd rest)
+    pub stop_past : (fuel : ℕ) → 0 < fuel → is_of relation key fork ≡ false → link_of fork (way_of rest) ≡ 0 → on fuel at rest ≡ Past at (way_of rest)
     stop_past zero f h none = absurd (omega (arith, f))
     stop_past (suc fuel) f h none =
-        ap (λ (b : Bool). step b (link_at forks at (is_odd rest)) at (is_odd rest) (on fuel (link_at forks at (is_odd rest)) (rest / 2))) (here_is forks relation key at fork is l ∙ h)
-        ∙ ap (λ (x : ℕ). step false x at (is_odd rest) (on fuel x (rest / 2))) (link_is forks at (is_odd rest) fork is l ∙ none)
+        ap (λ (b : Bool). step b (link_at forks at (way_of rest)) at (way_of rest) (on fuel (link_at forks at (way_of rest)) (rest / 4))) (here_is forks relation key at fork is l ∙ h)
+        ∙ ap (λ (x : ℕ). step false x at (way_of rest) (on fuel x (rest / 4))) (link_is forks at (way_of rest) fork is l ∙ none)
 
-    go_case : (more : ℕ → End) (to : ℕ) → 0 < to → step false to at (is_odd rest) (more to) ≡ more to
+    go_case : (more : ℕ → End) (to : ℕ) → 0 < to → step false to at (way_of rest) (more to) ≡ more to
     go_case more zero f = absurd (omega (arith, f))
     go_case more (suc to) f = refl
 
-    pub go_on : (fuel to : ℕ) → 0 < fuel → is_of relation key fork ≡ false → to ≡ side_of fork (is_odd rest) → 0 < to → on fuel at rest ≡ on (fuel - 1) to (rest / 2)
+    pub go_on : (fuel to : ℕ) → 0 < fuel → is_of relation key fork ≡ false → to ≡ link_of fork (way_of rest) → 0 < to → on fuel at rest ≡ on (fuel - 1) to (rest / 4)
     go_on zero to f h leads some = absurd (omega (arith, f))
     go_on (suc fuel) to f h leads some =
-        ap (λ (b : Bool). step b (link_at forks at (is_odd rest)) at (is_odd rest) (on fuel (link_at forks at (is_odd rest)) (rest / 2))) (here_is forks relation key at fork is l ∙ h)
-        ∙ ap (λ (x : ℕ). step false x at (is_odd rest) (on fuel x (rest / 2))) (link_is forks at (is_odd rest) fork is l ∙ sym leads)
-        ∙ go_case (λ x. on fuel x (rest / 2)) to some
-        ∙ (let less : fuel ≡ suc fuel - 1 = omega arith in ap (λ (n : ℕ). on n to (rest / 2)) less)
+        ap (λ (b : Bool). step b (link_at forks at (way_of rest)) at (way_of rest) (on fuel (link_at forks at (way_of rest)) (rest / 4))) (here_is forks relation key at fork is l ∙ h)
+        ∙ ap (λ (x : ℕ). step false x at (way_of rest) (on fuel x (rest / 4))) (link_is forks at (way_of rest) fork is l ∙ sym leads)
+        ∙ go_case (λ x. on fuel x (rest / 4)) to some
+        ∙ (let less : fuel ≡ suc fuel - 1 = omega arith in ap (λ (n : ℕ). on n to (rest / 4)) less)
 
-    pub next_within : AreForks forks → (to : ℕ) → to ≡ side_of fork (is_odd rest) → 0 < to → to < length forks
+    pub next_within : AreForks forks → (to : ℕ) → to ≡ link_of fork (way_of rest) → 0 < to → to < length forks
     next_within are to leads some =
-        let same : link_at forks at (is_odd rest) ≡ to = link_is forks at (is_odd rest) fork is l ∙ sym leads in
-        subst (λ (x : ℕ). x < length forks) same (are.within at (is_odd rest) (subst (λ (x : ℕ). 0 < x) (sym same) some))
+        let same : link_at forks at (way_of rest) ≡ to = link_is forks at (way_of rest) fork is l ∙ sym leads in
+        subst (λ (x : ℕ). x < length forks) same (are.within at (way_of rest) (subst (λ (x : ℕ). 0 < x) (sym same) some))
 
   -- forks that lead alike and have the same keys are in order too
   pub alike : (forks forks2 : List (Fork X)) → link_at forks2 ≡ link_at forks → ((r k : ℕ) → is_at forks2 r k ≡ is_at forks r k) → length forks2 ≡ length forks → AreForks forks → AreForks forks2
   alike forks forks2 el ei en are = record {
-    later = λ p s h. subst (λ (L : ℕ → Bool → ℕ). 0 < L p s → p < L p s) (sym el) (are.later p s) h;
-    within = λ p s h. subst (λ (n : ℕ). link_at forks2 p s < n) (sym en) (subst (λ (L : ℕ → Bool → ℕ). 0 < L p s → L p s < length forks) (sym el) (are.within p s) h);
+    later = λ p s h. subst (λ (L : ℕ → ℕ → ℕ). 0 < L p s → p < L p s) (sym el) (are.later p s) h;
+    within = λ p s h. subst (λ (n : ℕ). link_at forks2 p s < n) (sym en) (subst (λ (L : ℕ → ℕ → ℕ). 0 < L p s → L p s < length forks) (sym el) (are.within p s) h);
     found = λ r k p h.
         ap (λ (H : ℕ → Bool). walk H (link_at forks2) (length forks2) 0 k) (ei r k)
-        ∙ ap (λ (L : ℕ → Bool → ℕ). walk (is_at forks r k) L (length forks2) 0 k) el
+        ∙ ap (λ (L : ℕ → ℕ → ℕ). walk (is_at forks r k) L (length forks2) 0 k) el
         ∙ ap (λ (n : ℕ). walk (is_at forks r k) (link_at forks) n 0 k) en
         ∙ are.found r k p (ap (λ (H : ℕ → Bool). H p) (sym (ei r k)) ∙ h);
   }
 
   -- another item at a fork
   abbrev pub with_new : Fork X → X → Fork X
-  with_new fork item = record { relation = fork.relation; key = fork.key; left = fork.left; right = fork.right; item = item }
+  with_new fork item = record { key = fork.key; links = fork.links; item = item; relation = fork.relation }
 
   pub item_set : (forks : List (Fork X)) (at : ℕ) (fork : Fork X) (item : X) → fork ≡ get_or forks at fork → AreForks forks → AreForks (set forks at (with_new fork item))
   unfolding is_at link_at
   item_set forks at fork item is are =
       alike forks (set forks at (with_new fork item))
-      (λ i p s. get_or (map-set_same (λ (f : Fork X). side_of f s) forks at (with_new fork item) fork (ap (λ (f : Fork X). side_of f s) is) i) p 0)
+      (λ i p s. get_or (map-set_same (λ (f : Fork X). link_of f s) forks at (with_new fork item) fork (ap (λ (f : Fork X). link_of f s) is) i) p 0)
       (λ r k i p. get_or (map-set_same (is_of r k) forks at (with_new fork item) fork (ap (is_of r k) is) i) p false)
       (length-set forks at (with_new fork item)) are
 

@@ -1,49 +1,47 @@
 //! The forks of an overlay, and the trail of a key through them.
 ghost use Rattle.std.specs.Prelude.{◌≡◌, ◌<◌, ◌≤◌, [], ◌∷◌, ◌++◌, length, vec_capacity};
-ghost use Rattle.key_index.specs.Forks.{AreForks, trail, side_of, is_of, led};
+ghost use Rattle.key_index.specs.Forks.{AreForks, trail, link_of, is_of, led, new_fork};
 
-/// A key with its item, and the forks to its left and to its right. The link 0 leads nowhere.
+/// How many ways lead on from a fork: one for each value of two bits of a key.
+const WAYS: u64 = 4;
+
+/// A key with its item, and the forks that each way leads to. The link 0 leads nowhere.
 #[derive(Drop)]
 pub(crate) struct Fork<T> {
-    pub(crate) relation: u8,
     pub(crate) key: u64,
-    pub(crate) left: u32,
-    pub(crate) right: u32,
+    pub(crate) links: [u32; 4],
     pub(crate) item: T,
+    pub(crate) relation: u8,
 }
 
-/// Where the trail of a key ends: at its own fork, or past another one on its left or its right.
+/// Where the trail of a key ends: at its own fork, or past another one on one of its ways.
 #[derive(Clone, Copy)]
 pub(crate) enum End {
     At(usize),
-    Past(usize, bool),
+    Past(usize, usize),
     Lost,
 }
 
 impl<T> Fork<T> {
     /// A fork that leads nowhere.
     pub(crate) fn new(relation: u8, key: u64, item: T) -> Fork<T>
-        ensures { result ≡ record
-            { relation = relation; key = key; left = 0; right = 0; item = item } }
+        ensures { result ≡ new_fork relation key item }
     {
         Fork {
-            relation,
             key,
-            left: 0,
-            right: 0,
+            links: [0; 4],
             item,
+            relation,
         }
     }
 
-    /// Leads on to a fork on a side.
-    pub(crate) fn lead(&mut self, right: bool, to: u32)
-        ensures { self.new ≡ led self.old right to }
+    /// Leads on to a fork by a way.
+    pub(crate) fn lead(&mut self, way: usize, to: u32)
+        requires { way < 4 }
+        ensures led { self.new ≡ led self.old way to }
+        ensures ways { length self.old.links ≡ 4 }
     {
-        if right {
-            self.right = to;
-        } else {
-            self.left = to;
-        }
+        self.links[way] = to;
     }
 
     // Whether the key of the relation is its own.
@@ -53,11 +51,12 @@ impl<T> Fork<T> {
         relation == self.relation && key == self.key
     }
 
-    // The fork on a side.
-    fn side(&self, right: bool) -> u32
-        ensures { result ≡ side_of self.now right }
+    // The fork that a way leads to.
+    fn link(&self, way: usize) -> u32
+        requires { way < 4 }
+        ensures { result ≡ link_of self.now way }
     {
-        if right { self.right } else { self.left }
+        self.links[way]
     }
 }
 
@@ -84,13 +83,13 @@ pub(crate) fn end_of<T>(forks: &[Fork<T>], relation: u8, key: u64) -> End
         if fork.is_of(relation, key) {
             return End::At(at);
         }
-        let right = rest % 2 == 1;
-        let to = fork.side(right);
+        let way = (rest % WAYS) as usize;
+        let to = fork.link(way);
         if to == 0 {
-            return End::Past(at, right);
+            return End::Past(at, way);
         }
         at = to as usize;
-        rest /= 2;
+        rest /= WAYS;
         fuel -= 1;
     }
     End::Lost
