@@ -142,6 +142,7 @@ fn import_rows<St: Store, J: Log<St>>(
         (RunsToEnd J.Log core.old core.new (import_lines relation.now rows)) }
     ensures stops { IfErr result (StopsAs J.faults core.old core.new) }
 {
+    core.reserve((rows.as_slice().len() as u64).min(MOST_ROWS) as u32 + 2)?;
     core.stands();
     let room = MOST_ROWS as u32;
     run_stmt(alloc, core, Stmt::Begin { room: Some(room) })?;

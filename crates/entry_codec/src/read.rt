@@ -137,7 +137,8 @@ fn first_changes(
     ensures size { IfOk result (λ o. IfSome o (λ r. r.1 ≡ changes_size r.0.items)) }
     ensures within { IfOk result (λ o. IfSome o (λ r. r.1 ≤ length b.now)) }
 {
-    let mut changes: Vec<Change> = Vec::new(alloc);
+    // A change has ten bytes at least, so a count that is too great takes no more memory than these bytes.
+    let mut changes: Vec<Change> = Vec::with_capacity(alloc, (count as usize).min(b.len() / 10))?;
     let mut at = 0usize;
     'changes: for _i in 0..count {
         match push_first(&mut changes, &b[at..])? {

@@ -113,6 +113,7 @@ fn put_commit(
     ensures bytes { OnOk result (out.new.items
         ≡ out.old.items ++ spelling (Commit branch second.now changes.now)) }
 {
+    out.reserve(room_of(changes))?;
     out.push(1)?;
     put_u32(out, branch)?;
     put_second(out, second)?;
@@ -130,6 +131,16 @@ fn put_branch(out: &mut Vec<u8>, name: &Name, origin: &VersionPlace) -> Result<(
     out.extend_from_slice(bytes)?;
     put_place(out, origin)?;
     Ok(())
+}
+
+// Room for a commit's bytes, if each of its changes has as many as the first.
+fn room_of(changes: &[Change]) -> usize
+    requires { length changes.now < 2 ^ 32 }
+{
+    match changes {
+        [] => 32,
+        [first, ..] => 32 + changes.len() * (10 + 8 * count_of(&first.fields) as usize),
+    }
 }
 
 /// The bytes of an entry that has at most 65,536 changes. Its numbers have the ranges of their types.
