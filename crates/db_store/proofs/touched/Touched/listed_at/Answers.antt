@@ -10,7 +10,7 @@ use Rattle.db_store.proofs.ChangeLemmas.{place_other, place_next, taken_once, no
 use Rattle.db_store.proofs.touched.Touched.listed_at.Goals as goal
 
 pub loop-place-init : goal.loop-place-init
-loop-place-init c = rw c.new-places.ensures.items (nothing_listed c.args.relation)
+loop-place-init c = rw c.in_ok-places.ensures.items (nothing_listed c.args.relation)
 
 pub loop-place-preserved-then-touch-relation : goal.loop-place-preserved-then-touch-relation
 loop-place-preserved-then-touch-relation c =
