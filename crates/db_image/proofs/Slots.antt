@@ -1,13 +1,12 @@
 -- The slots of a delta as places of a bitmap, word by word.
-use Rattle.std.proofs.Common.{◌≡◌, ◌⊎◌, inl, inr, ℕ, zero, suc, ◌+◌, ◌-◌, ◌*◌, ◌/◌, ◌%◌, ◌^◌, ◌<◌, ◌≤◌, ◌==◌, Bool, true, false, ◌&&◌, List, [], ◌++◌, length, get_or, map, replicate, refl, sym, ap, ◌∙◌, arith}
+use Rattle.std.proofs.Common.{◌≡◌, inl, inr, ℕ, ◌+◌, ◌-◌, ◌/◌, ◌%◌, ◌^◌, ◌<◌, ◌==◌, Bool, true, false, ◌&&◌, List, [], length, refl, sym, ap, ◌∙◌, arith}
 use Rattle.std.specs.Prelude.{nat_le}
 use Rattle.std.specs.Int.{bit_at}
-use Rattle.std.specs.List.{range_with_len}
 use Rattle.std.proofs.Math.Nat.{mod-lt}
 use Rattle.std.proofs.Math.Pow.{mod-mod-pow}
 use Rattle.std.proofs.lemmas.Nat.{mod-pow-add, div-mul-add, pow_pos}
 use Rattle.std.proofs.lemmas.Nat.Bits.{bit_at_above}
-use Rattle.std.proofs.lemmas.Bool.{cases_lt, eqb-true, false≢true}
+use Rattle.std.proofs.lemmas.Bool.{cases_lt, false≢true}
 use Rattle.std.proofs.lemmas.List.{same_lists, get_or_past, get_or_default, length-replicate}
 use Rattle.std.proofs.lemmas.List.FromFn.{get_or-map-range_with_len, length-map-range_with_len}
 use Rattle.plain_bits.specs.Truth.{bit_of, differ, lengthened}
@@ -16,8 +15,7 @@ use Rattle.plain_bits.proofs.Truths.{default_everywhere}
 use Rattle.image_text.specs.declared.image.Delta.{Delta}
 use Rattle.image_parts.specs.Whole.{delta_bit}
 use Rattle.image_parts.specs.Whole as whole
-use Rattle.image_parts.specs.Walk.{word_at}
-use Rattle.image_parts.proofs.Flips.{first_words, word_more, no_words, all_words, none_bit}
+use Rattle.image_parts.proofs.Flips.{and_false, none_bit}
 use Rattle.db_image.specs.Parts.{bits_of}
 
 -- ---- the lowest bits of a word
@@ -42,63 +40,7 @@ low_fits word many k one =
       | inr le ↦ absurd (false≢true (sym (ap (λ n. n == 1) (bit_at_above (word % 2 ^ many) many k (mod-lt word (pow_pos many)) le)) ∙ one))
     ]
 
--- ---- the places of a word
-
--- a place of another word
-elsewhere : (at word k : ℕ) → (k / 64 ≡ at → ⊥) → word_at at word k ≡ false
-elsewhere at word k other = by (k / 64 == at) refl
-  where
-    by : (q : Bool) → (k / 64 == at) ≡ q → (q && whole.word_bit word (k % 64)) ≡ false
-    by true e = absurd (other (eqb-true (k / 64) at e))
-    by false e = refl
-
-and_false : (q : Bool) → (q && false) ≡ false
-and_false true = refl
-and_false false = refl
-
--- where nothing is changed
-pub nothing_at : (at word k : ℕ) (b : Bool) → word ≡ 0 → b ≡ differ (word_at at word k) b
-nothing_at at word k b none = ap (λ x. differ x b) (sym (ap (λ w. word_at at w k) none ∙ ap (λ x. (k / 64 == at) && x) (none_bit (k % 64)) ∙ and_false (k / 64 == at)))
-
-pub nothing_past : (at word k len : ℕ) (b : Bool) → k < len → len ≤ 64 * at → b ≡ differ (word_at at word k) b
-nothing_past at word k len b lt le = ap (λ x. differ x b) (sym (elsewhere at word k (λ e. omega (arith, e, lt, le))))
-
--- the lowest bits of the last word are those of its places
-pub last_at : (at word low many k : ℕ) → ((j : ℕ) → j < many → is_set low j ≡ is_set word j) → k < 64 * at + many → word_bit at low k ≡ word_at at word k
-last_at at word low many k same lt = by (k / 64 == at) refl
-  where
-    by : (q : Bool) → (k / 64 == at) ≡ q → (q && is_set low (k % 64)) ≡ (q && is_set word (k % 64))
-    by true e = same (k % 64) (let is : k / 64 ≡ at = eqb-true (k / 64) at e in omega (arith, is, lt))
-    by false e = refl
-
 -- ---- the words of a delta
-
-same_differ : (a b : Bool) → differ a b ≡ whole.differ a b
-same_differ true b = refl
-same_differ false b = refl
-
-differ_both : (a b c : Bool) → differ a (differ b c) ≡ differ (differ a b) c
-differ_both true true true = refl
-differ_both true true false = refl
-differ_both true false c = refl
-differ_both false b c = refl
-
--- one word more
-pub word_next : (first : ℕ) (words : List ℕ) (i word k : ℕ) (start before after : Bool) → word ≡ get_or words i 0
-    → before ≡ differ (first_words first words i k) start → after ≡ differ (word_at (first + i) word k) before → after ≡ differ (first_words first words (i + 1) k) start
-word_next first words i word k start before after is b a =
-    a
-    ∙ ap (λ x. differ (word_at (first + i) word k) x) b
-    ∙ differ_both (word_at (first + i) word k) (first_words first words i k) start
-    ∙ ap (λ w. differ (differ (word_at (first + i) w k) (first_words first words i k)) start) is
-    ∙ ap (λ x. differ x start) (same_differ (word_at (first + i) (get_or words i 0) k) (first_words first words i k) ∙ sym (word_more first words i k))
-
--- no word yet, and all of them
-pub words_none : (first : ℕ) (words : List ℕ) (k : ℕ) (b : Bool) → b ≡ differ (first_words first words 0 k) b
-words_none first words k b = ap (λ x. differ x b) (sym (no_words first words k))
-
-pub words_all : (d : Delta) (i k : ℕ) (start now : Bool) → length d.words ≤ i → now ≡ differ (first_words d.first d.words i k) start → now ≡ differ (delta_bit d k) start
-words_all d i k start now le is = is ∙ ap (λ x. differ x start) (sym (all_words d i k le))
 
 pub clear_words : (d : Delta) (k : ℕ) → length d.words ≡ 0 → delta_bit d k ≡ false
 clear_words d k none =
