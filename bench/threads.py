@@ -4,7 +4,8 @@
 Each session works on a branch of its own, in transactions of 50 gets and 5 updates, so that all but each transaction's first line of a kind are
 answered outside the lock, and then in transactions of 1,000 gets and 5 updates, so that nearly all lines are. The files are in memory, so that no
 sync is measured, and then in the current folder, where each commit is synced. Of each figure the least of some runs counts; the time of the same
-script without the sessions' lines is taken off.
+script without the sessions' lines is taken off. What the processors give at most is measured beside it: as many processes at once, each with one
+session and a dataset of its own.
 """
 import os, shutil, subprocess, sys, tempfile, time
 
@@ -76,6 +77,30 @@ def throughput(folder, turns, gets, where):
             sessions, count // sessions, rate, rate / first, count / found["script"]), flush=True)
 
 
+def at_once(bases, texts):
+    """The time until processes that are started together have all ended, each with a dataset and lines of its own."""
+    for base, text in zip(bases, texts):
+        fresh(base, 1)
+        with open(base + ".in", "w") as f:
+            f.write(text)
+    start = time.monotonic()
+    running = [subprocess.Popen([PROGRAM, "sessions", base], stdin=open(base + ".in", "rb"), stdout=subprocess.DEVNULL) for base in bases]
+    if any(child.wait() for child in running):
+        raise SystemExit("a process failed")
+    return time.monotonic() - start
+
+
+def apart(folder):
+    """What as many processes gain that share nothing."""
+    text, first = "".join("".join(line) for line in lines_of(1, TURNS)), None
+    for count in (1, 2, 4):
+        bases = [os.path.join(folder, "apart%d" % i) for i in range(count)]
+        empty = min(at_once(bases, [""] * count) for _ in range(RUNS))
+        rate = count * len(lines_of(1, TURNS)) / (min(at_once(bases, [text] * count) for _ in range(RUNS)) - empty)
+        first = first or rate
+        print("%d processes of one session each: %.0f lines a second, %.2f times one's" % (count, rate, rate / first), flush=True)
+
+
 def many(folder):
     base = os.path.join(folder, "many")
     fresh(base, 64)
@@ -87,6 +112,7 @@ def main():
     here, there = tempfile.mkdtemp(dir="."), tempfile.mkdtemp(dir="/dev/shm")
     try:
         print("%d processors" % os.cpu_count())
+        apart(there)
         for folder, where in ((there, "in memory"), (here, "on real files")):
             throughput(folder, TURNS, 50, where)
             throughput(folder, TURNS // 18, 1000, where)
