@@ -6,7 +6,7 @@ ghost use Rattle.gate_journal.specs.Gate.{IsShut};
 use crate::asserts::holds_at;
 use db_memdev::{Fill, MemDisk};
 use db_outside::{Batch, Disk, Failed};
-use gate_journal::{Journal, JournalEnd, read_all, sync_all};
+use gate_journal::{Body, Journal, JournalEnd, read_all, sync_all};
 use std::alloc::Global;
 use std::process::Abort;
 use std::test::Fail;
@@ -72,6 +72,19 @@ fn three_appended(alloc: Global) -> Option<MemDisk> {
     }
 }
 
+// Are these the first of the bodies?
+fn are_first(items: &[Body]) -> bool {
+    if items.len() > 3 {
+        return false;
+    }
+    for i in 0..items.len() {
+        if items[i].as_slice() != BODIES[i] {
+            return false;
+        }
+    }
+    true
+}
+
 // How many of the bodies are read after a crash, if these are all that is read.
 fn read_after(alloc: Global, disk: &MemDisk, call: u64, fill: Fill) -> Option<usize> {
     let Ok(mut stopped) = disk.stop(call, fill) else {
@@ -80,18 +93,15 @@ fn read_after(alloc: Global, disk: &MemDisk, call: u64, fill: Fill) -> Option<us
     let Ok((bodies, end)) = read_all(alloc, &mut stopped, 0) else {
         return None;
     };
-    let items = bodies.as_slice();
-    if items.len() > 3 {
-        return None;
-    }
-    for i in 0..items.len() {
-        if items[i].as_slice() != BODIES[i] {
-            return None;
-        }
-    }
     match end {
         JournalEnd::Damaged { .. } => None,
-        JournalEnd::Closed { .. } => Some(items.len()),
+        JournalEnd::Closed { .. } => {
+            if are_first(bodies.as_slice()) {
+                Some(bodies.as_slice().len())
+            } else {
+                None
+            }
+        }
     }
 }
 
