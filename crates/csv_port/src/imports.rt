@@ -142,7 +142,6 @@ fn import_rows<St: Store, J: Log<St>>(
         (RunsToEnd J.Log core.old core.new (import_lines relation.now rows)) }
     ensures stops { IfErr result (StopsAs J.faults core.old core.new) }
 {
-    core.reserve((rows.as_slice().len() as u64).min(MOST_ROWS) as u32 + 2)?;
     core.stands();
     let room = MOST_ROWS as u32;
     run_stmt(alloc, core, Stmt::Begin { room: Some(room) })?;
@@ -172,10 +171,8 @@ fn count_of(schema: &Schema, relation: &Name) -> Option<usize>
     }
 }
 
-/// Imports the rows of a text into a relation of master, as session 1 of a core without lines. All rows
-/// are read before the first is inserted. A row that isn't inserted stops the import: the dataset is as
-/// before, and the log wasn't called.
-pub fn import<St: Store, J: Log<St>>(
+// The import of a text, once its lines have room.
+fn import_text<St: Store, J: Log<St>>(
     alloc: Global,
     core: &mut Core<St, J>,
     relation: &Name,
@@ -206,4 +203,32 @@ pub fn import<St: Store, J: Log<St>>(
             import_rows(alloc, core, relation, rows)
         }
     }
+}
+
+// How many lines the import of a text has at most: one for each row, of four bytes at least, and two round them.
+fn most_lines(text: &[u8]) -> u32 {
+    ((text.len() / 4 + 1) as u64).min(MOST_ROWS) as u32 + 2
+}
+
+/// Imports the rows of a text into a relation of master, as session 1 of a core without lines. All rows
+/// are read before the first is inserted. A row that isn't inserted stops the import: the dataset is as
+/// before, and the log wasn't called.
+pub fn import<St: Store, J: Log<St>>(
+    alloc: Global,
+    core: &mut Core<St, J>,
+    relation: &Name,
+    text: &[u8],
+) -> Result<Imported, ImportStop>
+    requires fresh { core.old.kept.steps ≡ [] }
+    requires named { is_name relation.now ≡ true }
+    ensures told { Tells (import_told core.old.kept.now relation.now text.now) result }
+    ensures first { RunsFirst J.Log core.old core.new
+        (lines_told core.old.kept.now relation.now text.now) }
+    ensures all { OnOk result (RunsToEnd J.Log core.old core.new
+        (lines_told core.old.kept.now relation.now text.now)) }
+    ensures stops { IfErr result (StopsAs J.faults core.old core.new) }
+{
+    // Without room at once each line takes its own.
+    let _ = core.reserve(most_lines(text));
+    import_text(alloc, core, relation, text)
 }

@@ -7,7 +7,7 @@ use Rattle.csv_port.specs.Laws.{AreRowsOfSome}
 use Rattle.csv_port.specs.Lines.{import_lines}
 use Rattle.csv_port.specs.Import.{count_named, lines_told}
 use Rattle.csv_port.proofs.TextLemmas.{are_rows, lines_rows, no_rows, none_ran, none_to_run}
-use Rattle.csv_port.proofs.imports.import.Goals as goal
+use Rattle.csv_port.proofs.imports.import_text.Goals as goal
 
 pub returns-in_default-clause-first : goal.returns-in_default-clause-first
 returns-in_default-clause-first g c = none_ran g.J.Log c.args.core.now (lines_told c.args.core.now.kept.now c.args.relation.now c.args.text.now) c.stands.ensures
