@@ -137,7 +137,7 @@ fn first_changes(
     ensures size { IfOk result (λ o. IfSome o (λ r. r.1 ≡ changes_size r.0.items)) }
     ensures within { IfOk result (λ o. IfSome o (λ r. r.1 ≤ length b.now)) }
 {
-    // A change has ten bytes at least, so a count that is too great takes no more memory than these bytes.
+    // A change has ten bytes at least: there is room for no more changes than these bytes can be.
     let mut changes: Vec<Change> = Vec::with_capacity(alloc, (count as usize).min(b.len() / 10))?;
     let mut at = 0usize;
     'changes: for _i in 0..count {
