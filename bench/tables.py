@@ -1,13 +1,14 @@
 #!/usr/bin/env python3
-"""What `import` and `export` of a table cost in the built program, beside sqlite3 if it is installed: bench/tables.py [PROGRAM].
+"""What `import` and `export` of a table cost in the built program, beside sqlite3 if it is installed: bench/tables.py [PROGRAM [RUNS]].
 
-The table has 65,536 rows of four columns. Files are in memory, so that a sync costs nothing: of each figure the least of some runs counts.
+The table has 65,536 rows of four columns. Files are in memory, so that a sync costs nothing: of each figure the least of some runs counts, and
+of the time the median is told too.
 """
 import os, random, shutil, subprocess, sys, tempfile, time
 
 TOP = os.path.dirname(os.path.dirname(os.path.abspath(__file__)))
 PROGRAM = sys.argv[1] if len(sys.argv) > 1 else os.path.join(TOP, "crates", "decibel_main", "out", "decibel_main")
-ROWS, RUNS = 65536, 7
+ROWS, RUNS = 65536, int(sys.argv[2]) if len(sys.argv) > 2 else 7
 
 
 def run(command, given, output):
@@ -25,7 +26,8 @@ def run(command, given, output):
 
 
 def least(name, runs):
-    print("%s: %.1f ms, %.1f ms of a processor, %.1f MB at most" % (name, *(min(r[i] for r in runs) for i in range(3))))
+    middle = sorted(r[0] for r in runs)[len(runs) // 2]
+    print("%s: %.1f ms, %.1f ms of a processor, %.1f MB at most; %.1f ms in the median" % (name, *(min(r[i] for r in runs) for i in range(3)), middle))
 
 
 def removed(*paths):
