@@ -7,6 +7,8 @@ has as many rows as there are records, in one table.
 """
 import os, random, shutil, sqlite3, subprocess, sys, tempfile, time
 
+from launch import settings
+
 TOP = os.path.dirname(os.path.dirname(os.path.abspath(__file__)))
 sys.path.insert(0, os.path.join(TOP, "tests"))
 import images
@@ -18,7 +20,7 @@ ROWS, BRANCHES, CHANGES, COMMIT, RUNS = 60_000, 32, 16_000, 50, 7
 def run(*words, given=b""):
     """Milliseconds."""
     started = time.monotonic()
-    done = subprocess.run([PROGRAM, *words], input=given, stdout=subprocess.PIPE, check=True)
+    done = subprocess.run([PROGRAM, *words], input=given, stdout=subprocess.PIPE, check=True, env=settings())
     return (time.monotonic() - started) * 1e3, done.stdout
 
 

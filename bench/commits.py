@@ -8,6 +8,8 @@ program without lines, and that of starting the writers, are taken off.
 """
 import multiprocessing, os, shutil, sqlite3, subprocess, sys, tempfile, time
 
+from launch import settings
+
 TOP = os.path.dirname(os.path.dirname(os.path.abspath(__file__)))
 PROGRAM = sys.argv[1] if len(sys.argv) > 1 else os.path.join(TOP, "crates", "decibel_main", "out", "decibel_main")
 RUNS, ROWS = 3, 200
@@ -15,7 +17,7 @@ RUNS, ROWS = 3, 200
 
 def run(command, base, text):
     started = time.monotonic()
-    subprocess.run([PROGRAM, command, base], input=text.encode(), stdout=subprocess.DEVNULL, check=True)
+    subprocess.run([PROGRAM, command, base], input=text.encode(), stdout=subprocess.DEVNULL, check=True, env=settings())
     return time.monotonic() - started
 
 

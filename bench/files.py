@@ -6,6 +6,8 @@ opened from memory, without a sync: of each figure the least of some runs counts
 """
 import os, shutil, subprocess, sys, tempfile, time
 
+from launch import settings
+
 TOP = os.path.dirname(os.path.dirname(os.path.abspath(__file__)))
 PROGRAM = sys.argv[1] if len(sys.argv) > 1 else os.path.join(TOP, "crates", "decibel_main", "out", "decibel_main")
 HEAD = "relation items a\nend\n"
@@ -23,7 +25,7 @@ def run(command, base, text):
     if child == 0:
         os.dup2(os.open(f.name, os.O_RDONLY), 0)
         os.dup2(os.open(os.devnull, os.O_WRONLY), 1)
-        os.execv(PROGRAM, [PROGRAM, command, base])
+        os.execve(PROGRAM, [PROGRAM, command, base], settings())
     _, status, used = os.wait4(child, 0)
     took = time.monotonic() - start
     os.unlink(f.name)

@@ -6,19 +6,21 @@ of the time the median is told too.
 """
 import os, random, shutil, subprocess, sys, tempfile, time
 
+from launch import settings
+
 TOP = os.path.dirname(os.path.dirname(os.path.abspath(__file__)))
 PROGRAM = sys.argv[1] if len(sys.argv) > 1 else os.path.join(TOP, "crates", "decibel_main", "out", "decibel_main")
 ROWS, RUNS = 65536, int(sys.argv[2]) if len(sys.argv) > 2 else 7
 
 
-def run(command, given, output):
+def run(command, given, output, environment=os.environ):
     """Milliseconds of the wall and of a processor, and MB at most."""
     start = time.monotonic()
     child = os.fork()
     if child == 0:
         os.dup2(os.open(given, os.O_RDONLY), 0)
         os.dup2(os.open(output, os.O_WRONLY | os.O_CREAT | os.O_TRUNC), 1)
-        os.execvp(command[0], command)
+        os.execvpe(command[0], command, environment)
     _, status, used = os.wait4(child, 0)
     if status:
         raise SystemExit("%s ended with %d" % (command, status))
@@ -51,9 +53,9 @@ def main():
         imports, exports, peers, answers = [], [], [], []
         for _ in range(RUNS):
             removed(base + ".0", base + ".1", db)
-            run([PROGRAM, "create", base], schema, out)
-            imports.append(run([PROGRAM, "import", base, "t"], table, os.devnull))
-            exports.append(run([PROGRAM, "export", base, "t", "master"], os.devnull, out))
+            run([PROGRAM, "create", base], schema, out, settings())
+            imports.append(run([PROGRAM, "import", base, "t"], table, os.devnull, settings()))
+            exports.append(run([PROGRAM, "export", base, "t", "master"], os.devnull, out, settings()))
             if shutil.which("sqlite3"):
                 subprocess.run(["sqlite3", db, "create table t (key integer primary key, a integer, b integer, c integer, d integer)"], check=True)
                 peers.append(run(["sqlite3", db, ".mode csv", ".import %s t" % table], os.devnull, os.devnull))

@@ -9,6 +9,8 @@ session and a dataset of its own.
 """
 import os, shutil, subprocess, sys, tempfile, time
 
+from launch import settings
+
 TOP = os.path.dirname(os.path.dirname(os.path.abspath(__file__)))
 PROGRAM = sys.argv[1] if len(sys.argv) > 1 else os.path.join(TOP, "crates", "decibel_main", "out", "decibel_main")
 RUNS = 5
@@ -21,7 +23,7 @@ def timed(base, command, text):
         f.write(text)
     start = time.monotonic()
     with open(base + ".in", "rb") as given, open(os.devnull, "wb") as out:
-        done = subprocess.run([PROGRAM, command, base], stdin=given, stdout=out, stderr=subprocess.PIPE)
+        done = subprocess.run([PROGRAM, command, base], stdin=given, stdout=out, stderr=subprocess.PIPE, env=settings())
     if done.returncode:
         raise SystemExit("%s ended with %d: %s" % (command, done.returncode, done.stderr))
     return time.monotonic() - start
@@ -35,7 +37,7 @@ def fresh(base, sessions):
     with open(base + ".in", "w") as f:
         f.write("relation items a b\nend\n")
     with open(base + ".in", "rb") as given:
-        subprocess.run([PROGRAM, "create", base], stdin=given, stdout=subprocess.DEVNULL, check=True)
+        subprocess.run([PROGRAM, "create", base], stdin=given, stdout=subprocess.DEVNULL, check=True, env=settings())
     rows = "".join("1 insert items %d %d 0\n" % (k, k) for k in range(KEYS))
     timed(base, "script", "1 begin\n" + rows + "1 commit\n" + "".join("1 branch b%d of master\n" % s for s in range(1, sessions + 1)))
 
@@ -84,7 +86,7 @@ def at_once(bases, texts):
         with open(base + ".in", "w") as f:
             f.write(text)
     start = time.monotonic()
-    running = [subprocess.Popen([PROGRAM, "sessions", base], stdin=open(base + ".in", "rb"), stdout=subprocess.DEVNULL) for base in bases]
+    running = [subprocess.Popen([PROGRAM, "sessions", base], stdin=open(base + ".in", "rb"), stdout=subprocess.DEVNULL, env=settings()) for base in bases]
     if any(child.wait() for child in running):
         raise SystemExit("a process failed")
     return time.monotonic() - start
