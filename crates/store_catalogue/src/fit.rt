@@ -153,8 +153,8 @@ pub fn changes_fit(relations: &[Relation], changes: &[Change]) -> bool
     changes.len() <= MOST_CHANGES && ascend_and_fit(relations, changes)
 }
 
-// The count after a change of a key that was there or wasn't, and is put or deleted.
-fn recount(count: usize, was_there: bool, is_put: bool) -> usize
+/// The count after a change of a key that was there or wasn't, and is put or deleted.
+pub fn recount(count: usize, was_there: bool, is_put: bool) -> usize
     requires { count < 2 ^ 64 - 1 }
     ensures { result ≡ recounted count was_there is_put }
 {
@@ -166,8 +166,8 @@ fn recount(count: usize, was_there: bool, is_put: bool) -> usize
     }
 }
 
-/// How many keys a relation has after changes. It takes no memory.
-pub fn count_after<T: KeyedTable>(table: &T, relation: u8, changes: &[Change]) -> usize
+// How many keys a relation has after changes. It takes no memory.
+fn count_after<T: KeyedTable>(table: &T, relation: u8, changes: &[Change]) -> usize
     requires few { length changes.now ≤ MOST_CHANGES }
     requires ascending { ascends changes.now ≡ true }
     requires relation { relation < length (T.table_of table.now) }
