@@ -11,8 +11,10 @@ ghost use Rattle.db_store.specs.Counts.{after};
 ghost use Rattle.db_store.specs.Fits.{fits};
 ghost use Rattle.db_store.specs.Layout.{records_at};
 ghost use Rattle.db_store.specs.LayoutGrowth.{puts};
-ghost use Rattle.hybrid_view.specs.Live.{lived_at, piece_at, contents_in, IsLived};
-ghost use Rattle.hybrid_view.specs.RowPlaces.{AllNext};
+ghost use Rattle.hybrid_view.specs.Live.{lived_at, piece_at, contents_in, EachOf, IsLived, Piece};
+ghost use Rattle.hybrid_view.specs.RowPlaces.{spots, AllNext};
+ghost use Rattle.key_index.specs.Places.{with_changes};
+ghost use Rattle.segment.specs.Pages.{AreWide};
 ghost use Rattle.hybrid_view.specs.Struck.{touched_places};
 ghost use Rattle.bit_rows.specs.Kept.{no_kept, kept_rows};
 ghost use Rattle.hybrid_store.specs.Lanes.{segment_of};
@@ -25,11 +27,10 @@ use crate::heads::{head_of_rows, own_records};
 use crate::store::HybridStore;
 use bit_rows::{KeptSegments, NextDeltas, next_deltas, spots_of};
 use db_value::{Change, VersionPlace};
-use hybrid_view::{HybridView, LiveRelation, LiveTable, PutRows};
+use hybrid_view::{HybridView, LiveRelation, LiveTable, PutRows, TouchedKeys};
 use segment::Segment;
 use std::alloc::{AllocError, Global};
 use std::sync::Arc;
-use store_catalogue::count_after;
 
 /// More records than a segment can number.
 const MOST_NUMBERS: usize = 0x1_0000_0000;
@@ -80,48 +81,45 @@ impl HybridStore {
         self.lane(branch).head().relation(relation)
     }
 
-    // How many keys a relation has after changes of a commit that fits.
-    fn count_with(&self, branch: u32, relation: u8, changes: &[Change]) -> u32
-        requires relation { relation < length self.now.schema }
-        requires fits { (second : Option VersionPlace)
-            × (fits (dataset_in self.now) (Commit branch second changes.now) ≡ true) }
-        ensures { result ≡ len (after relation
-            (contents_in (lived_at (get_or self.now.lanes.items branch no_kept).head relation))
-            changes.now) }
-    {
-        count_after(self.lane(branch).head(), relation, changes) as u32
-    }
-
-    // Where the keys stand that changes of a commit that fits touch in a relation.
+    // What changes of a commit that fits touch in a relation.
     fn touched(
         &self,
         branch: u32,
         relation: u8,
         changes: &[Change],
-    ) -> Result<Vec<Option<(u32, u32)>>, AllocError>
+    ) -> Result<TouchedKeys, AllocError>
         requires relation { relation < length self.now.schema }
         requires fits { (second : Option VersionPlace)
             × (fits (dataset_in self.now) (Commit branch second changes.now) ≡ true) }
-        ensures { IfOk result (λ v. v.items
+        ensures places { IfOk result (λ t. t.places.items
             ≡ touched_in (get_or self.now.lanes.items branch no_kept) changes.now relation) }
+        ensures keys { IfOk result (λ t. t.keys
+            ≡ len (after relation
+            (contents_in (lived_at (get_or self.now.lanes.items branch no_kept).head relation))
+            changes.now)) }
     {
-        self.lived(branch, relation)
-            .places_of(self.alloc, changes, relation)
+        let live = self.lived(branch, relation);
+        let touched = live.touched(self.alloc, changes, relation)?;
+        Ok(touched)
     }
 
-    // What a relation of a branch has after the changes of a commit that fits, which touch these places.
+    // What a relation of a branch has after the changes of a commit that fits, which touch these keys.
     fn relation_after(
         &self,
         branch: u32,
         relation: u8,
         changes: &[Change],
-        places: &[Option<(u32, u32)>],
+        touched: &TouchedKeys,
     ) -> Result<LiveRelation, AllocError>
         requires relation { relation < length self.now.schema }
         requires fits { (second : Option VersionPlace)
             × (fits (dataset_in self.now) (Commit branch second changes.now) ≡ true) }
-        requires places { places.now
+        requires places { touched.now.places.items
             ≡ touched_in (get_or self.now.lanes.items branch no_kept) changes.now relation }
+        requires keys { touched.now.keys
+            ≡ len (after relation
+            (contents_in (lived_at (get_or self.now.lanes.items branch no_kept).head relation))
+            changes.now) }
         ensures next { IfOk result
             (λ l. IsNextAt (head_number self.now.segments.items branch)
             (get_or self.now.lanes.items branch no_kept) changes.now relation l) }
@@ -132,10 +130,7 @@ impl HybridStore {
             return Err(AllocError);
         }
         let old = self.lived(branch, relation);
-        let rows = PutRows::of(changes, relation);
-        let spots = spots_of(self.alloc, head, from, changes, relation)?;
-        let count = self.count_with(branch, relation, changes);
-        let new = old.after(self.alloc, places, head, &rows, &spots, count)?;
+        let new = live_after(self.alloc, old, (head, from), relation, changes, touched)?;
         Ok(new)
     }
 
@@ -145,13 +140,17 @@ impl HybridStore {
         branch: u32,
         relation: u8,
         changes: &[Change],
-        places: &[Option<(u32, u32)>],
+        touched: &TouchedKeys,
     ) -> Result<Arc<LiveRelation>, AllocError>
         requires relation { relation < length self.now.schema }
         requires fits { (second : Option VersionPlace)
             × (fits (dataset_in self.now) (Commit branch second changes.now) ≡ true) }
-        requires places { places.now
+        requires places { touched.now.places.items
             ≡ touched_in (get_or self.now.lanes.items branch no_kept) changes.now relation }
+        requires keys { touched.now.keys
+            ≡ len (after relation
+            (contents_in (lived_at (get_or self.now.lanes.items branch no_kept).head relation))
+            changes.now) }
         ensures next { IfOk result
             (λ l. IsNextAt (head_number self.now.segments.items branch)
             (get_or self.now.lanes.items branch no_kept) changes.now relation
@@ -164,7 +163,7 @@ impl HybridStore {
             let live = self.lane(branch).head().share_relation(relation)?;
             return Ok(live);
         }
-        let live = self.relation_after(branch, relation, changes, places)?;
+        let live = self.relation_after(branch, relation, changes, touched)?;
         live.told();
         let live = Arc::new(self.alloc, live)?;
         Ok(live)
@@ -215,9 +214,9 @@ impl HybridStore {
     {
         let mut relations = Vec::new(self.alloc);
         for relation in 0..self.width() {
-            let places = self.touched(branch, relation, changes)?;
-            let live = self.relation_with(branch, relation, changes, &places)?;
-            let nexts = self.deltas_for(branch, relation, changes, &places, &live)?;
+            let touched = self.touched(branch, relation, changes)?;
+            let live = self.relation_with(branch, relation, changes, &touched)?;
+            let nexts = self.deltas_for(branch, relation, changes, &touched.places, &live)?;
             deltas.push(nexts)?;
             relations.push(live)?;
         }
@@ -275,6 +274,43 @@ impl HybridStore {
             records,
         })
     }
+}
+
+// What there is of a relation after changes that touch these keys, by the number of its head and how many
+// records it has. What changes of an index is listed only if there is one then.
+fn live_after(
+    alloc: Global,
+    old: &LiveRelation,
+    head: (u32, u32),
+    relation: u8,
+    changes: &[Change],
+    touched: &TouchedKeys,
+) -> Result<LiveRelation, AllocError>
+    requires few_keys { touched.now.keys < 2 ^ 32 }
+    requires room { head.1 + length changes.now < 2 ^ 32 }
+    requires fields { EachOf head.0 old.now.pieces (λ p.
+        AreWide p.rows.fields (puts changes.now relation)) }
+    requires few { EachOf head.0 old.now.pieces (λ p.
+        length p.rows.records + length (puts changes.now relation) < 2 ^ 32) }
+    requires lived { (qs : List Piece)
+        → AllNext touched.now.places.items head.0 (puts changes.now relation) old.now.pieces qs
+        → IsLived (record {
+          pieces = qs;
+          places = with_changes old.now.places (spots head.0 head.1 changes.now relation);
+          count = touched.now.keys;
+        }) }
+    ensures { IfOk result (λ l.
+        AllNext touched.now.places.items head.0 (puts changes.now relation) old.now.pieces
+        l.pieces) }
+{
+    let (head, from) = head;
+    let count = touched.keys as u32;
+    let rows = PutRows::of(changes, relation, touched.puts);
+    if old.takes_many(touched.puts) {
+        return old.after_many(alloc, &touched.places, head, &rows, count);
+    }
+    let spots = spots_of(alloc, head, from, changes, relation)?;
+    old.after(alloc, &touched.places, head, &rows, &spots, count)
 }
 
 // Is some change of the relation?

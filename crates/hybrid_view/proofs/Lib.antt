@@ -12,3 +12,4 @@ pub mod SpotLemmas
 pub mod WalkLemmas
 pub mod AnewLemmas
 pub mod PutLemmas
+pub mod TouchLemmas

@@ -13,6 +13,7 @@
 //! | `specs/Deltas.antt` | the slots that a bitmap stands for |
 //! | `src/part.rt`, `src/live.rt`, `src/view.rt` | a part, what there is of a relation, and the view |
 //! | `src/commit.rt`, `src/puts.rt` | the bits of a commit, and the records that it puts into a relation |
+//! | `src/touched.rt` | what changes touch of a relation |
 #![tactic(auto)]
 
 mod commit;
@@ -20,10 +21,12 @@ mod live;
 mod part;
 mod puts;
 mod spots;
+mod touched;
 mod view;
 
 pub use commit::{cleared, difference, put_bits, strikes};
 pub use live::LiveRelation;
 pub use part::LivePart;
 pub use puts::PutRows;
+pub use touched::TouchedKeys;
 pub use view::{HybridView, LiveTable};

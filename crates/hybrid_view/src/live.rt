@@ -202,8 +202,8 @@ impl LiveRelation {
         Ok(LiveRelation::of(parts, index, 0))
     }
 
-    // The segment and the slot of the key that a change of the relation touches.
-    fn place_at(&self, change: &Change, relation: u8) -> Option<(u32, u32)>
+    /// The segment and the slot of the key that a change of the relation touches.
+    pub(crate) fn place_at(&self, change: &Change, relation: u8) -> Option<(u32, u32)>
         ensures { result ≡ touched_place self.now.pieces relation change.now }
     {
         if change.relation == relation {
@@ -211,22 +211,6 @@ impl LiveRelation {
         } else {
             None
         }
-    }
-
-    /// Where the keys stand that changes of the relation touch.
-    pub fn places_of(
-        &self,
-        alloc: Global,
-        changes: &[Change],
-        relation: u8,
-    ) -> Result<Vec<Option<(u32, u32)>>, AllocError>
-        ensures { IfOk result (λ v. v.items ≡ touched_places self.now.pieces changes.now relation) }
-    {
-        let mut places = Vec::with_capacity(alloc, changes.len())?;
-        for change in changes {
-            places.push(self.place_at(change, relation))?;
-        }
-        Ok(places)
     }
 
     /// The parts after a commit, whose head has further records.
@@ -277,11 +261,40 @@ impl LiveRelation {
         ensures count { IfOk result (λ l. l.count ≡ count) }
     {
         let parts = self.parts_after(alloc, places, head, rows)?;
-        if self.count == 0 && spots.as_slice().len() >= MANY_KEYS {
-            return Ok(LiveRelation::unindexed(parts, count));
-        }
         let index = self.index_with(alloc, spots)?;
         Ok(LiveRelation::of(parts, index, count))
+    }
+
+    /// Is it empty, and are so many records many?
+    pub fn takes_many(&self, count: usize) -> bool {
+        self.count == 0 && count >= MANY_KEYS
+    }
+
+    /// What there is of the relation after a commit that puts many records into it while it is empty. No index
+    /// is made of them before the next commit or branch.
+    pub fn after_many(
+        &self,
+        alloc: Global,
+        places: &[Option<(u32, u32)>],
+        head: u32,
+        rows: &PutRows<'_>,
+        count: u32,
+    ) -> Result<LiveRelation, AllocError>
+        requires fields { EachOf head self.now.pieces (λ p. AreWide p.rows.fields rows.now) }
+        requires few { EachOf head self.now.pieces (λ p.
+            length p.rows.records + length rows.now < 2 ^ 32) }
+        requires lived { (qs : List Piece) → AllNext places.now head rows.now self.now.pieces qs
+            → (spots : Places)
+            × IsLived (record { pieces = qs; places = spots; count = count }) }
+        ensures parts { IfOk result
+            (λ l. AllNext places.now head rows.now self.now.pieces l.pieces) }
+        ensures places { IfOk result (λ l. (spots : Places)
+            → IsLived (record { pieces = l.pieces; places = spots; count = count })
+            → l.places ≡ spots) }
+        ensures count { IfOk result (λ l. l.count ≡ count) }
+    {
+        let parts = self.parts_after(alloc, places, head, rows)?;
+        Ok(LiveRelation::unindexed(parts, count))
     }
 
     /// What a new branch of this version has: the parts in which something is live, a head of its own,

@@ -8,12 +8,13 @@ use segment::{LongerSegment, Segment};
 use std::alloc::AllocError;
 use std::marker::Model;
 
-/// Put rows are the records that changes put into a relation, in order. Each is read where its change
-/// stands, so no list of them takes memory.
+/// Put rows are the records that changes put into a relation, in order, and how many they are told to be, for which
+/// room is taken at once. Each is read where its change stands, so no list of them takes memory.
 #[derive(Drop)]
 pub struct PutRows<'a> {
     changes: &'a [Change],
     relation: u8,
+    count: usize,
 }
 
 impl<'a> Model for PutRows<'a> {
@@ -26,8 +27,8 @@ impl<'a> Model for PutRows<'a> {
     ghost view = { λ p. puts p.changes.now p.relation };
 }
 
-// How many records a change puts into a relation.
-fn count_put(change: &Change, relation: u8) -> usize
+/// How many records a change puts into a relation.
+pub(crate) fn count_put(change: &Change, relation: u8) -> usize
     ensures count { result ≡ length (puts (change.now ∷ []) relation) }
     ensures few { result ≤ 1 }
 {
@@ -38,17 +39,6 @@ fn count_put(change: &Change, relation: u8) -> usize
         None => 0,
         Some(_) => 1,
     }
-}
-
-// How many records changes put into a relation.
-fn count_puts(changes: &[Change], relation: u8) -> usize
-    ensures { result ≡ length (puts changes.now relation) }
-{
-    let mut count = 0;
-    for change in changes {
-        count += count_put(change, relation);
-    }
-    count
 }
 
 // Puts what a change puts into a relation after the records of a segment.
@@ -74,14 +64,19 @@ fn with_put(
     }
 }
 
-// A segment with what changes put into a relation after its records.
-fn with_puts(segment: &Segment, changes: &[Change], relation: u8) -> Result<Segment, AllocError>
+// A segment with what changes put into a relation after its records, which are told to be so many.
+fn with_puts(
+    segment: &Segment,
+    changes: &[Change],
+    relation: u8,
+    count: usize,
+) -> Result<Segment, AllocError>
     requires fields { AreWide segment.now.fields (puts changes.now relation) }
     requires few { length segment.now.records + length (puts changes.now relation) < 2 ^ 32 }
     ensures { IfOk result (λ s. s
         ≡ record segment.now { records = segment.now.records ++ puts changes.now relation }) }
 {
-    let mut longer = segment.longer(count_puts(changes, relation))?;
+    let mut longer = segment.longer(count)?;
     for change in changes {
         longer = with_put(longer, change, relation)?;
     }
@@ -89,11 +84,15 @@ fn with_puts(segment: &Segment, changes: &[Change], relation: u8) -> Result<Segm
 }
 
 impl<'a> PutRows<'a> {
-    /// Those of these changes.
-    pub fn of(changes: &'a [Change], relation: u8) -> PutRows<'a>
+    /// Those of these changes, of which there are so many.
+    pub fn of(changes: &'a [Change], relation: u8, count: usize) -> PutRows<'a>
         ensures { result ≡ puts changes.now relation }
     {
-        PutRows { changes, relation }
+        PutRows {
+            changes,
+            relation,
+            count,
+        }
     }
 
     /// A segment with these records after its own.
@@ -103,6 +102,6 @@ impl<'a> PutRows<'a> {
         ensures { IfOk result (λ s.
             s ≡ record segment.now { records = segment.now.records ++ self.now }) }
     {
-        with_puts(segment, self.changes, self.relation)
+        with_puts(segment, self.changes, self.relation, self.count)
     }
 }

@@ -1,9 +1,9 @@
 //! What an entry has, and whether its changes fit a schema and a table.
-ghost use Rattle.std.specs.Prelude.{◌≡◌, ◌<◌, ◌≤◌, ◌-◌, ◌^◌, true, length};
+ghost use Rattle.std.specs.Prelude.{◌≡◌, ◌<◌, ◌≤◌, ◌-◌, ◌^◌, ◌&&◌, true, nat_le, length};
 ghost use Rattle.std.specs.FinMap as finite;
 ghost use Rattle.std.specs.List.{list_all};
 ghost use Rattle.db_value.specs.Relations.{columns_at};
-ghost use Rattle.db_store.specs.Fits.{changes_of, second_of, IsCommit, IsBranch, makes_version, is_before, first_is_before, ascends, has_fields, change_fits, changes_fit, is_within};
+ghost use Rattle.db_store.specs.Fits.{changes_of, second_of, IsCommit, IsBranch, makes_version, is_before, first_is_before, ascends, has_fields, change_fits, changes_fit, is_within, most_keys};
 ghost use Rattle.db_store.specs.Table.{with_changes, relation_at};
 ghost use Rattle.store_catalogue.specs.Entries.{branch_of, name_of, origin_of};
 ghost use Rattle.db_store.specs.Counts.{recounted};
@@ -105,17 +105,6 @@ fn first_stands_before(changes: &[Change]) -> bool
     }
 }
 
-fn ascend(changes: &[Change]) -> bool
-    ensures { result ≡ ascends changes.now }
-{
-    for i in 0..changes.len() {
-        if !first_stands_before(&changes[i..]) {
-            return false;
-        }
-    }
-    true
-}
-
 fn has_count(fields: &Option<Fields>, count: usize) -> bool
     ensures { result ≡ has_fields count fields.now }
 {
@@ -142,21 +131,30 @@ fn change_fits(relations: &[Relation], change: &Change) -> bool
     has_count(&change.fields, column_count(relations, relation))
 }
 
-fn each_fits(relations: &[Relation], changes: &[Change]) -> bool
-    ensures { result ≡ list_all (change_fits relations.now) changes.now }
+// Do changes ascend, and does each fit the relations of a schema? It goes over them once.
+fn ascend_and_fit(relations: &[Relation], changes: &[Change]) -> bool
+    ensures { result ≡ (ascends changes.now && list_all (change_fits relations.now) changes.now) }
 {
-    changes.iter().all(|c| change_fits(relations, c))
+    for i in 0..changes.len() {
+        if !first_stands_before(&changes[i..]) {
+            return false;
+        }
+        if !change_fits(relations, &changes[i]) {
+            return false;
+        }
+    }
+    true
 }
 
 /// Are there few enough changes, ascending, and does each fit the relations of a schema?
 pub fn changes_fit(relations: &[Relation], changes: &[Change]) -> bool
     ensures { result ≡ changes_fit relations.now changes.now }
 {
-    changes.len() <= MOST_CHANGES && ascend(changes) && each_fits(relations, changes)
+    changes.len() <= MOST_CHANGES && ascend_and_fit(relations, changes)
 }
 
-// The count after a change of a key that was there or wasn't, and is put or deleted.
-fn recount(count: usize, was_there: bool, is_put: bool) -> usize
+/// The count after a change of a key that was there or wasn't, and is put or deleted.
+pub fn recount(count: usize, was_there: bool, is_put: bool) -> usize
     requires { count < 2 ^ 64 - 1 }
     ensures { result ≡ recounted count was_there is_put }
 {
@@ -168,8 +166,8 @@ fn recount(count: usize, was_there: bool, is_put: bool) -> usize
     }
 }
 
-/// How many keys a relation has after changes. It takes no memory.
-pub fn count_after<T: KeyedTable>(table: &T, relation: u8, changes: &[Change]) -> usize
+// How many keys a relation has after changes. It takes no memory.
+fn count_after<T: KeyedTable>(table: &T, relation: u8, changes: &[Change]) -> usize
     requires few { length changes.now ≤ MOST_CHANGES }
     requires ascending { ascends changes.now ≡ true }
     requires relation { relation < length (T.table_of table.now) }
@@ -189,8 +187,24 @@ pub fn count_after<T: KeyedTable>(table: &T, relation: u8, changes: &[Change]) -
     count
 }
 
+// Has a relation few enough keys after changes? They are counted only if there were too many, should each
+// change put a new key.
+fn stays_within<T: KeyedTable>(table: &T, relation: u8, changes: &[Change]) -> bool
+    requires few { length changes.now ≤ MOST_CHANGES }
+    requires ascending { ascends changes.now ≡ true }
+    requires relation { relation < length (T.table_of table.now) }
+    ensures { result
+        ≡ nat_le (finite.len (relation_at (with_changes (T.table_of table.now) changes.now) relation))
+        most_keys }
+{
+    if table.keys(relation) as usize + changes.len() <= MOST_KEYS {
+        return true;
+    }
+    count_after(table, relation, changes) <= MOST_KEYS
+}
+
 /// Has every relation of a table, which has so many relations, few enough keys after changes? It
-/// counts them, and takes no memory.
+/// counts them where there could be too many, and takes no memory.
 pub fn is_within<T: KeyedTable>(table: &T, width: u8, changes: &[Change]) -> bool
     requires few { length changes.now ≤ MOST_CHANGES }
     requires ascending { ascends changes.now ≡ true }
@@ -198,7 +212,7 @@ pub fn is_within<T: KeyedTable>(table: &T, width: u8, changes: &[Change]) -> boo
     ensures { result ≡ is_within (with_changes (T.table_of table.now) changes.now) }
 {
     for relation in 0..width {
-        if count_after(table, relation, changes) > MOST_KEYS {
+        if !stays_within(table, relation, changes) {
             return false;
         }
     }

@@ -19,7 +19,7 @@ mod names;
 mod numbers;
 
 pub use fit::{
-    branch_of, changes_fit, changes_of, count_after, is_within, makes_version, name_of, origin_of,
+    branch_of, changes_fit, changes_of, is_within, makes_version, name_of, origin_of, recount,
     second_of,
 };
 pub use keyed::KeyedTable;

@@ -35,7 +35,7 @@ loop-relation-preserved c =
       deltas = subst (λ (xs : List Lived). AllDifferences k c.push.new.self.items (r + 1) xs) (sym is)
           (subst (λ (ys : List (List Next)). AllDifferences k ys (r + 1) (ls ++ l ∷ [])) (sym nexts)
           (ready_more k ls l ns x r n m c.loop-relation.invariant.deltas
-          (subst (λ (y : Lived). AreDifferences (kept_rows k r) x (lived_at k.head r).pieces y.pieces) c.deref-in-loop-relation-2.ensures c.in_ok-nexts.ensures)));
+          (subst (λ (y : Lived). AreDifferences (kept_rows k r) x (lived_at k.head r).pieces y.pieces) c.deref-in-loop-relation.ensures c.in_ok-nexts.ensures)));
       lived = subst (λ (xs : List Lived). (q : ℕ) → q < r + 1 → IsLived (lived_at xs q)) (sym is) (lived_more heads k cs ls l r n c.loop-relation.invariant.lived c.in_ok-live.ensures.lived);
       small = subst (λ (xs : List Lived). (q : ℕ) → q < r + 1 → AreSmall (lived_at xs q)) (sym is) (small_more heads k cs ls l r n c.loop-relation.invariant.small c.in_ok-live.ensures.small);
     }
