@@ -59,17 +59,17 @@ fn count_often(history: &History) -> Result<u64, AllocError> {
 fn time_round<R: Clock + AllocGlobal>(
     rt: &R,
     size: u32,
+    history: &mut History,
     pushes: &mut Timing,
     ats: &mut Timing,
 ) -> Result<(), AllocError> {
-    let mut history = History::new(rt.alloc());
     pushes.begin(rt);
-    grow(&mut history, rt.alloc(), size)?;
+    grow(history, rt.alloc(), size)?;
     pushes.end(rt);
-    pushes.count(count_at_end(&history)?);
+    pushes.count(count_at_end(history)?);
 
     ats.begin(rt);
-    let sum = count_often(&history)?;
+    let sum = count_often(history)?;
     ats.end(rt);
     ats.count(sum);
     Ok(())
@@ -83,7 +83,8 @@ pub fn time_histories<R: Clock + Print + AllocGlobal>(
 ) -> Result<()> {
     let (mut pushes, mut ats) = (Timing::new(), Timing::new());
     for _ in 0..rounds {
-        time_round(rt, size, &mut pushes, &mut ats)?;
+        let mut history = History::new(rt.alloc());
+        time_round(rt, size, &mut history, &mut pushes, &mut ats)?;
     }
     pushes.print(rt, "commit_history push", size, "deltas", size)?;
     ats.print(rt, "commit_history at", size, "deltas", CALLS)

@@ -37,9 +37,13 @@ impl Timing {
 
     /// Ends a round.
     pub fn end<R: Clock>(&mut self, rt: &R) {
-        match self.start.map(|start| start.elapsed(rt)) {
-            Some(Ok(took)) => self.add(took),
-            _ => self.failed = true,
+        let Some(start) = self.start else {
+            self.failed = true;
+            return;
+        };
+        match start.elapsed(rt) {
+            Ok(took) => self.add(took),
+            Err(_) => self.failed = true,
         }
     }
 
