@@ -168,7 +168,7 @@ fn time_questions<R: Clock + Print + AllocGlobal>(
 pub fn time_lineages<R: Clock + Print + AllocGlobal>(rt: &R, size: u32, rounds: u32) -> Result<()>
     requires { 0 < size }
 {
-    time_adds(rt, size, rounds)?;
     let graph = grown_graph(rt.alloc(), size)?;
+    time_adds(rt, size, rounds)?;
     time_questions(rt, &graph, size, rounds)
 }
