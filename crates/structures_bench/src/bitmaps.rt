@@ -6,12 +6,11 @@ use anyhow::Result;
 use plain_bits::Bits;
 use std::alloc::{AllocError, Global};
 use std::rt::Clock;
-use std::time::Instant;
 
 // How many calls are timed together.
 const CALLS: u32 = 1_000;
 
-#[derive(Clone, Copy, Debug)]
+#[derive(Clone, Copy)]
 enum Gate {
     Xor,
     And,
@@ -103,12 +102,12 @@ fn time_gate<R: Clock + Print + AllocGlobal>(
 {
     let mut timing = Timing::new();
     for _ in 0..rounds {
-        let start = Instant::now(rt)?;
+        timing.begin(rt);
         combine_often(gate, from, into);
-        timing.add(start.elapsed(rt)?, u64::from(into.count()));
+        timing.end(rt);
+        timing.count(u64::from(into.count()));
     }
-    timing.print(rt, gate.work(), from.len(), "bits", CALLS)?;
-    Ok(())
+    timing.print(rt, gate.work(), from.len(), "bits", CALLS)
 }
 
 fn time_counts<R: Clock + Print + AllocGlobal>(
@@ -122,12 +121,12 @@ fn time_counts<R: Clock + Print + AllocGlobal>(
 {
     let mut timing = Timing::new();
     for _ in 0..rounds {
-        let start = Instant::now(rt)?;
+        timing.begin(rt);
         let sum = count_often(bits, size);
-        timing.add(start.elapsed(rt)?, sum);
+        timing.end(rt);
+        timing.count(sum);
     }
-    timing.print(rt, "plain_bits count", size, "bits", CALLS)?;
-    Ok(())
+    timing.print(rt, "plain_bits count", size, "bits", CALLS)
 }
 
 fn time_searches<R: Clock + Print + AllocGlobal>(rt: &R, size: u32, rounds: u32) -> Result<()> {
@@ -135,12 +134,12 @@ fn time_searches<R: Clock + Print + AllocGlobal>(rt: &R, size: u32, rounds: u32)
     bits.grow(size)?;
     let mut timing = Timing::new();
     for _ in 0..rounds {
-        let start = Instant::now(rt)?;
+        timing.begin(rt);
         let missed = search_often(&bits);
-        timing.add(start.elapsed(rt)?, missed);
+        timing.end(rt);
+        timing.count(missed);
     }
-    timing.print(rt, "plain_bits next_one", size, "bits", CALLS)?;
-    Ok(())
+    timing.print(rt, "plain_bits next_one", size, "bits", CALLS)
 }
 
 /// Times each gate, a count, and a search that goes to the end.

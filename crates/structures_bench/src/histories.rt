@@ -6,7 +6,6 @@ use anyhow::Result;
 use commit_history::{Delta, History};
 use std::alloc::{AllocError, Global};
 use std::rt::Clock;
-use std::time::Instant;
 
 const PLACES: u32 = 262_144;
 
@@ -57,34 +56,23 @@ fn count_often(history: &History) -> Result<u64, AllocError> {
     Ok(sum)
 }
 
-fn time_growth<R: Clock + AllocGlobal>(
-    rt: &R,
-    history: &mut History,
-    size: u32,
-    pushes: &mut Timing,
-) -> Result<()> {
-    let start = Instant::now(rt)?;
-    grow(history, rt.alloc(), size)?;
-    pushes.add(start.elapsed(rt)?, count_at_end(history)?);
-    Ok(())
-}
-
-fn time_ends<R: Clock>(rt: &R, history: &History, ats: &mut Timing) -> Result<()> {
-    let start = Instant::now(rt)?;
-    let sum = count_often(history)?;
-    ats.add(start.elapsed(rt)?, sum);
-    Ok(())
-}
-
 fn time_round<R: Clock + AllocGlobal>(
     rt: &R,
     size: u32,
+    history: &mut History,
     pushes: &mut Timing,
     ats: &mut Timing,
-) -> Result<()> {
-    let mut history = History::new(rt.alloc());
-    time_growth(rt, &mut history, size, pushes)?;
-    time_ends(rt, &history, ats)
+) -> Result<(), AllocError> {
+    pushes.begin(rt);
+    grow(history, rt.alloc(), size)?;
+    pushes.end(rt);
+    pushes.count(count_at_end(history)?);
+
+    ats.begin(rt);
+    let sum = count_often(history)?;
+    ats.end(rt);
+    ats.count(sum);
+    Ok(())
 }
 
 /// Times the growth of a history, and the bitmap after all of its commits.
@@ -95,9 +83,9 @@ pub fn time_histories<R: Clock + Print + AllocGlobal>(
 ) -> Result<()> {
     let (mut pushes, mut ats) = (Timing::new(), Timing::new());
     for _ in 0..rounds {
-        time_round(rt, size, &mut pushes, &mut ats)?;
+        let mut history = History::new(rt.alloc());
+        time_round(rt, size, &mut history, &mut pushes, &mut ats)?;
     }
     pushes.print(rt, "commit_history push", size, "deltas", size)?;
-    ats.print(rt, "commit_history at", size, "deltas", CALLS)?;
-    Ok(())
+    ats.print(rt, "commit_history at", size, "deltas", CALLS)
 }

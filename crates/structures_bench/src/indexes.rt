@@ -7,7 +7,6 @@ use anyhow::Result;
 use key_index::{KeyIndex, SpotChange, SpotChanges};
 use std::alloc::{AllocError, Global};
 use std::rt::Clock;
-use std::time::Instant;
 
 // How many changes a batch has.
 const BATCH: usize = 1_024;
@@ -57,12 +56,12 @@ fn time_ascending<R: Clock + Print + AllocGlobal>(
 {
     let mut timing = Timing::new();
     for _ in 0..rounds {
-        let start = Instant::now(rt)?;
+        timing.begin(rt);
         let index = ascending(rt.alloc(), size, batch)?;
-        timing.add(start.elapsed(rt)?, slot_of(&index, size - 1));
+        timing.end(rt);
+        timing.count(slot_of(&index, size - 1));
     }
-    timing.print(rt, work, size, "keys", size)?;
-    Ok(())
+    timing.print(rt, work, size, "keys", size)
 }
 
 // Each time one key of the same index gets another place.
@@ -107,43 +106,46 @@ fn duplicate_often(index: &KeyIndex, size: u32) -> Result<u64, AllocError>
     Ok(sum)
 }
 
-fn time_changes<R: Clock + Print + AllocGlobal>(
-    rt: &R,
-    index: &KeyIndex,
-    size: u32,
-    rounds: u32,
-) -> Result<()>
-    requires { 0 < size }
-{
-    let mut timing = Timing::new();
-    for _ in 0..rounds {
-        let start = Instant::now(rt)?;
-        let sum = change_often(index, rt.alloc(), size)?;
-        timing.add(start.elapsed(rt)?, sum);
-    }
-    timing.print(rt, "key_index one change", size, "keys", CALLS)?;
-    Ok(())
+// Calls of an index.
+#[derive(Clone, Copy)]
+enum Work {
+    Change,
+    Find,
+    Duplicate,
 }
 
-fn time_finds<R: Clock + Print + AllocGlobal>(
-    rt: &R,
-    index: &KeyIndex,
-    size: u32,
-    rounds: u32,
-) -> Result<()>
+fn work_often(work: Work, index: &KeyIndex, alloc: Global, size: u32) -> Result<u64, AllocError>
     requires { 0 < size }
 {
-    let mut timing = Timing::new();
-    for _ in 0..rounds {
-        let start = Instant::now(rt)?;
-        let sum = find_all(index, size);
-        timing.add(start.elapsed(rt)?, sum);
+    match work {
+        Work::Change => change_often(index, alloc, size),
+        Work::Find => Ok(find_all(index, size)),
+        Work::Duplicate => duplicate_often(index, size),
     }
-    timing.print(rt, "key_index find", size, "keys", size)?;
-    Ok(())
 }
 
-fn time_copies<R: Clock + Print + AllocGlobal>(
+fn time_work<R: Clock + Print + AllocGlobal>(
+    rt: &R,
+    work: Work,
+    index: &KeyIndex,
+    size: u32,
+    rounds: u32,
+    name: &str,
+    calls: u32,
+) -> Result<()>
+    requires { 0 < size }
+{
+    let mut timing = Timing::new();
+    for _ in 0..rounds {
+        timing.begin(rt);
+        let sum = work_often(work, index, rt.alloc(), size)?;
+        timing.end(rt);
+        timing.count(sum);
+    }
+    timing.print(rt, name, size, "keys", calls)
+}
+
+fn time_works<R: Clock + Print + AllocGlobal>(
     rt: &R,
     index: &KeyIndex,
     size: u32,
@@ -151,14 +153,25 @@ fn time_copies<R: Clock + Print + AllocGlobal>(
 ) -> Result<()>
     requires { 0 < size }
 {
-    let mut timing = Timing::new();
-    for _ in 0..rounds {
-        let start = Instant::now(rt)?;
-        let sum = duplicate_often(index, size)?;
-        timing.add(start.elapsed(rt)?, sum);
-    }
-    timing.print(rt, "key_index duplicate", size, "keys", CALLS)?;
-    Ok(())
+    time_work(
+        rt,
+        Work::Change,
+        index,
+        size,
+        rounds,
+        "key_index one change",
+        CALLS,
+    )?;
+    time_work(rt, Work::Find, index, size, rounds, "key_index find", size)?;
+    time_work(
+        rt,
+        Work::Duplicate,
+        index,
+        size,
+        rounds,
+        "key_index duplicate",
+        CALLS,
+    )
 }
 
 /// Times ascending changes, one at a time and in batches, and calls of an index of all keys.
@@ -174,7 +187,5 @@ pub fn time_indexes<R: Clock + Print + AllocGlobal>(rt: &R, size: u32, rounds: u
         "key_index ascending change by 1024",
     )?;
     let index = ascending(rt.alloc(), size, BATCH)?;
-    time_changes(rt, &index, size, rounds)?;
-    time_finds(rt, &index, size, rounds)?;
-    time_copies(rt, &index, size, rounds)
+    time_works(rt, &index, size, rounds)
 }

@@ -13,7 +13,6 @@ use crate::timing::Timing;
 use anyhow::{Result, ensure};
 use std::alloc::{AllocError, Global};
 use std::rt::Clock;
-use std::time::Instant;
 use version_graph::Graph;
 
 // How many questions are timed together.
@@ -81,22 +80,26 @@ fn ask_often(graph: &Graph, a: u32, b: u32) -> Result<u64, AllocError>
     Ok(sum)
 }
 
-fn time_adds<R: Clock + Print + AllocGlobal>(rt: &R, size: u32, rounds: u32) -> Result<Graph>
+fn grown_graph(alloc: Global, size: u32) -> Result<Graph, AllocError>
     requires { 0 < size }
     ensures { IfOk result (λ graph. length graph.versions ≡ size) }
 {
+    let mut graph = empty_graph(alloc, size)?;
+    add_all(&mut graph, size, trunk_of(size));
+    Ok(graph)
+}
+
+fn time_adds<R: Clock + Print + AllocGlobal>(rt: &R, size: u32, rounds: u32) -> Result<()>
+    requires { 0 < size }
+{
     let mut timing = Timing::new();
-    let mut made = empty_graph(rt.alloc(), size)?;
-    add_all(&mut made, size, trunk_of(size));
     for _ in 0..rounds {
         let mut graph = empty_graph(rt.alloc(), size)?;
-        let start = Instant::now(rt)?;
+        timing.begin(rt);
         add_all(&mut graph, size, trunk_of(size));
-        timing.add(start.elapsed(rt)?, 0);
-        made = graph;
+        timing.end(rt);
     }
-    timing.print(rt, "version_graph add", size, "versions", size)?;
-    Ok(made)
+    timing.print(rt, "version_graph add", size, "versions", size)
 }
 
 fn time_common<R: Clock + Print + AllocGlobal>(
@@ -114,12 +117,12 @@ fn time_common<R: Clock + Print + AllocGlobal>(
 {
     let mut timing = Timing::new();
     for _ in 0..rounds {
-        let start = Instant::now(rt)?;
+        timing.begin(rt);
         let sum = common_often(graph, left, right)?;
-        timing.add(start.elapsed(rt)?, sum);
+        timing.end(rt);
+        timing.count(sum);
     }
-    timing.print(rt, "version_graph common", size, "versions", CALLS)?;
-    Ok(())
+    timing.print(rt, "version_graph common", size, "versions", CALLS)
 }
 
 fn time_ancestor<R: Clock + Print + AllocGlobal>(
@@ -135,23 +138,37 @@ fn time_ancestor<R: Clock + Print + AllocGlobal>(
 {
     let mut timing = Timing::new();
     for _ in 0..rounds {
-        let start = Instant::now(rt)?;
+        timing.begin(rt);
         let sum = ask_often(graph, base, head)?;
-        timing.add(start.elapsed(rt)?, sum);
+        timing.end(rt);
+        timing.count(sum);
     }
-    timing.print(rt, "version_graph is_ancestor", size, "versions", CALLS)?;
-    Ok(())
+    timing.print(rt, "version_graph is_ancestor", size, "versions", CALLS)
+}
+
+// The questions about the two heads of a graph of so many versions.
+fn time_questions<R: Clock + Print + AllocGlobal>(
+    rt: &R,
+    graph: &Graph,
+    size: u32,
+    rounds: u32,
+) -> Result<()>
+    requires some { 0 < size }
+    requires versions { length graph.now.versions ≡ size }
+{
+    let (left, right) = (size.saturating_sub(2), size - 1);
+    let base = trunk_of(size) - 1;
+    let grown = graph.is_ancestor(0, left)? && graph.is_ancestor(0, right)?;
+    ensure!(grown, "a head is not made from the first version");
+    time_common(rt, graph, left, right, size, rounds)?;
+    time_ancestor(rt, graph, base, right, size, rounds)
 }
 
 /// Times the making of the graph, and the questions about its two heads.
 pub fn time_lineages<R: Clock + Print + AllocGlobal>(rt: &R, size: u32, rounds: u32) -> Result<()>
     requires { 0 < size }
 {
-    let graph = time_adds(rt, size, rounds)?;
-    let (left, right) = (size.saturating_sub(2), size - 1);
-    let base = trunk_of(size) - 1;
-    let grown = graph.is_ancestor(0, left)? && graph.is_ancestor(0, right)?;
-    ensure!(grown, "a head is not made from the first version");
-    time_common(rt, &graph, left, right, size, rounds)?;
-    time_ancestor(rt, &graph, base, right, size, rounds)
+    let graph = grown_graph(rt.alloc(), size)?;
+    time_adds(rt, size, rounds)?;
+    time_questions(rt, &graph, size, rounds)
 }

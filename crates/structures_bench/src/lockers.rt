@@ -7,7 +7,6 @@ use anyhow::Result;
 use lock_table::{Ask, LOCKS, Locks, Need, Needs};
 use std::alloc::{AllocError, Global};
 use std::rt::Clock;
-use std::time::Instant;
 
 // How many requests are timed together.
 const CALLS: u32 = 10_000;
@@ -66,25 +65,25 @@ fn share_all(locks: &mut Locks, alloc: Global, size: u32) -> Result<(), AllocErr
     Ok(())
 }
 
-fn admit_timed<R: Clock>(rt: &R, locks: &mut Locks, size: u32, timing: &mut Timing) -> Result<()> {
-    let start = Instant::now(rt)?;
-    admit_all(locks, size)?;
-    timing.add(start.elapsed(rt)?, 0);
-    Ok(())
-}
-
-fn admit_round<R: Clock + AllocGlobal>(rt: &R, size: u32, timing: &mut Timing) -> Result<()> {
-    let mut locks = Locks::new(rt.alloc())?;
-    admit_timed(rt, &mut locks, size, timing)
-}
-
 fn time_admits<R: Clock + Print + AllocGlobal>(rt: &R, size: u32, rounds: u32) -> Result<()> {
     let mut timing = Timing::new();
     for _ in 0..rounds {
-        admit_round(rt, size, &mut timing)?;
+        let mut locks = Locks::new(rt.alloc())?;
+        timing.begin(rt);
+        admit_all(&mut locks, size)?;
+        timing.end(rt);
     }
-    timing.print(rt, "lock_table admit", size, "sessions", size)?;
-    Ok(())
+    timing.print(rt, "lock_table admit", size, "sessions", size)
+}
+
+// A table in which a session of this number, and all of lesser numbers, are admitted.
+fn shared_locks(alloc: Global, session: u32) -> Result<Locks, AllocError>
+    ensures { IfOk result (λ locks. IsAdmitted locks session) }
+{
+    let mut locks = Locks::new(alloc)?;
+    share_all(&mut locks, alloc, session)?;
+    locks.admit(session)?;
+    Ok(locks)
 }
 
 fn ask_rounds<R: Clock>(
@@ -93,17 +92,18 @@ fn ask_rounds<R: Clock>(
     session: u32,
     needs: &Needs,
     rounds: u32,
-    timing: &mut Timing,
-) -> Result<()>
+) -> Timing
     requires admitted { IsAdmitted locks.old session }
     requires locks { All (λ n. n.lock < LOCKS) needs.now }
 {
+    let mut timing = Timing::new();
     for _ in 0..rounds {
-        let start = Instant::now(rt)?;
+        timing.begin(rt);
         let granted = ask_often(locks, session, needs);
-        timing.add(start.elapsed(rt)?, granted);
+        timing.end(rt);
+        timing.count(granted);
     }
-    Ok(())
+    timing
 }
 
 fn time_asks<R: Clock + Print + AllocGlobal>(
@@ -115,14 +115,10 @@ fn time_asks<R: Clock + Print + AllocGlobal>(
 ) -> Result<()>
     requires { lock < LOCKS }
 {
-    let mut locks = Locks::new(rt.alloc())?;
-    share_all(&mut locks, rt.alloc(), size)?;
+    let mut locks = shared_locks(rt.alloc(), size)?;
     let needs = one_need(rt.alloc(), lock, true)?;
-    locks.admit(size)?;
-    let mut timing = Timing::new();
-    ask_rounds(rt, &mut locks, size, &needs, rounds, &mut timing)?;
-    timing.print(rt, work, size, "sessions", CALLS)?;
-    Ok(())
+    let timing = ask_rounds(rt, &mut locks, size, &needs, rounds);
+    timing.print(rt, work, size, "sessions", CALLS)
 }
 
 /// Times admissions, and one more session's request for a branch, of nobody and of another session.

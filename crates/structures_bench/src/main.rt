@@ -63,31 +63,43 @@ fn run_order<R: Clock + Print + AllocGlobal>(rt: &R, order: &Order) -> Result<()
     }
 }
 
+fn run_versions<R: Clock + Print + AllocGlobal>(rt: &R) -> Result<()> {
+    time_lineages(rt, 100_000, 25)?;
+    time_histories(rt, 10_000, 25)?;
+    time_pages(rt, 262_144, 25)
+}
+
+fn run_lesser<R: Clock + Print + AllocGlobal>(rt: &R) -> Result<()> {
+    time_overlays(rt, 65_536, 15)?;
+    time_regions(rt, 4_096, 25)?;
+    time_regions(rt, 65_536, 25)?;
+    time_lockers(rt, 64, 25)
+}
+
 // Each structure at the sizes that are asked about, and the index and the region at lesser ones too.
 fn run_all<R: Clock + Print + AllocGlobal>(rt: &R) -> Result<()> {
     time_bitmaps(rt, 262_144, 25)?;
     time_indexes(rt, 65_536, 5)?;
     time_indexes(rt, 131_072, 5)?;
     time_indexes(rt, 262_144, 5)?;
-    time_overlays(rt, 65_536, 15)?;
-    time_regions(rt, 4_096, 25)?;
-    time_regions(rt, 65_536, 25)?;
-    time_lockers(rt, 64, 25)?;
-    time_lineages(rt, 100_000, 25)?;
-    time_histories(rt, 10_000, 25)?;
-    time_pages(rt, 262_144, 25)
+    run_lesser(rt)?;
+    run_versions(rt)
 }
 
 // Whether the words were some that the program knows.
-fn run<R: Clock + Env + Print + AllocGlobal>(rt: &R) -> Result<bool> {
-    let words: Vec<String> = env::args(rt)?.skip(1).collect(rt.alloc())?;
-    match words_of(&words) {
+fn run_words<R: Clock + Print + AllocGlobal>(rt: &R, words: &[String]) -> Result<bool> {
+    match words_of(words) {
         Words::None => println!(rt; "{USAGE}")?,
         Words::All => run_all(rt)?,
         Words::One(order) => run_order(rt, &order)?,
         Words::Unknown => return Ok(false),
     }
     Ok(true)
+}
+
+fn run<R: Clock + Env + Print + AllocGlobal>(rt: &R) -> Result<bool> {
+    let words: Vec<String> = env::args(rt)?.skip(1).collect(rt.alloc())?;
+    run_words(rt, &words)
 }
 
 fn main(rt: HostRuntime) -> ExitCode {

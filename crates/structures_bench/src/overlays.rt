@@ -6,7 +6,6 @@ use crate::timing::Timing;
 use anyhow::Result;
 use key_index::Overlay;
 use std::rt::Clock;
-use std::time::Instant;
 
 const RELATION: u8 = 7;
 
@@ -42,15 +41,15 @@ pub fn time_overlays<R: Clock + Print + AllocGlobal>(rt: &R, size: u32, rounds: 
     let (mut put, mut find) = (Timing::new(), Timing::new());
     for _ in 0..rounds {
         let mut overlay = Overlay::with_room(rt.alloc(), size)?;
-        let start = Instant::now(rt)?;
+        put.begin(rt);
         put_all(&mut overlay, size);
-        put.add(start.elapsed(rt)?, 0);
+        put.end(rt);
 
-        let start = Instant::now(rt)?;
+        find.begin(rt);
         let sum = find_all(&overlay, size);
-        find.add(start.elapsed(rt)?, sum);
+        find.end(rt);
+        find.count(sum);
     }
     put.print(rt, "overlay put", size, "keys", size)?;
-    find.print(rt, "overlay find", size, "keys", size)?;
-    Ok(())
+    find.print(rt, "overlay find", size, "keys", size)
 }

@@ -12,7 +12,6 @@ use std::alloc::{AllocError, Global};
 use std::marker::Brand;
 use std::rt::Clock;
 use std::sync::ledger::{Blank, Ledger};
-use std::time::Instant;
 
 // How many passes over a page are timed together.
 const PASSES: u32 = 1_000;
@@ -159,33 +158,59 @@ fn time_page<R: Clock + Print + AllocGlobal>(
     requires some { 0 < fields }
     requires few { fields ≤ 15 }
 {
-    let mut read = Timing::new();
+    let mut timing = Timing::new();
     let page = filled(rt.alloc(), fields)?;
     for _ in 0..rounds {
-        let start = Instant::now(rt)?;
+        timing.begin(rt);
         let sum = sums_of(&page);
-        read.add(start.elapsed(rt)?, sum);
+        timing.end(rt);
+        timing.count(sum);
     }
-    read.print(rt, work, u32::from(page.len()), "records", PASSES)?;
-    Ok(())
+    timing.print(rt, work, u32::from(page.len()), "records", PASSES)
 }
 
-fn time_reads<R: Clock + Print + AllocGlobal>(
+// Calls of a segment.
+#[derive(Clone, Copy)]
+enum Work {
+    Read,
+    Extend,
+    Last,
+}
+
+fn work_often(work: Work, segment: &Segment, rows: &Records) -> Result<u64, AllocError>
+    requires fields { AreWide segment.now.fields rows.now }
+    requires few { length segment.now.records + length rows.now < 2 ^ 32 }
+{
+    match work {
+        Work::Read => Ok(sum_in(segment)),
+        Work::Extend => extend_often(segment, rows),
+        Work::Last => Ok(sum_of_lasts(segment, segment.len())),
+    }
+}
+
+fn time_work<R: Clock + Print + AllocGlobal>(
     rt: &R,
+    work: Work,
     segment: &Segment,
+    rows: &Records,
     rounds: u32,
-) -> Result<()> {
+    name: &str,
+    calls: u32,
+) -> Result<()>
+    requires fields { AreWide segment.now.fields rows.now }
+    requires few { length segment.now.records + length rows.now < 2 ^ 32 }
+{
     let mut timing = Timing::new();
     for _ in 0..rounds {
-        let start = Instant::now(rt)?;
-        let sum = sum_in(segment);
-        timing.add(start.elapsed(rt)?, sum);
+        timing.begin(rt);
+        let sum = work_often(work, segment, rows)?;
+        timing.end(rt);
+        timing.count(sum);
     }
-    timing.print(rt, "segment read", segment.len(), "records", segment.len())?;
-    Ok(())
+    timing.print(rt, name, segment.len(), "records", calls)
 }
 
-fn time_longer<R: Clock + Print + AllocGlobal>(
+fn time_works<R: Clock + Print + AllocGlobal>(
     rt: &R,
     segment: &Segment,
     rows: &Records,
@@ -194,29 +219,18 @@ fn time_longer<R: Clock + Print + AllocGlobal>(
     requires fields { AreWide segment.now.fields rows.now }
     requires few { length segment.now.records + length rows.now < 2 ^ 32 }
 {
-    let mut timing = Timing::new();
-    for _ in 0..rounds {
-        let start = Instant::now(rt)?;
-        let sum = extend_often(segment, rows)?;
-        timing.add(start.elapsed(rt)?, sum);
-    }
-    timing.print(rt, "segment extended", segment.len(), "records", LONGER)?;
-    Ok(())
-}
-
-fn time_lasts<R: Clock + Print + AllocGlobal>(
-    rt: &R,
-    segment: &Segment,
-    rounds: u32,
-) -> Result<()> {
-    let mut timing = Timing::new();
-    for _ in 0..rounds {
-        let start = Instant::now(rt)?;
-        let sum = sum_of_lasts(segment, segment.len());
-        timing.add(start.elapsed(rt)?, sum);
-    }
-    timing.print(rt, "segment last", segment.len(), "records", segment.len())?;
-    Ok(())
+    let len = segment.len();
+    time_work(rt, Work::Read, segment, rows, rounds, "segment read", len)?;
+    time_work(
+        rt,
+        Work::Extend,
+        segment,
+        rows,
+        rounds,
+        "segment extended",
+        LONGER,
+    )?;
+    time_work(rt, Work::Last, segment, rows, rounds, "segment last", len)
 }
 
 /// Times the records of a page and of a segment of `size` records, segments that are longer by one, and the last
@@ -228,7 +242,5 @@ pub fn time_pages<R: Clock + Print + AllocGlobal>(rt: &R, size: u32, rounds: u32
     time_page(rt, "record_page read 15 fields", 15, rounds)?;
     let segment = segment_of(rt.alloc(), 2, size)?;
     let rows = rows_of(rt.alloc(), 2, 1)?;
-    time_reads(rt, &segment, rounds)?;
-    time_longer(rt, &segment, &rows, rounds)?;
-    time_lasts(rt, &segment, rounds)
+    time_works(rt, &segment, &rows, rounds)
 }

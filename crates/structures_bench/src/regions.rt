@@ -6,7 +6,6 @@ use crate::timing::Timing;
 use anyhow::Result;
 use std::alloc::Global;
 use std::rt::Clock;
-use std::time::Instant;
 use work_region::{Frame, Region};
 
 /// What stands on a frame.
@@ -76,14 +75,13 @@ fn time_takes<T: Item, R: Clock + Print + AllocGlobal>(
 ) -> Result<()> {
     let mut timing = Timing::new();
     for _ in 0..rounds {
-        let start = Instant::now(rt)?;
+        timing.begin(rt);
         let mut region: Region<T> = Region::take(rt.alloc(), size)?;
-        let took = start.elapsed(rt)?;
+        timing.end(rt);
         let frame = region.place(T::of(3))?;
-        timing.add(took, region.get(&frame).number());
+        timing.count(region.get(&frame).number());
     }
-    timing.print(rt, work, size, "frames", 1)?;
-    Ok(())
+    timing.print(rt, work, size, "frames", 1)
 }
 
 // All frames are placed on, and then given back.
@@ -93,13 +91,15 @@ fn time_round<T: Item, R: Clock + AllocGlobal>(
     place: &mut Timing,
     give_back: &mut Timing,
 ) -> Result<()> {
-    let start = Instant::now(rt)?;
+    place.begin(rt);
     let frames = place_all(rt.alloc(), region)?;
-    place.add(start.elapsed(rt)?, sum_of(region, &frames));
+    place.end(rt);
+    place.count(sum_of(region, &frames));
 
-    let start = Instant::now(rt)?;
+    give_back.begin(rt);
     give_back_all(region, frames);
-    give_back.add(start.elapsed(rt)?, u64::from(region.free()));
+    give_back.end(rt);
+    give_back.count(u64::from(region.free()));
     Ok(())
 }
 
@@ -116,8 +116,7 @@ fn time_frames<T: Item, R: Clock + Print + AllocGlobal>(
         time_round(rt, &mut region, &mut place, &mut give_back)?;
     }
     place.print(rt, place_work, size, "frames", size)?;
-    give_back.print(rt, give_back_work, size, "frames", size)?;
-    Ok(())
+    give_back.print(rt, give_back_work, size, "frames", size)
 }
 
 /// Times the taking of a region, and the frames of one: all are placed on, and then given back. Frames

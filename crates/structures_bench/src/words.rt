@@ -7,7 +7,7 @@ const MOST_SIZE: u32 = 16_777_216;
 const MOST_ROUNDS: u32 = 1_000;
 
 /// The structure whose calls are timed.
-#[derive(Clone, Copy, Debug, PartialEq, Eq)]
+#[derive(Clone, Copy)]
 pub enum Kind {
     Bitmaps,
     Index,
@@ -20,7 +20,7 @@ pub enum Kind {
 }
 
 /// One structure, of a size that its kind gives a meaning, in a number of rounds.
-#[derive(Clone, Copy, Debug)]
+#[derive(Clone, Copy)]
 pub struct Order {
     pub kind: Kind,
     pub size: u32,
@@ -30,7 +30,7 @@ pub struct Order {
 }
 
 /// The words of a call.
-#[derive(Clone, Copy, Debug)]
+#[derive(Clone, Copy)]
 pub enum Words {
     None,
     All,
