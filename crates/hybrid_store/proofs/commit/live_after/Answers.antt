@@ -1,6 +1,5 @@
 use Rattle.std.proofs.Common.{List, Option, ℕ, subst}
 use Rattle.db_value.specs.declared.record.Record.{Record}
-use Rattle.db_store.specs.LayoutGrowth.{puts}
 use Rattle.key_index.specs.Places.{with_changes}
 use Rattle.hybrid_view.specs.RowPlaces.{spots, AllNext}
 use Rattle.hybrid_store.proofs.commit.live_after.Goals as goal

@@ -1,9 +1,8 @@
-use Rattle.std.proofs.Common.{◌∙◌, ap, get_or}
+use Rattle.std.proofs.Common.{◌∙◌, ap}
 use Rattle.std.specs.FinMap.{len}
 use Rattle.db_store.specs.Counts.{after}
 use Rattle.db_store.proofs.CountLemmas.{counted_is}
 use Rattle.hybrid_view.specs.Live.{Lived, contents_in}
-use Rattle.bit_rows.specs.Kept.{no_kept}
 use Rattle.hybrid_store.proofs.CommitLemmas.{fit_few, fit_differ}
 use Rattle.hybrid_store.proofs.store.HybridStore.touched.Goals as goal
 

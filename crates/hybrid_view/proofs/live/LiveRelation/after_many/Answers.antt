@@ -1,4 +1,4 @@
-use Rattle.std.proofs.Common.{◌≡◌, List, ap, sym, subst}
+use Rattle.std.proofs.Common.{List, ap, sym, subst}
 use Rattle.hybrid_view.specs.Live.{Lived, Piece, IsLived}
 use Rattle.hybrid_view.specs.RowPlaces.{AllNext}
 use Rattle.hybrid_view.proofs.live.LiveRelation.after_many.Goals as goal
