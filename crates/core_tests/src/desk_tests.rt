@@ -113,6 +113,21 @@ pub fn two_desks<St: Store, J: Log<St>>(
     Ok((board, first, second))
 }
 
+/// The statement of a line of this session.
+pub fn stmt_of(alloc: Global, text: &LineText, session: u32) -> Result<Stmt, Fail>
+    ensures { IfOk result (λ stmt. said_of text.now false ≡ heard session stmt) }
+{
+    match read_line(alloc, text.as_slice()) {
+        Err(_) => Err("a bad line".into()),
+        Ok(read) => {
+            if read.session != session {
+                return Err("another session".into());
+            }
+            Ok(read.stmt)
+        }
+    }
+}
+
 // The board answers a statement. A desk of another session agrees with it after that.
 fn visit_alone<St: Store, J: Log<St>>(
     board: &mut Board<St, J>,
@@ -132,6 +147,35 @@ fn visit_alone<St: Store, J: Log<St>>(
     Ok(reply)
 }
 
+// Is this the line with its reply?
+fn is_told(alloc: Global, text: &LineText, reply: &Reply, expected: &str) -> Result<(), Fail>
+    requires { NamesItsRows reply.now }
+{
+    let bytes = bytes_of(alloc, text, reply)?;
+    if bytes.as_slice() != expected.as_bytes() {
+        return Err("another reply".into());
+    }
+    Ok(())
+}
+
+// The board answers a statement of session 2.
+fn hold_stmt<St: Store, J: Log<St>>(
+    alloc: Global,
+    board: &mut Board<St, J>,
+    desk: &mut Desk<St>,
+    text: &LineText,
+    stmt: &Stmt,
+    expected: &str,
+) -> Result<(), Fail>
+    requires bare { IsBare 2 board.old.kept desk.old }
+    requires line { said_of text.now false ≡ heard 2 stmt.now }
+    ensures bare { OnOk result (IsBare 2 board.new.kept desk.new) }
+    ensures others { OnOk result (KeepsOthers 2 board.old.kept board.new.kept) }
+{
+    let reply = visit_alone(board, desk, text, stmt)?;
+    is_told(alloc, text, &reply, expected)
+}
+
 /// The board answers a line of session 2.
 pub fn hold<St: Store, J: Log<St>>(
     alloc: Global,
@@ -145,20 +189,8 @@ pub fn hold<St: Store, J: Log<St>>(
     ensures others { OnOk result (KeepsOthers 2 board.old.kept board.new.kept) }
 {
     let text = text_of(alloc, line)?;
-    match read_line(alloc, text.as_slice()) {
-        Err(_) => Err("a bad line".into()),
-        Ok(read) => {
-            if read.session != 2 {
-                return Err("another session".into());
-            }
-            let reply = visit_alone(board, desk, &text, &read.stmt)?;
-            let bytes = bytes_of(alloc, &text, &reply)?;
-            if bytes.as_slice() != expected.as_bytes() {
-                return Err("another reply".into());
-            }
-            Ok(())
-        }
-    }
+    let stmt = stmt_of(alloc, &text, 2)?;
+    hold_stmt(alloc, board, desk, &text, &stmt, expected)
 }
 
 // The board answers a line of session 2 in a transaction that begins before it.
@@ -217,6 +249,39 @@ fn tell_stmt<St: Store, J: Log<St>>(
     }
 }
 
+// A line of session 1: whether its desk answers it, and the reply.
+fn tell_text<St: Store, J: Log<St>>(
+    alloc: Global,
+    board: &mut Board<St, J>,
+    desk: &mut Desk<St>,
+    text: &LineText,
+) -> Result<(bool, Reply), Fail>
+    requires agree { Agrees board.old.kept desk.old }
+    requires session { desk.old.session ≡ 1 }
+    ensures named { IfOk result (λ told. NamesItsRows told.1) }
+    ensures agree { OnOk result (Agrees board.new.kept desk.new) }
+    ensures session { OnOk result (desk.new.session ≡ 1) }
+{
+    match read_line(alloc, text.as_slice()) {
+        Ok(read) => {
+            if read.session != 1 {
+                return Err("another session".into());
+            }
+            tell_stmt(board, desk, text, &read.stmt)
+        }
+        Err(LineStop::BadLine { session }) => {
+            if session != 1 {
+                return Err("a bad line of another session".into());
+            }
+            match desk.local(text, None)? {
+                None => Err("a bad line that doesn't wait".into()),
+                Some(reply) => Ok((true, reply)),
+            }
+        }
+        Err(LineStop::Memory) => Err("no memory".into()),
+    }
+}
+
 // A line of session 1: whether its desk answers it, and its echo and reply.
 fn tell<St: Store, J: Log<St>>(
     alloc: Global,
@@ -230,29 +295,9 @@ fn tell<St: Store, J: Log<St>>(
     ensures session { OnOk result (desk.new.session ≡ 1) }
 {
     let text = text_of(alloc, line)?;
-    match read_line(alloc, text.as_slice()) {
-        Ok(read) => {
-            if read.session != 1 {
-                return Err("another session".into());
-            }
-            let (at_desk, reply) = tell_stmt(board, desk, &text, &read.stmt)?;
-            let bytes = bytes_of(alloc, &text, &reply)?;
-            Ok((at_desk, bytes))
-        }
-        Err(LineStop::BadLine { session }) => {
-            if session != 1 {
-                return Err("a bad line of another session".into());
-            }
-            match desk.local(&text, None)? {
-                None => Err("a bad line that doesn't wait".into()),
-                Some(reply) => {
-                    let bytes = bytes_of(alloc, &text, &reply)?;
-                    Ok((true, bytes))
-                }
-            }
-        }
-        Err(LineStop::Memory) => Err("no memory".into()),
-    }
+    let (at_desk, reply) = tell_text(alloc, board, desk, &text)?;
+    let bytes = bytes_of(alloc, &text, &reply)?;
+    Ok((at_desk, bytes))
 }
 
 // A row is who answers a line, the line, and its reply. The core gives the same reply.
