@@ -3,7 +3,7 @@ ghost use Rattle.std.specs.Prelude.{◌≡◌, ◌∷◌, [], false, Some, OnOk}
 ghost use Rattle.history_note.specs.Shown.{new_pen};
 ghost use Rattle.db_hub.specs.Rooms.{IsOut};
 ghost use Rattle.session_run.specs.Runs.{IsNew, IsUnused};
-ghost use Rattle.thread_tests.specs.Said.{HasSaid, HasLeft};
+ghost use Rattle.thread_tests.specs.Said.{HasSaid, MayLeave, HasLeft};
 
 use crate::session_run_tests::{new_board, new_store};
 use db_core::Board;
@@ -27,7 +27,7 @@ fn say<T: LogTag<NoLog>>(
     requires out { IsOut room.old.out seat.old }
     requires session { seat.old.desk.session ≡ 1 }
     requires none { seat.old.desk.waiting ≡ [] }
-    ensures { OnOk result (HasSaid room.old room.new seat.old seat.new) }
+    ensures { OnOk result (HasSaid 1 room.old room.new seat.old seat.new) }
 {
     let Ok(line) = read_line(alloc, text.as_bytes()) else {
         return Err("no line".into());
@@ -50,6 +50,40 @@ struct Told {
     reply: Reply,
 }
 
+// Session 1 goes to another branch.
+fn say_aside<T: LogTag<NoLog>>(
+    alloc: Global,
+    room: &mut Room<PlainStore, NoLog, T>,
+    seat: &mut Seat<PlainStore, T>,
+) -> Result<(), Fail>
+    requires out { IsOut room.old.out seat.old }
+    requires session { seat.old.desk.session ≡ 1 }
+    requires none { seat.old.desk.waiting ≡ [] }
+    ensures { OnOk result (HasSaid 2 room.old room.new seat.old seat.new) }
+{
+    say(alloc, room, seat, "1 branch side of master")?;
+    say(alloc, room, seat, "1 on side")?;
+    Ok(())
+}
+
+// The seat is closed.
+fn leave<T: LogTag<NoLog>>(
+    room: &mut Room<PlainStore, NoLog, T>,
+    seat: Seat<PlainStore, T>,
+) -> Result<(), Fail>
+    requires leaves { T.stays ≡ false }
+    requires may { MayLeave room.old seat }
+    ensures { OnOk result (HasLeft room.new) }
+{
+    if seat.is_open() {
+        return Err("a transaction is open".into());
+    }
+    match room.close(seat) {
+        Ok(_) => Ok(()),
+        Err(_) => Err("the seat wasn't closed".into()),
+    }
+}
+
 // Session 1 goes to another branch, and its seat is closed.
 fn go_aside<T: LogTag<NoLog>>(
     alloc: Global,
@@ -62,15 +96,8 @@ fn go_aside<T: LogTag<NoLog>>(
     ensures { OnOk result (HasLeft room.new) }
 {
     let mut seat = room.seat(1)?;
-    say(alloc, room, &mut seat, "1 branch side of master")?;
-    say(alloc, room, &mut seat, "1 on side")?;
-    if seat.is_open() {
-        return Err("a transaction is open".into());
-    }
-    let Ok(_) = room.close(seat) else {
-        return Err("the seat wasn't closed".into());
-    };
-    Ok(())
+    say_aside(alloc, room, &mut seat)?;
+    leave(room, seat)
 }
 
 // Session 1 has its seat again.
