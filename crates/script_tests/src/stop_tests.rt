@@ -164,22 +164,56 @@ fn answer_on(alloc: Global, first: &[u8], second: &[u8]) -> Result<Vec<u8>, Fail
     Ok(ran.output)
 }
 
-// A crash of each file at each call. Tells how many pairs of files were opened.
-fn crash<R: Abort>(rt: &R, alloc: Global, ran: &Ran) -> Result<u64, Fail> {
-    let stored = acknowledged(&ran.output);
+// A crash while the script ran left these bytes.
+fn crash_with(
+    rt: &impl Abort,
+    alloc: Global,
+    first: &[u8],
+    second: &[u8],
+    stored: (bool, bool),
+) -> Result<(), Fail> {
+    let answer = answer_on(alloc, first, second)?;
+    assert!(rt; may_show(&answer, stored), "a crash while it ran");
+    Ok(())
+}
+
+// Each of the first files with each of the second. Tells how many pairs of files were opened.
+fn crash_pairs(
+    rt: &impl Abort,
+    alloc: Global,
+    firsts: &[Vec<u8>],
+    seconds: &[Vec<u8>],
+    stored: (bool, bool),
+) -> Result<u64, Fail> {
     let mut tried = 0u64;
-    let firsts = left_of(alloc, &ran.disks.first)?;
-    let seconds = left_of(alloc, &ran.disks.second)?;
-    for first in &firsts {
-        for second in &seconds {
-            let answer = answer_on(alloc, first, second)?;
-            assert!(rt; may_show(&answer, stored), "a crash while it ran");
+    for first in firsts {
+        for second in seconds {
+            crash_with(rt, alloc, first, second, stored)?;
             tried = tried.saturating_add(1);
         }
     }
+    Ok(tried)
+}
+
+// A crash behind the script.
+fn crash_behind(
+    rt: &impl Abort,
+    alloc: Global,
+    ran: &Ran,
+    stored: (bool, bool),
+) -> Result<(), Fail> {
     let answer = answer_on(alloc, ran.disks.first.bytes(), ran.disks.second.bytes())?;
     assert!(rt; may_end(&answer, stored), "at the end");
-    Ok(tried)
+    Ok(())
+}
+
+// A crash of each file at each call. Tells how many pairs of files were opened.
+fn crash(rt: &impl Abort, alloc: Global, ran: &Ran) -> Result<u64, Fail> {
+    let stored = acknowledged(&ran.output);
+    crash_behind(rt, alloc, ran, stored)?;
+    let firsts = left_of(alloc, &ran.disks.first)?;
+    let seconds = left_of(alloc, &ran.disks.second)?;
+    crash_pairs(rt, alloc, &firsts, &seconds, stored)
 }
 
 // The script on files of which a call fails.
@@ -197,20 +231,46 @@ fn run_failing(alloc: Global, new: &[u8], file: u64, call: u64) -> Result<Ran, F
     run(alloc, disks, SCRIPT)
 }
 
+// A run of which a call failed, and what a crash leaves of it. Was the call behind its last one?
+fn try_crashes(
+    rt: &impl Abort,
+    alloc: Global,
+    ran: &Ran,
+    call: u64,
+    tried: &mut Tried,
+) -> Result<bool, Fail> {
+    let failed = times(&ran.output, b"refused 19 fault disk");
+    assert!(rt; failed <= 1, "one call failed, and {failed} lines");
+    tried.runs = tried.runs.saturating_add(1);
+    tried.crashes = tried.crashes.saturating_add(crash(rt, alloc, ran)?);
+    if failed != 0 || ran.output.is_empty() {
+        return Ok(false);
+    }
+    assert!(rt; acknowledged(&ran.output) == (true, true), "call {call}");
+    Ok(true)
+}
+
+// A call of a file fails. Was it behind the last one of the run?
+fn fail_at(
+    rt: &impl Abort,
+    alloc: Global,
+    new: &[u8],
+    file: u64,
+    call: u64,
+    tried: &mut Tried,
+) -> Result<bool, Fail> {
+    let ran = run_failing(alloc, new, file, call)?;
+    try_crashes(rt, alloc, &ran, call, tried)
+}
+
 // Each call of a file fails in turn, until a run makes fewer.
-fn fail_each<R: Abort>(rt: &R, alloc: Global, new: &[u8], file: u64) -> Result<Tried, Fail> {
+fn fail_each(rt: &impl Abort, alloc: Global, new: &[u8], file: u64) -> Result<Tried, Fail> {
     let mut tried = Tried {
         runs: 0,
         crashes: 0,
     };
     for call in 1..MOST_CALLS {
-        let ran = run_failing(alloc, new, file, call)?;
-        let failed = times(&ran.output, b"refused 19 fault disk");
-        assert!(rt; failed <= 1, "one call failed, and {failed} lines");
-        tried.runs = tried.runs.saturating_add(1);
-        tried.crashes = tried.crashes.saturating_add(crash(rt, alloc, &ran)?);
-        if failed == 0 && !ran.output.is_empty() {
-            assert!(rt; acknowledged(&ran.output) == (true, true), "call {call}");
+        if fail_at(rt, alloc, new, file, call, &mut tried)? {
             return Ok(tried);
         }
     }
