@@ -20,7 +20,7 @@ ROWS, BRANCHES, CHANGES, COMMIT, RUNS = 60_000, 32, 16_000, 50, 7
 def run(*words, given=b""):
     """Milliseconds."""
     started = time.monotonic()
-    done = subprocess.run([PROGRAM, *words], input=given, stdout=subprocess.PIPE, check=True, env=settings())
+    done = subprocess.run([PROGRAM, *words], input=given, stdout=subprocess.PIPE, check=True, env=settings(words[0]))
     return (time.monotonic() - started) * 1e3, done.stdout
 
 

@@ -17,7 +17,7 @@ RUNS, ROWS = 3, 200
 
 def run(command, base, text):
     started = time.monotonic()
-    subprocess.run([PROGRAM, command, base], input=text.encode(), stdout=subprocess.DEVNULL, check=True, env=settings())
+    subprocess.run([PROGRAM, command, base], input=text.encode(), stdout=subprocess.DEVNULL, check=True, env=settings(command))
     return time.monotonic() - started
 
 

@@ -25,7 +25,7 @@ def run(command, base, text):
     if child == 0:
         os.dup2(os.open(f.name, os.O_RDONLY), 0)
         os.dup2(os.open(os.devnull, os.O_WRONLY), 1)
-        os.execve(PROGRAM, [PROGRAM, command, base], settings())
+        os.execve(PROGRAM, [PROGRAM, command, base], settings(command))
     _, status, used = os.wait4(child, 0)
     took = time.monotonic() - start
     os.unlink(f.name)

@@ -53,9 +53,9 @@ def main():
         imports, exports, peers, answers = [], [], [], []
         for _ in range(RUNS):
             removed(base + ".0", base + ".1", db)
-            run([PROGRAM, "create", base], schema, out, settings())
-            imports.append(run([PROGRAM, "import", base, "t"], table, os.devnull, settings()))
-            exports.append(run([PROGRAM, "export", base, "t", "master"], os.devnull, out, settings()))
+            run([PROGRAM, "create", base], schema, out, settings("create"))
+            imports.append(run([PROGRAM, "import", base, "t"], table, os.devnull, settings("import")))
+            exports.append(run([PROGRAM, "export", base, "t", "master"], os.devnull, out, settings("export")))
             if shutil.which("sqlite3"):
                 subprocess.run(["sqlite3", db, "create table t (key integer primary key, a integer, b integer, c integer, d integer)"], check=True)
                 peers.append(run(["sqlite3", db, ".mode csv", ".import %s t" % table], os.devnull, os.devnull))

@@ -23,7 +23,7 @@ def timed(base, command, text):
         f.write(text)
     start = time.monotonic()
     with open(base + ".in", "rb") as given, open(os.devnull, "wb") as out:
-        done = subprocess.run([PROGRAM, command, base], stdin=given, stdout=out, stderr=subprocess.PIPE, env=settings())
+        done = subprocess.run([PROGRAM, command, base], stdin=given, stdout=out, stderr=subprocess.PIPE, env=settings(command))
     if done.returncode:
         raise SystemExit("%s ended with %d: %s" % (command, done.returncode, done.stderr))
     return time.monotonic() - start
@@ -37,7 +37,7 @@ def fresh(base, sessions):
     with open(base + ".in", "w") as f:
         f.write("relation items a b\nend\n")
     with open(base + ".in", "rb") as given:
-        subprocess.run([PROGRAM, "create", base], stdin=given, stdout=subprocess.DEVNULL, check=True, env=settings())
+        subprocess.run([PROGRAM, "create", base], stdin=given, stdout=subprocess.DEVNULL, check=True, env=settings("create"))
     rows = "".join("1 insert items %d %d 0\n" % (k, k) for k in range(KEYS))
     timed(base, "script", "1 begin\n" + rows + "1 commit\n" + "".join("1 branch b%d of master\n" % s for s in range(1, sessions + 1)))
 
@@ -86,7 +86,7 @@ def at_once(bases, texts):
         with open(base + ".in", "w") as f:
             f.write(text)
     start = time.monotonic()
-    running = [subprocess.Popen([PROGRAM, "sessions", base], stdin=open(base + ".in", "rb"), stdout=subprocess.DEVNULL, env=settings()) for base in bases]
+    running = [subprocess.Popen([PROGRAM, "sessions", base], stdin=open(base + ".in", "rb"), stdout=subprocess.DEVNULL, env=settings("sessions")) for base in bases]
     if any(child.wait() for child in running):
         raise SystemExit("a process failed")
     return time.monotonic() - start

@@ -21,7 +21,10 @@ use session_run::run_sessions;
 use std::alloc::Global;
 use std::sync::Wait;
 use std::thread::Threads;
-use stmt_text::{Sections, sections_of};
+use stmt_text::{Section, Sections, sections_of};
+
+// For how many lines memory is taken at once, at most.
+const MOST_LINES: u64 = 4_294_967_295;
 
 // Runs sections on a board on which nothing was run, and then writes the list that they leave. After
 // want of memory what was run is written, as far as it can be.
@@ -67,15 +70,40 @@ where
     }
 }
 
-// A board on which nothing was run. Want of memory gives the log back.
-fn new_board<St: Store, J: Log<St>>(alloc: Global, store: St, log: J) -> Result<Board<St, J>, J>
+// How many lines are entered at most: those of each section, and an abort.
+fn most_lines(sections: &[Section]) -> u32 {
+    let mut lines: u64 = 0;
+    for section in sections {
+        let some = section.lines.as_slice().len() as u64;
+        lines = lines.saturating_add(some).saturating_add(1);
+    }
+    lines.min(MOST_LINES) as u32
+}
+
+// The board, with memory for so many lines, since a list that grows is moved while sessions wait. Where
+// there is none, each line takes its own.
+fn with_room<St: Store, J: Log<St>>(mut board: Board<St, J>, lines: u32) -> Board<St, J>
+    ensures { result ≡ board }
+{
+    let _ = board.reserve(lines);
+    board
+}
+
+// A board on which nothing was run, with memory for so many lines if there is. Want of memory for the
+// board gives the log back.
+fn new_board<St: Store, J: Log<St>>(
+    alloc: Global,
+    store: St,
+    log: J,
+    lines: u32,
+) -> Result<Board<St, J>, J>
     ensures opening { IfOk result (λ b. b.kept.opening ≡ St.state store) }
     ensures fresh { IfOk result (λ b. IsNew b.kept) }
     ensures log { IfOk result (λ b. b.log ≡ log) }
     ensures given_back { IfErr result (λ l. l ≡ log) }
 {
     match Board::new(alloc, store, log) {
-        Ok(board) => Ok(board),
+        Ok(board) => Ok(with_room(board, lines)),
         Err((_, _, log)) => Err(log),
     }
 }
@@ -103,7 +131,7 @@ where
         Err(_) => return (Status::Memory, log),
     };
     let before = log.fault_count();
-    match new_board(alloc, store, log) {
+    match new_board(alloc, store, log, most_lines(sections.as_slice())) {
         Err(log) => (Status::Memory, log),
         Ok(board) => run_on_board(rt, alloc, &sections, sink, board, before, gate),
     }

@@ -12,10 +12,10 @@ use std::alloc::{AllocError, Global};
 use std::thread::{Threads, join};
 
 /// How many steps a thread spells.
-const FEW: usize = 4096;
+const FEW: usize = 16384;
 
 /// How many steps are spelled before they are written.
-const BLOCK: usize = 16384;
+const BLOCK: usize = 65536;
 
 // The text of steps, spelled one after another.
 fn spell_few(alloc: Global, steps: &[Step]) -> Result<Vec<u8>, AllocError>
