@@ -124,6 +124,26 @@ def branch_of(session):
     return b"of%d" % session
 
 
+def long_section(session):
+    """A session's lines: twelve transactions of a hundred inserts, each read again, on a branch of its own."""
+    lines = [b"branch " + branch_of(session) + b" of master", b"on " + branch_of(session)]
+    for n in range(12):
+        keys = range(100 * n, 100 * n + 100)
+        lines += [b"begin", *(b"insert items %d %d 0" % (key, session) for key in keys), *(b"get items %d" % key for key in keys), b"commit"]
+    return [b"%d " % session + line for line in lines]
+
+
+def at_length(base):
+    """An input and a list that are longer than one thread takes: the sections are gathered, and the replies spelled, on several."""
+    place = os.path.join(base.folder, "long")
+    os.mkdir(place)
+    sections = [long_section(session) for session in range(1, SESSIONS + 1)]
+    script = as_input(line for lines in zip(*sections) for line in lines)
+    assert len(script) > 262144 and sum(map(len, sections)) > 16384
+    wrong, _ = one_script(base, on_files.Base(base.program, place), SCHEMA + script)
+    yield "a long input of %d sessions on threads" % SESSIONS, wrong, []
+
+
 def pairs_of(session):
     """A session's lines: transactions of two keys each, on a branch of its own."""
     lines = [b"on " + branch_of(session)]
@@ -186,6 +206,6 @@ def checks(program):
         if on_files.Base(program, folder).run("sessions")[0] == 2:
             print("tests/run: the program has no `sessions` yet, so nobody ran sessions on threads")
             return
-    for part in (alone, at_random, killed):
+    for part in (alone, at_random, at_length, killed):
         with tempfile.TemporaryDirectory() as folder:
             yield from part(on_files.Base(program, folder))

@@ -4,7 +4,10 @@ use db_value::{Op, Prefer};
 use std::alloc::Global;
 use std::process::Abort;
 use std::test::Fail;
-use stmt_text::{Line, LineStop, ScanOver, Stmt, read_line, sections_of, write_line};
+use stmt_text::{
+    Line, LineStop, ScanOver, Sections, Stmt, read_line, sections_between, sections_of, session_at,
+    write_line,
+};
 
 const LINES_OF_NO_SESSION: &str = "\
 0|a session alone|1\n\
@@ -436,5 +439,17 @@ fn takes_an_input_apart(rt: HostRuntime) -> Result<(), Fail> {
     assert!(rt; lines.len() == 2);
     assert!(rt; lines[0].line == 2 && lines[1].line == 6);
     assert!(rt; lines[1].text.as_slice() == b"2 commit".as_slice());
+    Ok(())
+}
+
+#[test]
+fn takes_some_sessions_of_an_input(rt: HostRuntime) -> Result<(), Fail> {
+    let text = THREE_SESSIONS.as_bytes();
+    let later = sections_between(rt.alloc(), text, 2, 63)?;
+    assert!(rt; later.len() == 1);
+    assert!(rt; later[0].session == 2 && later[0].lines.as_slice().len() == 2);
+    let all = Sections::of(sections_between(rt.alloc(), text, 0, 65)?);
+    assert!(rt; all.as_slice().len() == 3);
+    assert!(rt; session_at(b"64 commit") == 64 && session_at(b"65 commit") == 0);
     Ok(())
 }
