@@ -12,6 +12,7 @@ ghost use Rattle.db_hub.specs.Rooms.{StoresSince};
 ghost use Rattle.db_hub.specs.Seats.{SeatClosed, SeatFailed};
 ghost use Rattle.db_hub.specs.Served.{SeatServed};
 
+use crate::patience::Patience;
 use crate::room::{Room, Shut};
 use crate::seat::Seat;
 use crate::tag::LogTag;
@@ -31,8 +32,11 @@ use stmt_text::Stmt;
 /// How often a thread looks for the lock before it sleeps. To wake one takes longer than most visits.
 const LOOKS: u32 = 200;
 
-/// How often a thread whose line waits lets others go first, before it settles their batch.
-const YIELDS: u32 = 30;
+/// How often a thread whose line waits lets others go first before it looks whether it was settled.
+const YIELDS: u32 = 8;
+
+/// How often a thread whose line waits comes to the lock at most without sleeping, where others have it.
+const TURNS: u32 = 400;
 
 /// A hub is what a room has, and the lines that wait for the log together, under a lock, which threads
 /// share. All seats of the room stay out: one that was given up goes on to be listed.
@@ -40,16 +44,6 @@ const YIELDS: u32 = 30;
 pub struct Hub<St: Store, J: Log<St>, T: LogTag<J>> {
     pub lock: Mutex<Whole<St, J, T>>,
     ghost stays: { T.stays ≡ true },
-}
-
-// Others may offer lines to the same batch, unless a line of each waits.
-fn let_others_offer(all_wait: bool) {
-    if all_wait {
-        return;
-    }
-    for _ in 0..YIELDS {
-        thread::yield_now();
-    }
 }
 
 impl<St: Store, J: Log<St>, T: LogTag<J>> Hub<St, J, T> {
@@ -60,6 +54,34 @@ impl<St: Store, J: Log<St>, T: LogTag<J>> Hub<St, J, T> {
                 return guard;
             }
             thread::yield_now();
+        }
+        self.lock.lock(rt)
+    }
+
+    // What lies under the lock, after others could offer lines to the batch in which the line of this number
+    // waits, and settle it. It comes back when they did, or when so many looks found that they didn't.
+    fn leave_to_others<'a, R: Wait>(
+        &'a self,
+        rt: &R,
+        guard: MutexGuard<'a, Whole<St, J, T>>,
+        number: u32,
+        looks: u32,
+    ) -> MutexGuard<'a, Whole<St, J, T>> {
+        if looks == 0 {
+            return guard;
+        }
+        drop(guard);
+        let mut left = looks;
+        for _ in 0..TURNS {
+            for _ in 0..YIELDS {
+                thread::yield_now();
+            }
+            if let Some(guard) = self.lock.try_lock() {
+                left = left.saturating_sub(1);
+                if left == 0 || guard.has_told(number) {
+                    return guard;
+                }
+            }
         }
         self.lock.lock(rt)
     }
@@ -90,6 +112,7 @@ impl<St: Store, J: Log<St>, T: LogTag<J>> Hub<St, J, T> {
             waiting,
             waits: Vec::new(alloc),
             told: Vec::new(alloc),
+            patience: Patience::new(),
             of: PhantomData,
         };
         Hub {
@@ -113,12 +136,13 @@ impl<St: Store, J: Log<St>, T: LogTag<J>> Hub<St, J, T> {
         ensures seat { IfOk result (SeatServed T.opened seat.old seat.new text.now) }
         ensures failed { OnErr result (SeatFailed seat.old seat.new) }
     {
-        let visit = self.enter(rt).first_visit(seat, text, stmt)?;
+        let mut guard = self.enter(rt);
+        let visit = guard.first_visit(seat, text, stmt)?;
         match visit {
             Visit::Served { reply } => Ok(reply),
-            Visit::Left { pass, all_wait } => {
-                let_others_offer(all_wait);
-                let reply = self.enter(rt).second_visit(seat, pass, text)?;
+            Visit::Left { pass, looks } => {
+                let mut guard = self.leave_to_others(rt, guard, seat.number, looks);
+                let reply = guard.second_visit(seat, pass, text)?;
                 Ok(reply)
             }
         }
@@ -135,7 +159,12 @@ impl<St: Store, J: Log<St>, T: LogTag<J>> Hub<St, J, T> {
         ensures ok { IfOk result (SeatClosed T.note T.opened seat) }
         ensures failed { IfErr result (λ e. SeatFailed seat e.1) }
     {
-        let caught = self.enter(rt).catch_up(&mut seat);
+        let mut guard = self.enter(rt);
+        let caught = guard.catch_up(&mut seat);
+        if caught.is_ok() {
+            guard.give_up_one();
+        }
+        drop(guard);
         match caught {
             Err(stop) => Err((stop, seat)),
             Ok(()) => match seat.into_pass() {

@@ -8,6 +8,7 @@ ghost use Rattle.db_hub.specs.Seats.{seat_at, with_desk, SeatVisited, SeatCaught
 ghost use Rattle.db_hub.specs.Served.{CarriesFor, IsHandedTo, IsReady, IsHere, MayAsk, IsTaken, IsGiven, SeatLooked, IfSettle, IfTold, IfWaits, UnlessWaits, SettlesFirst, AnswersNow, LeavesLine, IsAway, SeatLeaves, SeatReturns, IfServed, IfLeft};
 
 use crate::keyed::{has_key, take_at};
+use crate::patience::Patience;
 use crate::seat::Seat;
 use crate::settling::{tell_all, write_members};
 use crate::tag::LogTag;
@@ -38,6 +39,7 @@ pub struct Whole<St: Store, J: Log<St>, T: LogTag<J>> {
     pub waiting: Waiting<St>,
     pub waits: Vec<(u32, Reply)>,
     pub told: Vec<(u32, Reply)>,
+    pub patience: Patience,
     pub of: PhantomData<T>,
 }
 
@@ -88,8 +90,9 @@ enum Asked {
 pub enum Visit<St: Store> {
     /// The line was answered and entered.
     Served { reply: Reply },
-    /// It waits for its batch, with the pass that left it. It tells whether a line of each seat waits.
-    Left { pass: Pass<St>, all_wait: bool },
+    /// It waits for its batch, with the pass that left it. It tells how often its thread looks whether
+    /// others settled it, before it does so: never, if a line of each session waits.
+    Left { pass: Pass<St>, looks: u32 },
 }
 
 // Memory for one line more that waits.
@@ -213,6 +216,13 @@ impl<St: Store, J: Log<St>, T: LogTag<J>> Whole<St, J, T> {
         self.ask(&mut seat.desk, seat.number, text, stmt)
     }
 
+    /// Was the line of this number settled?
+    pub fn has_told(&self, number: u32) -> bool
+        ensures { result ≡ true → owed_to number self.now.pen.owed ≡ [] → ⊥ }
+    {
+        has_key(self.told.as_slice(), number)
+    }
+
     // Offers a line of the seat, unless members that wait are to be settled first: then it says None.
     fn offer_line(
         &mut self,
@@ -239,8 +249,8 @@ impl<St: Store, J: Log<St>, T: LogTag<J>> Whole<St, J, T> {
             Ok(asked) => match asked {
                 Asked::Waits => {
                     let pass = self.hand()?;
-                    let all_wait = self.waits.len() == self.out.len();
-                    Ok(Some(Visit::Left { pass, all_wait }))
+                    let looks = self.patience.looks(self.waits.len(), self.out.len());
+                    Ok(Some(Visit::Left { pass, looks }))
                 }
                 Asked::Told { reply } => {
                     self.give_back(seat)?;
@@ -310,9 +320,10 @@ impl<St: Store, J: Log<St>, T: LogTag<J>> Whole<St, J, T> {
         ensures settled { (owed_to number self.new.pen.owed ≡ [] → ⊥)
             ⊎ (self.new.pen.kept ≡ []) }
     {
-        if has_key(self.told.as_slice(), number) {
+        if self.has_told(number) {
             return;
         }
+        self.patience.wear();
         self.settle_all();
     }
 
@@ -358,6 +369,13 @@ impl<St: Store, J: Log<St>, T: LogTag<J>> Whole<St, J, T> {
         }
         self.settle_for(seat.number);
         self.fetch(seat, pass, text)
+    }
+
+    /// A session whose seat is given up brings no more lines that wait with others'.
+    pub fn give_up_one(&mut self)
+        ensures { self.new ≡ self.old }
+    {
+        self.patience.give_up_one();
     }
 
     /// Settles the members that wait, and enters the lines that wait at the seat's desk. Want of memory

@@ -9,7 +9,7 @@ ghost use Rattle.session_run.specs.Runs.{HasRun, IsNew, IsInterleaving, IsBeginn
 use crate::jobs::{run_jobs, seated};
 use crate::tie::tie_all;
 use db_core::{Board, Waiting};
-use db_hub::{Hub, LogTag, Room, Whole};
+use db_hub::{Hub, LogTag, Patience, Room, Whole};
 use db_outside::Gate;
 use db_store::Store;
 use entry_codec::Log;
@@ -100,6 +100,7 @@ where
                 waiting,
                 waits: Vec::new(alloc),
                 told: Vec::new(alloc),
+                patience: Patience::new(),
                 of: PhantomData,
             };
             let hub = Hub {
