@@ -11,7 +11,7 @@ import multiprocessing, os, shutil, sqlite3, subprocess, sys, tempfile, time
 from launch import settings
 
 TOP = os.path.dirname(os.path.dirname(os.path.abspath(__file__)))
-PROGRAM = sys.argv[1] if len(sys.argv) > 1 else os.path.join(TOP, "crates", "decibel_main", "out", "decibel_main")
+PROGRAM = sys.argv[1] if len(sys.argv) > 1 else os.path.join(TOP, "crates", "decibel", "out", "decibel")
 RUNS, ROWS = 3, 200
 
 

@@ -9,7 +9,7 @@ import os, random, shutil, subprocess, sys, tempfile, time
 from launch import settings
 
 TOP = os.path.dirname(os.path.dirname(os.path.abspath(__file__)))
-PROGRAM = sys.argv[1] if len(sys.argv) > 1 else os.path.join(TOP, "crates", "decibel_main", "out", "decibel_main")
+PROGRAM = sys.argv[1] if len(sys.argv) > 1 else os.path.join(TOP, "crates", "decibel", "out", "decibel")
 ROWS, RUNS = 65536, int(sys.argv[2]) if len(sys.argv) > 2 else 7
 
 

@@ -12,7 +12,7 @@ import os, shutil, subprocess, sys, tempfile, time
 from launch import settings
 
 TOP = os.path.dirname(os.path.dirname(os.path.abspath(__file__)))
-PROGRAM = sys.argv[1] if len(sys.argv) > 1 else os.path.join(TOP, "crates", "decibel_main", "out", "decibel_main")
+PROGRAM = sys.argv[1] if len(sys.argv) > 1 else os.path.join(TOP, "crates", "decibel", "out", "decibel")
 RUNS = 5
 KEYS = 1000
 TURNS = 200

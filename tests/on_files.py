@@ -84,6 +84,9 @@ def stored(base):
         (b"1 branch dev of master@0", b"ok dev@0"), (b"1 on dev", b"ok"), (b"1 insert items 2 2 2", b"ok dev@1"),
         (b"1 scan items in heads", b"row 1 1 1 in master\nrow 2 2 2 in dev\nrows 2")), b"")
     yield "check of two branches", base.run("check"), (0, b"ok generation 1 branches 2 versions 3 entries 3\n", b"")
+    before = base.read(0), base.read(1)
+    yield "create on a dataset with rows", base.run("create", SCHEMA), (10, b"", b"decibel: already there\n")
+    yield "its files stay", (base.read(0), base.read(1)), before
 
 
 def exported(base):

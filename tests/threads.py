@@ -72,6 +72,28 @@ def alone(base):
         (b"1 begin", b"ok"), (b"1 get items 1", b"none"), (b"1 abort", b"ok")), b"")
     yield "sessions of a bad line", base.run("sessions", b"hello\n"), (0, b"> hello\nrefused 1 bad line\n", b"")
     yield "none of them stored anything", base.run("check"), (0, b"ok generation 1 branches 1 versions 1 entries 0\n", b"")
+    base.run("script", b"1 insert items 1 1 1\n")
+    for name, data, status, text in (("empty files", b"", 3, b"not a dataset"), ("a damaged file", base.read(0)[:150], 4, b"damaged file 0 at 124")):
+        base.write(0, data)
+        yield "sessions on " + name, base.run("sessions", b"1 begin\n"), (status, b"", b"decibel: %s\n" % text)
+        yield "the files of sessions on " + name, (base.read(0), base.read(1)), (data, b"")
+
+
+# Two sessions on branches of their own, one that leaves its transaction open, and a line that belongs to none of them.
+THREE = (b"# three sessions\n3 begin\n1 branch ann of master@0\n2 branch bob of master@0\n3 get items 1\n1 on ann\n2 on bob\n"
+         b"1 insert items 1 1 1\n2 insert items 1 2 2\nno session\n")
+THREE_ECHOED = (b"3 begin", b"3 get items 1", b"3 abort", b"1 branch ann of master@0", b"1 on ann", b"1 insert items 1 1 1",
+                b"2 branch bob of master@0", b"2 on bob", b"2 insert items 1 2 2", b"no session")
+
+
+def three(base):
+    """Each line of three sessions is answered once, and a transaction that is left open is aborted."""
+    base.made()
+    status, written, said = base.run("sessions", THREE)
+    yield "three sessions", (status, sorted(echoed(written)), said), (0, sorted(THREE_ECHOED), b"")
+    yield "a line of no session", written.count(b"> no session\nrefused 1 bad line\n"), 1
+    yield "an abort of what is left open", written.count(b"> 3 abort\nok\n"), 1
+    yield "check of three sessions", base.run("check"), base.told()
 
 
 def one_script(base, other, given):
@@ -206,6 +228,6 @@ def checks(program):
         if on_files.Base(program, folder).run("sessions")[0] == 2:
             print("tests/run: the program has no `sessions` yet, so nobody ran sessions on threads")
             return
-    for part in (alone, at_random, at_length, killed):
+    for part in (alone, three, at_random, at_length, killed):
         with tempfile.TemporaryDirectory() as folder:
             yield from part(on_files.Base(program, folder))
