@@ -287,6 +287,8 @@ def closed_streams(base):
     yield "the files without an input", (base.read(0), base.read(1)), (new, b"")
     yield "script without an output", by_shell("script", ">&-"), (6, b"", b"decibel: write fault\n")
     yield "the line without an output", base.run("check"), (0, b"ok generation 1 branches 1 versions 2 entries 1\n", b"")
+    for verb, more, written in (("check", "", b"ok generation 1 branches 1 versions 2 entries 1\n"), ("export", "items master", b"1,1,1\n")):
+        yield "%s without an input" % verb, by_shell(verb, "<&-", more), (0, written, b"")
     for verb, more in (("check", ""), ("export", "items master"), ("import", "items")):
         before = base.read(0), base.read(1)
         found = by_shell(verb, ">&-", more)
