@@ -5,10 +5,13 @@
 - A name in backticks stands in the file or crate beside it: `name` (`file`), `name` in `file`, `name` of `crate`; in the file at the end of
   a row of lemmas; in the crate at the beginning of a row or of an item (`- **crate** ..`). A function has the clauses that stand after it:
   `function`, clauses `name`, `name`. A call `Type::name` of a type of ours is there. Any other name stands somewhere in the repository.
-- Each claim of docs/CLAIMS.md names a function of its crate, its clauses, a test and an edit, or has a dash. Each crate has claims.
+- Each claim of docs/CLAIMS.md names a function of its crate, its clauses, a test and an edit of must-fail/ or edits/, or has a dash. Each
+  crate has claims.
+- Each edit stands in a claim, in one of its crate's two folders alone, and can be made: the text that it takes away stands in its file once.
+  The edits of must-fail/, which the gate tries, are few (`MOST_EDITS`, `MOST_CRATES`).
 
 A table whose first heading is `was` has names of old in its first column: these aren't looked for. `checks_itself` asks made-up pages, each
-with one wrong name, so that the check is known to fail.
+with one wrong name, and made-up edits, so that the check is known to fail.
 """
 import functools, glob, os, re, sys
 
@@ -25,6 +28,8 @@ BESIDE = re.compile(r"(%s),? \(([^()]+)\)" % LIST)
 WITHIN = re.compile(r"(%s) (?:in|of) `([^`]+)`" % LIST)
 CLAUSED = re.compile(r"`([\w:]+)`, clauses? (%s)" % LIST)
 CLAIMS = "| claim | clauses | tests | edits |"
+# Each edit of must-fail/ costs the gate a check, and each crate with such edits one more proof of it.
+MOST_EDITS, MOST_CRATES = 110, 22
 # Names of the toolchain, the systems' libraries and the formats, which stand in no file of the repository.
 FOREIGN = {"rt", "gcc", "malloc", "realloc"}
 
@@ -69,7 +74,7 @@ def paths_of(told, near=(), letters={}, folder=None):
     letter, _, rest = told.partition("/")
     told = letters[letter] + "/" + rest if rest and letter in letters else told
     told = re.sub(r"\bNAME\b", "*", told)
-    places = [TOP, CRATES] + [os.path.join(CRATES, crate, part) for crate in near for part in ("", "src", "specs", "proofs", "must-fail")]
+    places = [TOP, CRATES] + [os.path.join(CRATES, crate, part) for crate in near for part in ("", "src", "specs", "proofs", sources.GATE, sources.ASIDE)]
     if not near and "/" not in told:
         places += glob.glob(os.path.join(CRATES, "*", "src")) + [os.path.join(TOP, "docs"), os.path.join(TOP, "tests")]
     places += [os.path.join(TOP, folder)] if folder else []
@@ -302,6 +307,46 @@ def check_claims(text):
             yield "no claim of %s" % crate
 
 
+# The edits.
+
+def check_edits(gate, aside, claimed):
+    """What is wrong with the edits of must-fail/, those of edits/, and those that stand in claims, each as pairs of a crate and a name."""
+    for crate, name in sorted(gate & aside):
+        yield "edit `%s` of %s stands in both folders" % (name, crate)
+    for crate, name in sorted((gate | aside) - claimed):
+        yield "edit `%s` of %s stands in no claim" % (name, crate)
+    if len(gate) > MOST_EDITS:
+        yield "%d edits in must-fail/, at most %d" % (len(gate), MOST_EDITS)
+    if len({crate for crate, _ in gate}) > MOST_CRATES:
+        yield "%d crates with must-fail/, at most %d" % (len({crate for crate, _ in gate}), MOST_CRATES)
+
+
+def edits_in(folder):
+    return {(crate, name) for crate in sources.crates() for name in sources.edits_in(crate, folder)}
+
+
+def edits_claimed(text):
+    """The edits that stand in claims."""
+    named = [(crate, name) for _, crate, row in claims_of(text) for name, _ in items(row[-1]) or []]
+    return {(at or crate, edit) for crate, (at, _, edit) in ((crate, name.rpartition("/")) for crate, name in named)}
+
+
+def check_made(crate, text):
+    """What hinders an edit from being made: each text that it takes away stands once in its file."""
+    path, old, changed = None, None, {}
+    for line in text.split("\n"):
+        word, _, told = line.partition(" ")
+        if word == "file:":
+            path = os.path.join(CRATES, crate, told)
+        elif word == "old:":
+            old = told
+        elif word == "new:":
+            file = changed.get(path) or read(path) if os.path.isfile(path) else ""
+            if file.count(old) != 1:
+                yield "its text stands %d times in its file: %s" % (file.count(old), old.strip())
+            changed[path] = file.replace(old, told)
+
+
 # The pages.
 
 def findings():
@@ -309,6 +354,10 @@ def findings():
         text = read(os.path.join(TOP, page))
         for what in [*check_page(page, text), *(check_claims(text) if page == "docs/CLAIMS.md" else ())]:
             yield "%s: %s" % (page, what)
+    yield from check_edits(edits_in(sources.GATE), edits_in(sources.ASIDE), edits_claimed(read(os.path.join(TOP, "docs/CLAIMS.md"))))
+    for path in sources.tracked():
+        for what in check_made(path.split("/")[1], read(os.path.join(TOP, path))) if path.endswith(".edit") else ():
+            yield "%s: %s" % (path, what)
     for page in ("README.md", "docs/ARCHITECTURE.md", "docs/PROOFS.md"):
         for crate in sources.crates():
             if not re.search(r"^\|.*\b%s\b" % crate, read(os.path.join(TOP, page)), re.M):
@@ -337,6 +386,17 @@ WRONG_CLAIMS = (
     ("| x | `View::rows_are` | - | `no_such_edit` |", "no edit `no_such_edit` of db_store"),
     ("| x | the view | - | - |", "no claim with clauses, tests and edits"),
 )
+# (edits of must-fail/, of edits/, and of claims)
+ONE, MANY = {("db_store", "one")}, {("db_store", "edit_%d" % n) for n in range(MOST_EDITS + 1)}
+WRONG_EDITS = (
+    (ONE, ONE, ONE, "edit `one` of db_store stands in both folders"),
+    (ONE, set(), set(), "edit `one` of db_store stands in no claim"),
+    (set(), ONE, set(), "edit `one` of db_store stands in no claim"),
+    (MANY, set(), MANY, "%d edits in must-fail/, at most %d" % (MOST_EDITS + 1, MOST_EDITS)),
+    ({("crate_%d" % n, "one") for n in range(MOST_CRATES + 1)}, set(), {("crate_%d" % n, "one") for n in range(MOST_CRATES + 1)},
+     "%d crates with must-fail/, at most %d" % (MOST_CRATES + 1, MOST_CRATES)),
+)
+UNMADE = "file: src/work.rt\nold: no such text\nnew: a text\n"
 
 
 def checks_itself():
@@ -349,6 +409,11 @@ def checks_itself():
         yield expected, found == [expected], found
     found = list(check_claim("db_store", cells("| x | `Store::view`: `table`; `View::rows_are` | `changes_by_the_table` | `one_key_too_many` |")))
     yield "a claim that holds", found == [], found
+    for *edits, expected in WRONG_EDITS:
+        found = list(check_edits(*edits))
+        yield expected, found == [expected], found
+    found = list(check_made("db_store", UNMADE))
+    yield "an edit that can't be made", found == ["its text stands 0 times in its file: no such text"], found
 
 
 def main():

@@ -9,6 +9,7 @@ CLAUSE = re.compile(r"\s*(ensures|requires|durable|takes)\b\s*(\w*)")
 OWNER = re.compile(r"(?:pub(?:\([a-z]+\))? )?(impl|trait)\b(.*)")
 GHOST = re.compile(r"\s*ghost (\w+)\s*:")
 TEST = re.compile(r"#\[test\]\n(?:\s*#\[[^\n]*\n)*\s*(?:pub )?fn (\w+)")
+GATE, ASIDE = "must-fail", "edits"  # the folders of a crate's edits: those that the gate tries, and those that tests/edits tries
 
 
 @dataclass
@@ -104,6 +105,12 @@ def tests():
 
 
 @functools.cache
+def edits_in(crate, folder):
+    """The names of a crate's edits in one of its two folders."""
+    files = [path for path in tracked() if path.startswith("crates/%s/%s/" % (crate, folder)) and path.endswith(".edit")]
+    return {os.path.basename(path)[:-len(".edit")] for path in files}
+
+
 def edits(crate):
-    """The names of a crate's edits that must be refused."""
-    return {os.path.basename(path)[:-len(".edit")] for path in tracked() if path.startswith("crates/%s/must-fail/" % crate)}
+    """The names of all of a crate's edits: its contracts refuse each."""
+    return edits_in(crate, GATE) | edits_in(crate, ASIDE)
