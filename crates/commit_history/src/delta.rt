@@ -17,7 +17,7 @@ const WORD_BITS: u32 = 64;
 const FEW_WORDS: usize = 8;
 
 /// A word of a delta, which has the 64 places from 64 times `at` on.
-#[derive(Clone, Copy, Debug)]
+#[derive(Clone, Copy)]
 pub(crate) struct DeltaWord {
     pub(crate) at: u32,
     pub(crate) word: u64,
@@ -25,7 +25,7 @@ pub(crate) struct DeltaWord {
 
 /// A delta is a list of truth values: which places of a bitmap one commit changes. Only its words in
 /// which a value is true are kept, so a delta of two places is as small in a bitmap of any length.
-#[derive(Debug, Drop)]
+#[derive(Drop)]
 pub struct Delta {
     len: u32,
     words: Vec<DeltaWord>,

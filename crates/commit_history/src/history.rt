@@ -22,7 +22,7 @@ const RUN: usize = 16;
 /// ```
 ///
 /// So the bitmap after a commit is the exclusive or of at most 15 of each, and of all in `by_4096`.
-#[derive(Debug, Drop)]
+#[derive(Drop)]
 pub struct History {
     alloc: Global,
     deltas: Level,
@@ -43,7 +43,7 @@ impl Model for History {
 }
 
 /// A delta that can be pushed onto a history, with all that the push needs.
-#[derive(Debug, Drop)]
+#[derive(Drop)]
 pub struct NextDelta {
     delta: NextItem,
     by_16: Option<NextItem>,

@@ -9,7 +9,7 @@ use std::marker::Model;
 
 /// A level is a list of deltas. Its room follows from its length alone, so a push finds room in each
 /// level that is as long as the one that it was made ready in.
-#[derive(Debug, Drop)]
+#[derive(Drop)]
 pub(crate) struct Level {
     alloc: Global,
     items: Vec<Delta>,
@@ -28,7 +28,7 @@ impl Model for Level {
 }
 
 /// A delta that can be pushed onto a level of some length, with the memory that this takes.
-#[derive(Debug, Drop)]
+#[derive(Drop)]
 pub(crate) struct NextItem {
     delta: Delta,
     count: usize,

@@ -22,7 +22,7 @@ const IMPORTER: u32 = 1;
 
 /// What an import did: how many rows it inserted, and the position of the version of master that it
 /// made. Without rows it made none.
-#[derive(Clone, Copy, Debug, PartialEq, Eq)]
+#[derive(Clone, Copy)]
 pub struct Imported {
     pub rows: u32,
     pub position: Option<u32>,

@@ -5,7 +5,7 @@ use std::io::ErrorKind;
 use std::rt::Files;
 
 /// What a command does with a file.
-#[derive(Clone, Copy, Debug, PartialEq, Eq)]
+#[derive(Clone, Copy)]
 pub enum Access {
     /// It reads the file. Others may read it too.
     Read,

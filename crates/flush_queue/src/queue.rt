@@ -13,7 +13,7 @@ use std::marker::Model;
 const MOST_RECORD: usize = 16_777_253;
 
 /// A ticket is for an entry that was offered. It tells the number of its batch.
-#[derive(Clone, Copy, Debug, PartialEq, Eq)]
+#[derive(Clone, Copy)]
 pub struct Ticket {
     number: usize,
 }

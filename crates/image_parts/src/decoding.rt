@@ -8,7 +8,7 @@ use image_text::{Image, Stop, parts};
 use std::alloc::Global;
 
 /// Why there is no image.
-#[derive(Clone, Copy, Debug, PartialEq, Eq)]
+#[derive(Clone, Copy)]
 pub enum ImageStop {
     /// 1: the bytes aren't an image. The first item that breaks a rule begins here.
     NotAnImage { at: u64 },

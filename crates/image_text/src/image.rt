@@ -53,7 +53,7 @@ pub struct Image {
 }
 
 /// Why bytes aren't read on.
-#[derive(Clone, Copy, Debug, PartialEq, Eq)]
+#[derive(Clone, Copy)]
 pub enum Stop {
     /// An item breaks a rule: so many bytes are left from its first one on, and none where the
     /// bytes end too early.

@@ -15,7 +15,7 @@ pub const BLOCK: usize = 32;
 pub const BLOCKS: usize = 33;
 
 /// The locks by number, and for each block whether one of its locks may have a grant.
-#[derive(Debug, Drop)]
+#[derive(Drop)]
 pub struct Blocks {
     locks: Vec<Lock>,
     busy: Vec<bool>,

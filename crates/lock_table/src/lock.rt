@@ -8,14 +8,14 @@ use std::alloc::{AllocError, Global};
 use std::marker::Model;
 
 /// A session that has the lock, exclusively or shared.
-#[derive(Clone, Copy, Debug)]
+#[derive(Clone, Copy)]
 pub struct Grant {
     pub session: u32,
     pub exclusive: bool,
 }
 
 /// A lock is the grants given on it, in that order, and room for more.
-#[derive(Debug, Drop)]
+#[derive(Drop)]
 pub struct Lock {
     grants: Vec<Grant>,
 }

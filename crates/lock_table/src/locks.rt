@@ -13,7 +13,7 @@ use std::alloc::{AllocError, Global};
 use std::marker::Model;
 
 /// What a request is told.
-#[derive(Clone, Copy, Debug, PartialEq, Eq)]
+#[derive(Clone, Copy, PartialEq, Eq)]
 pub enum Ask {
     /// The session has all needs that it asked for.
     Granted,
@@ -23,7 +23,7 @@ pub enum Ask {
 
 /// A table of locks is the granted needs of each session, as rows, and the sessions admitted. It
 /// keeps the rows by lock, so a request looks at those of its own locks alone.
-#[derive(Debug, Drop)]
+#[derive(Drop)]
 pub struct Locks {
     locks: Blocks,
     admitted: Vec<u32>,

@@ -7,7 +7,7 @@ use std::marker::Model;
 pub const LOCKS: u32 = 1025;
 
 /// A need is a lock that a statement wants, for itself alone or shared with other sessions.
-#[derive(Clone, Copy, Debug, PartialEq, Eq)]
+#[derive(Clone, Copy)]
 pub struct Need {
     /// 0 is the catalogue, and `b + 1` the branch `b`.
     pub lock: u32,
@@ -16,7 +16,7 @@ pub struct Need {
 }
 
 /// The needs of one request, in any order.
-#[derive(Debug, Drop)]
+#[derive(Drop)]
 pub struct Needs {
     items: Vec<Need>,
 }

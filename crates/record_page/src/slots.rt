@@ -10,7 +10,7 @@ use db_value::Record;
 use std::alloc::{AllocError, Global};
 
 /// The page has as many records as it holds.
-#[derive(Clone, Copy, Debug, PartialEq, Eq)]
+#[derive(Clone, Copy)]
 pub struct PageFull;
 
 /// The bytes of a page without records.

@@ -22,7 +22,7 @@ use std::thread::Threads;
 use stmt_text::{Section, Sections};
 
 /// Why not all sections were run to their ends. The board has the lines that were.
-#[derive(Clone, Copy, Debug, PartialEq, Eq)]
+#[derive(Clone, Copy, PartialEq, Eq)]
 pub enum Unfinished {
     /// There was no memory for a line. The list has a beginning of each section.
     Memory,

@@ -10,7 +10,7 @@ use std::marker::Model;
 
 /// A graph of versions is a list of them, numbered from 0 in the order made, each with up to two
 /// parents that were made before it.
-#[derive(Debug, Drop)]
+#[derive(Drop)]
 pub struct Graph {
     versions: Vec<Parents>,
     spare: u32,

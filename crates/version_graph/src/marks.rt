@@ -8,14 +8,14 @@ use std::alloc::{AllocError, Global};
 use std::marker::Model;
 
 /// From which sides a version was reached.
-#[derive(Clone, Copy, Debug)]
+#[derive(Clone, Copy)]
 pub struct Mark {
     pub left: bool,
     pub right: bool,
 }
 
 /// The marks of the versions from `low` on.
-#[derive(Debug, Drop)]
+#[derive(Drop)]
 pub struct Marks {
     low: u32,
     marks: Vec<Mark>,

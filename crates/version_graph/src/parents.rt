@@ -3,7 +3,7 @@ ghost use Rattle.std.specs.Prelude.{◌≡◌, ◌≤◌, length};
 ghost use Rattle.version_graph.specs.Parents.{list_of};
 
 /// The versions that a version was made from, by number.
-#[derive(Clone, Copy, Debug)]
+#[derive(Clone, Copy)]
 pub enum Parents {
     Root,
     One(u32),
