@@ -1,14 +1,15 @@
 //! Changes of working tables, each with its answer.
 ghost use Rattle.std.specs.Prelude.{◌≡◌, ◌<◌, ℕ, length, IfOk};
 ghost use Rattle.db_store.specs.State.{dataset_of};
+ghost use Rattle.db_store.specs.Dataset.{IsMade};
 ghost use Rattle.db_store.specs.Overlay.{untouched};
 ghost use Rattle.db_store.specs.Adopt.{AreAdoptable};
 ghost use Rattle.db_store.specs.WorkState.{under_of, overlays_of};
 
-use crate::short::{head_place, two_fields};
 use anyhow::Result;
 use db_store::{Store, View, Work, WorkStop};
-use db_value::{Change, Changes, ListOf, Record, Set, Sets};
+use db_value::{Change, Changes, Fields, ListOf, Record, Schema, Set, Sets, VersionPlace};
+use plain_store::PlainStore;
 use std::alloc::{AllocError, Global};
 
 // One change of a working table.
@@ -17,6 +18,25 @@ enum Step {
     Insert(u64),
     Update(u64),
     Delete(u64),
+}
+
+// Fields of two columns.
+fn two_fields(first: i64, second: i64) -> Fields {
+    match Fields::of(&[first, second]) {
+        Some(fields) => fields,
+        None => unreachable!(),
+    }
+}
+
+// The last version of the first branch.
+fn head_place<St: Store>(store: &St) -> VersionPlace
+    requires { 0 < length (dataset_of (St.state store.now)).branches }
+    ensures { IsMade (dataset_of (St.state store.now)) result }
+{
+    VersionPlace {
+        branch: 0,
+        position: store.last(0),
+    }
 }
 
 // New values of one column.
@@ -109,8 +129,7 @@ fn tell_answers<R: Print>(rt: &R, answers: &[Result<(), WorkStop>; 12]) -> Resul
     Ok(())
 }
 
-/// Makes working tables, writes `begun`, changes them, and then writes the answers.
-pub fn tell_changes<St: Store, R: Print + AllocGlobal>(rt: &R, store: &St) -> Result<()> {
+fn tell_changes<St: Store, R: Print + AllocGlobal>(rt: &R, store: &St) -> Result<()> {
     if store.branches() == 0 || store.schema().relations().is_empty() {
         return Ok(());
     }
@@ -123,4 +142,12 @@ pub fn tell_changes<St: Store, R: Print + AllocGlobal>(rt: &R, store: &St) -> Re
     println!(rt; "begun")?;
     let answers = answers_of(&mut work, &mut merged, &mut crowded, &sets, &changes);
     tell_answers(rt, &answers)
+}
+
+/// Makes working tables, writes `begun`, changes them, and then writes an answer a line: what takes memory
+/// between `begun` and `done` is a change.
+pub fn try_changes<R: Print + AllocGlobal>(rt: &R) -> Result<()> {
+    let (schema, _) = Schema::read(rt.alloc(), b"relation items a b\nend\n".as_slice())?;
+    let store = PlainStore::new(rt.alloc(), schema)?;
+    tell_changes(rt, &store)
 }

@@ -1,16 +1,12 @@
-//! A script on a new dataset in memory, over whole tables: what `decibel try` does over segments. Tests
-//! compare the two.
-#![tactic(auto)]
+//! A script on a new dataset in memory, over whole tables: what `decibel try` does over segments.
 
 use db_core::Core;
 use db_outside::{Sink, Source};
-use db_realdev::{RealSink, RealSource};
 use db_value::Schema;
 use entry_codec::NoLog;
 use plain_store::PlainStore;
 use script_run::{read_all, run_script};
 use std::alloc::{AllocError, Global};
-use std::process::ExitCode;
 
 // A core over a new dataset in memory.
 fn new_core(alloc: Global, schema: Schema) -> Result<Core<PlainStore, NoLog>, AllocError> {
@@ -21,8 +17,8 @@ fn new_core(alloc: Global, schema: Schema) -> Result<Core<PlainStore, NoLog>, Al
     }
 }
 
-// Runs an input's schema and script. Were they run to the end?
-fn tried<S: Source, K: Sink>(alloc: Global, source: &mut S, sink: &mut K) -> bool {
+/// Runs an input's schema and script. Were they run to the end?
+pub fn try_plain<S: Source, K: Sink>(alloc: Global, source: &mut S, sink: &mut K) -> bool {
     let Ok(input) = read_all(alloc, source) else {
         return false;
     };
@@ -33,14 +29,4 @@ fn tried<S: Source, K: Sink>(alloc: Global, source: &mut S, sink: &mut K) -> boo
         return false;
     };
     run_script(&mut core, &input[taken..], sink).is_ok()
-}
-
-fn main(rt: HostRuntime) -> ExitCode {
-    let mut source = RealSource::new(rt.stdin());
-    let mut sink = RealSink::new(rt.stdout());
-    if tried(rt.alloc(), &mut source, &mut sink) {
-        ExitCode::from(0)
-    } else {
-        ExitCode::from(1)
-    }
 }

@@ -2,7 +2,7 @@ use Rattle.std.proofs.Common.{◌≡◌, ◌∙◌, ◌&&◌, ◌++◌, ◌∷�
 use Rattle.std.proofs.lemmas.Bool.{lt-ltb}
 use Rattle.db_value.specs.declared.entry.Change.{Change}
 use Rattle.db_store.specs.Adopt.{AreAdoptable}
-use Rattle.room_bench.proofs.changes.two_changes.Goals as goal
+use Rattle.tries.proofs.changes.two_changes.Goals as goal
 
 pub returns : goal.returns
 returns c = λ n h.
