@@ -1,10 +1,10 @@
 //! Batches of one body, which have its digest, and the digest alone.
-ghost use Rattle.std.specs.Prelude.{◌≡◌, [], length, IfOk};
+ghost use Rattle.std.specs.Prelude.{◌≡◌, IfOk};
 
 use crate::row::{Kind, Row};
 use crate::timing::{Round, time};
 use anyhow::Result;
-use db_outside::{Batch, BatchStop};
+use db_outside::Batch;
 use sha2::{Digest, Sha256};
 use std::alloc::{AllocError, Global};
 use std::rt::Clock;

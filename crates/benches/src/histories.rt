@@ -1,5 +1,4 @@
 //! The calls of a history, of so many deltas over a bitmap of 262,144 places.
-ghost use Rattle.std.specs.Prelude.{◌≡◌, ◌+◌, ◌<◌, ◌∷◌, [], length, OnOk, IfOk};
 
 use crate::row::Row;
 use crate::timing::{Round, Timing, time};
