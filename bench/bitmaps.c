@@ -1,11 +1,11 @@
-// What `structures_bench` times of bitmaps, as plain loops over words: prints the same lines, with the same sums.
+// What `benches` times of bitmaps, as plain loops over words: prints the same lines, with the same sums.
 #include <inttypes.h>
 #include <stdint.h>
 #include <stdio.h>
 #include <stdlib.h>
 #include <time.h>
 
-enum { SIZE = 262144, WORDS = SIZE / 64, CALLS = 1000, ROUNDS = 25 };
+enum { SIZE = 262144, WORDS = SIZE / 64, CALLS = 1000 };
 
 // Tells the compiler that memory may have changed, so that no call is left out or moved out of its loop.
 #define BARRIER __asm__ volatile("" ::: "memory")
@@ -27,16 +27,6 @@ static KERNEL uint64_t count_words(const uint64_t *words, size_t n) {
     uint64_t total = 0;
     for (size_t i = 0; i < n; i++) total += (uint64_t)__builtin_popcountll(words[i]);
     return total;
-}
-
-static KERNEL int64_t next_one(const uint64_t *words, size_t n, uint64_t from) {
-    size_t place = from / 64;
-    if (place >= n) return -1;
-    uint64_t word = words[place] >> (from % 64);
-    if (word) return (int64_t)(from + (uint64_t)__builtin_ctzll(word));
-    for (place++; place < n; place++)
-        if (words[place]) return (int64_t)(place * 64 + (uint64_t)__builtin_ctzll(words[place]));
-    return -1;
 }
 
 static uint64_t now(void) {
@@ -66,9 +56,10 @@ static void tell(const char *work, uint64_t nanoseconds, uint64_t sum) {
            tenths / 10, tenths % 10, sum);
 }
 
-static void time_gate(const char *work, void (*gate)(const uint64_t *, uint64_t *, size_t), const uint64_t *from, uint64_t *into) {
-    uint64_t best = UINT64_MAX, sum = 0;
-    for (int round = 0; round < ROUNDS; round++) {
+// Each work begins with the same two bitmaps.
+static void time_gate(const char *work, void (*gate)(const uint64_t *, uint64_t *, size_t), const uint64_t *from, int rounds) {
+    uint64_t best = UINT64_MAX, sum = 0, *into = filled(1234567u);
+    for (int round = 0; round < rounds; round++) {
         uint64_t start = now();
         for (int call = 0; call < CALLS; call++) {
             gate(from, into, WORDS);
@@ -80,16 +71,15 @@ static void time_gate(const char *work, void (*gate)(const uint64_t *, uint64_t 
     tell(work, best, sum);
 }
 
-int main(void) {
+int main(int words, char **word) {
+    int rounds = words > 1 ? atoi(word[1]) : 1;
     const uint64_t *from = filled(2463534242u);
-    uint64_t *into = filled(1234567u), *empty = calloc(WORDS, 8);
-    if (!empty) return 1;
-    time_gate("xor_into", xor_words, from, into);
-    time_gate("and", and_words, from, into);
-    time_gate("or", or_words, from, into);
+    time_gate("xor_into", xor_words, from, rounds);
+    time_gate("and", and_words, from, rounds);
+    time_gate("or", or_words, from, rounds);
 
-    uint64_t best = UINT64_MAX, sum = 0;
-    for (int round = 0; round < ROUNDS; round++) {
+    uint64_t *into = filled(1234567u), best = UINT64_MAX, sum = 0;
+    for (int round = 0; round < rounds; round++) {
         uint64_t start = now();
         for (int call = 0; call < CALLS; call++) {
             into[call % SIZE / 64] |= (uint64_t)1 << (call % SIZE % 64);
@@ -97,18 +87,8 @@ int main(void) {
             BARRIER;
         }
         best = least(best, now() - start);
+        sum += count_words(into, WORDS);
     }
     tell("count", best, sum);
-
-    best = UINT64_MAX, sum = 0;
-    for (int round = 0; round < ROUNDS; round++) {
-        uint64_t start = now();
-        for (int call = 0; call < CALLS; call++) {
-            sum += next_one(empty, WORDS, (uint64_t)call % 64) < 0;
-            BARRIER;
-        }
-        best = least(best, now() - start);
-    }
-    tell("next_one", best, sum);
     return 0;
 }

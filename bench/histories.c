@@ -1,11 +1,11 @@
-// What `structures_bench` times of histories, over a plain list of places: prints the same lines, with the same sums.
+// What `benches` times of histories, over a plain list of places: prints the same lines, with the same sums.
 #include <inttypes.h>
 #include <stdint.h>
 #include <stdio.h>
 #include <stdlib.h>
 #include <time.h>
 
-enum { PLACES = 262144, WORDS = PLACES / 64, SIZE = 10000, CALLS = 16, ROUNDS = 25 };
+enum { PLACES = 262144, WORDS = PLACES / 64, SIZE = 10000, CALLS = 16 };
 
 // Tells the compiler that memory may have changed, so that no call is left out or moved out of its loop.
 #define BARRIER __asm__ volatile("" ::: "memory")
@@ -60,9 +60,10 @@ static void tell(const char *work, uint64_t nanoseconds, uint64_t calls, uint64_
            what);
 }
 
-int main(void) {
+int main(int words, char **word) {
+    int rounds = words > 1 ? atoi(word[1]) : 1;
     uint64_t pushes = UINT64_MAX, ats = UINT64_MAX, pushed = 0, seen = 0;
-    for (int round = 0; round < ROUNDS; round++) {
+    for (int round = 0; round < rounds; round++) {
         history h = {0};
         uint32_t x = 2463534242u;
         uint64_t start = now();
@@ -72,7 +73,7 @@ int main(void) {
             push(&h, left % PLACES, x % PLACES);
         }
         pushes = least(pushes, now() - start);
-        pushed += count_at_end(&h);
+        pushed += h.len / 2;
 
         start = now();
         for (int call = 0; call < CALLS; call++) seen += count_at_end(&h);

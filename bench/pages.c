@@ -1,4 +1,4 @@
-// What `structures_bench` times of pages and segments: prints the same lines, with the same sums.
+// What `benches` times of pages and segments: prints the same lines, with the same sums.
 #include <inttypes.h>
 #include <stdint.h>
 #include <stdio.h>
@@ -6,7 +6,7 @@
 #include <string.h>
 #include <time.h>
 
-enum { PAGE = 4096, HEAD = 16, RECORDS = 262144, PASSES = 1000, LONGER = 256, ROUNDS = 25 };
+enum { PAGE = 4096, HEAD = 16, RECORDS = 262144, PASSES = 1000, LONGER = 256 };
 
 // Tells the compiler that memory may have changed, so that no call is left out or moved out of its loop.
 #define BARRIER __asm__ volatile("" ::: "memory")
@@ -44,8 +44,6 @@ static KERNEL uint64_t sum_of(const uint8_t *page, size_t fields, size_t count, 
     return sum;
 }
 
-static KERNEL void copy_page(const uint8_t *page, uint8_t *into) { memcpy(into, page, PAGE); }
-
 static uint64_t now(void) {
     struct timespec t;
     clock_gettime(CLOCK_MONOTONIC, &t);
@@ -59,58 +57,35 @@ static void tell(const char *work, int size, uint64_t nanoseconds, uint64_t call
     printf("%s %d records: %" PRIu64 ".%" PRIu64 " ns a call, sum %" PRIu64 ", %s\n", work, size, tenths / 10, tenths % 10, sum, what);
 }
 
-static void time_page(const char *work, int fields) {
+static void time_page(const char *work, int fields, int rounds) {
     int count = capacity(fields);
-    uint8_t *page = filled(fields, 0, count), copy[PAGE];
-    uint64_t best = UINT64_MAX, whole = UINT64_MAX, total = 0;
+    uint8_t *page = filled(fields, 0, count);
+    uint64_t best = UINT64_MAX, total = 0;
     row into = {0};
-    for (int round = 0; round < ROUNDS; round++) {
+    for (int round = 0; round < rounds; round++) {
         uint64_t start = now();
         for (int pass = 0; pass < PASSES; pass++) {
             total += sum_of(page, (size_t)fields, (size_t)count, &into);
             BARRIER;
         }
         best = least(best, now() - start);
-
-        start = now();
-        for (int pass = 0; pass < PASSES; pass++) {
-            copy_page(page, copy);
-            BARRIER;
-        }
-        whole = least(whole, now() - start);
     }
     tell(work, count, best, PASSES, total, "a copy of the bytes of each record in C");
-    fprintf(stderr, "a memcpy of the whole page: %" PRIu64 " ns\n", whole / PASSES);
     free(page);
 }
 
-typedef struct { uint64_t key; uint32_t slot; } keyed;
-
-// The last slot with a key, by a binary search.
-static KERNEL uint32_t last_of(const keyed *all, size_t count, uint64_t key) {
-    size_t from = 0;
-    while (count > 1) {
-        size_t half = count / 2;
-        if (all[from + half].key <= key) from += half;
-        count -= half;
-    }
-    return all[from].slot;
-}
-
-int main(void) {
-    time_page("record_page read 2 fields", 2);
-    time_page("record_page read 15 fields", 15);
+int main(int words, char **word) {
+    int rounds = words > 1 ? atoi(word[1]) : 1;
+    time_page("record_page read 2 fields", 2, rounds);
+    time_page("record_page read 15 fields", 15, rounds);
 
     int fields = 2, most = capacity(fields), pages = (RECORDS + most - 1) / most;
     uint8_t **links = malloc((size_t)pages * sizeof *links);
     row into = {0};
     if (!links) return 1;
     for (int at = 0; at < pages; at++) links[at] = filled(fields, (uint64_t)at * (uint64_t)most, at + 1 < pages ? most : RECORDS - at * most);
-    keyed *all = malloc(RECORDS * sizeof *all);
-    if (!all) return 1;
-    for (uint32_t slot = 0; slot < RECORDS; slot++) all[slot] = (keyed){slot, slot};
-    uint64_t read = UINT64_MAX, longer = UINT64_MAX, found = UINT64_MAX, sums = 0, lengths = 0, slots = 0;
-    for (int round = 0; round < ROUNDS; round++) {
+    uint64_t read = UINT64_MAX, longer = UINT64_MAX, sums = 0, lengths = 0;
+    for (int round = 0; round < rounds; round++) {
         uint64_t start = now();
         for (int at = 0; at < pages; at++) {
             sums += sum_of(links[at], (size_t)fields, (size_t)(at + 1 < pages ? most : RECORDS - at * most), &into);
@@ -132,13 +107,8 @@ int main(void) {
             free(more);
         }
         longer = least(longer, now() - start);
-
-        start = now();
-        for (uint64_t turn = 0; turn < RECORDS; turn++) slots += last_of(all, RECORDS, turn * 2654435761u % RECORDS);
-        found = least(found, now() - start);
     }
     tell("segment read", RECORDS, read, RECORDS, sums, "the same over a list of pages");
     tell("segment extended", RECORDS, longer, LONGER, lengths, "a copy of a list of plain pointers and of the last page");
-    tell("segment last", RECORDS, found, RECORDS, slots, "a binary search in a sorted list of keys with their slots");
     return 0;
 }

@@ -1,9 +1,0 @@
-use Rattle.std.proofs.Common.{◌≡◌, length}
-use Rattle.segment.specs.Pages.{AreWide}
-use Rattle.structures_bench.proofs.pages.rows_of.Given as goal
-
-abbrev pub invariant-loop-key : goal.invariant-loop-key
-invariant-loop-key l = record {
-  count : length l.rows.items ≡ l.key;
-  wide : AreWide l.fields l.rows.items;
-}
