@@ -2,7 +2,7 @@
 
 What the files have is compared with what tests/files.py reads and writes by docs/FORMATS.md alone. A new dataset is made anew for each check.
 """
-import os, random, re, subprocess, tempfile, time
+import fcntl, os, random, re, struct, subprocess, tempfile, time
 
 import files, images, model, random_scripts, worked
 
@@ -60,6 +60,15 @@ def new_ones(base):
     yield "the files stay", (base.read(0), base.read(1)), (files.new_file(RELATIONS), b"")
     yield "check of a new dataset", base.run("check"), (0, b"ok generation 1 branches 1 versions 1 entries 0\n", b"")
     yield "a script of no line", base.run("script"), (0, b"", b"")
+
+
+def over_others(base):
+    """`create` over files that aren't empty, whatever stands there: they stay."""
+    for first, second in ((b"x", b""), (b"", b"x"), (b"x", b"x")):
+        base.write(0, first)
+        base.write(1, second)
+        yield "create over %r and %r" % (first, second), base.run("create", SCHEMA), (10, b"", b"decibel: already there\n")
+        yield "they stay, %r and %r" % (first, second), (base.read(0), base.read(1)), (first, second)
 
 
 def bad_schemas(base):
@@ -144,6 +153,75 @@ def one_insert(base):
         yield name + ": the file stays", base.read(0), data
 
 
+def two_bodies(base):
+    """A file of two records. Each of these entries puts the record 1 1 under the key 1 or 2, and the unfit one is of a branch that isn't there."""
+    one, two, unfit = (files.commit(branch, [(0, key, (1, 1))]) for branch, key in ((0, 1), (0, 2), (9, 1)))
+    image = files.image_of(RELATIONS)
+    for name, generation, its_image, first, second, line in (
+        ("two entries", 1, image, one, two, b"ok generation 1 branches 1 versions 3 entries 2\n"),
+        ("both of them in each record", 1, image, one + two, one + two, b"ok generation 1 branches 1 versions 5 entries 4\n"),
+        ("the last generation", 2**63, image, one, two, b"ok generation 9223372036854775808 branches 1 versions 3 entries 2\n"),
+        ("one past the last generation", 2**63 + 1, image, one, two, b"damaged file 0 at 9 grammar\n"),
+        ("no image", 1, b"", one, two, b"damaged file 0 at 57 grammar\n"),
+        ("an image without its last byte", 1, image[:-1], one, two, b"damaged file 0 at 123 grammar\n"),
+        ("half an entry in the first body", 1, image, one[:-1], two, b"damaged file 0 at 124 grammar\n"),
+        ("half an entry in the second body", 1, image, one, two[:-1], b"damaged file 0 at 197 grammar\n"),
+        ("an empty body", 1, image, one, b"", b"damaged file 0 at 197 length\n"),
+        ("an unfit entry in front of half an entry", 1, image, unfit, two[:-1], b"damaged file 0 at 124 entry\n"),
+        ("an unfit entry behind one that fits", 1, image, one + unfit, two, b"damaged file 0 at 124 entry\n"),
+    ):
+        base.write(0, files.header(generation, its_image) + files.record(first) + files.record(second) + b"\0")
+        found = base.run("check")
+        yield name, (found[0], found[1]), (4 if line.startswith(b"damaged") else 0, line)
+        yield name + ", by its bytes", base.told(), found
+
+
+def generations(base):
+    """Two files with headers: the greater generation counts, and file 0 if they are equal. File 0 has one entry here, and file 1 two."""
+    one, two = (files.record(files.commit(0, [(0, key, (1, 1))])) for key in (1, 2))
+    image = files.image_of(RELATIONS)
+    last = 2**63
+    for first, second, line in (
+        (1, 1, b"ok generation 1 branches 1 versions 2 entries 1\n"), (2, 1, b"ok generation 2 branches 1 versions 2 entries 1\n"),
+        (1, 2, b"ok generation 2 branches 1 versions 3 entries 2\n"), (5, 3, b"ok generation 5 branches 1 versions 2 entries 1\n"),
+        (last - 1, last, b"ok generation 9223372036854775808 branches 1 versions 3 entries 2\n"), (3, None, b"ok generation 3 branches 1 versions 2 entries 1\n"),
+        (None, 3, b"ok generation 3 branches 1 versions 3 entries 2\n"),
+    ):
+        base.write(0, b"no header" if first is None else files.header(first, image) + one + b"\0")
+        base.write(1, b"" if second is None else files.header(second, image) + one + two + b"\0")
+        yield "the generations %s and %s" % (first, second), base.run("check"), (0, line, b"")
+
+
+def in_use(base):
+    """Who reads shares the files, and who writes has them alone: another one's lock, on either file, is a fault at once."""
+    base.made(b"1 insert items 1 1 1\n")
+    first, fault = base.read(0), (7, b"", b"decibel: disk fault\n")
+    for file in (0, 1):
+        with open(base.path(file)) as f:
+            for kind, name, reads in ((fcntl.LOCK_SH, "reads", True), (fcntl.LOCK_EX, "writes", False)):
+                fcntl.flock(f, kind)
+                yield "check beside one that %s file %d" % (name, file), base.run("check"), (0, b"ok generation 1 branches 1 versions 2 entries 1\n", b"") if reads else fault
+                yield "export beside one that %s file %d" % (name, file), base.run("export", b"", ("items", "master")), (0, b"1,1,1\n", b"") if reads else fault
+                yield "script beside one that %s file %d" % (name, file), base.run("script", b"1 insert items 2 2 2\n"), fault
+    yield "the files that were in use stay", (base.read(0), base.read(1)), (first, b"")
+    yield "script on files that were in use", base.run("script", b"1 get items 1\n"), (0, answered((b"1 get items 1", b"row 1 1 1")), b"")
+
+
+def image_by_hand():
+    """The image of `insert items 1 1 1` on a new dataset, number by number as docs/FORMATS.md has them."""
+    parts = (
+        b"\x01\x05items\x02\x01a\x01b",  # one relation with two columns
+        struct.pack("<I", 1) + b"\x06master" + struct.pack("<II", 0, 0),  # one branch
+        struct.pack("<II", 1, 0) + b"\0",  # one version, on master, with one parent
+        struct.pack("<III", 1, 1, 1),  # one segment, the head of the first branch, with one record
+        struct.pack("<HB13xQqq", 1, 2, 1, 1, 1) + bytes(4096 - 16 - 24),  # its page
+        struct.pack("<III", 1, 0, 0),  # one row, of master, from position 0 on
+        struct.pack("<II", 0, 0),  # no change at position 0
+        struct.pack("<IIQ", 0, 1, 1),  # slot 0 at position 1
+    )
+    return b"".join(parts)
+
+
 def again(base):
     """A script goes on where the last one ended, with files that are swapped too."""
     base.made(b"1 insert items 1 1 1\n1 branch dev of master\n1 begin\n1 insert items 9 9 9\n")
@@ -168,6 +246,7 @@ def checkpoints(base):
     yield "a checkpoint", base.run("script", b"1 checkpoint\n1 insert items 2 2 2\n"), (0, answered((b"1 checkpoint", b"ok"), (b"1 insert items 2 2 2", b"ok master@2")), b"")
     record = files.record(files.commit(0, [(0, 2, (2, 2))]))
     yield "its files", (base.read(0), base.read(1)), (first, files.header(2, image) + record + b"\0")
+    yield "its image, by hand", files.image_in(base.read(1)), image_by_hand()
     yield "check of a checkpoint", base.run("check"), (0, b"ok generation 2 branches 1 versions 3 entries 1\n", b"")
     yield "export of a checkpoint", base.run("export", b"", ("items", "master")), (0, b"1,1,1\n2,2,2\n", b"")
     small.line(b"1 insert items 2 2 2")
@@ -389,7 +468,7 @@ def examples(base, folder):
 
 def checks(program, top):
     """Names with what was found and what should be."""
-    for part in (new_ones, bad_schemas, last_comments, stored, exported, empty_ones, one_insert, again, checkpoints, last_generation, layouts, not_there, closed_streams, full_disk, no_permission, killed, killed_at_checkpoints, examples):
+    for part in (new_ones, over_others, bad_schemas, last_comments, stored, exported, empty_ones, one_insert, two_bodies, generations, in_use, again, checkpoints, last_generation, layouts, not_there, closed_streams, full_disk, no_permission, killed, killed_at_checkpoints, examples):
         with tempfile.TemporaryDirectory() as folder:
             base = Base(program, folder)
             yield from part(base, os.path.join(top, "examples")) if part is examples else part(base)

@@ -96,6 +96,31 @@ def three(base):
     yield "check of three sessions", base.run("check"), base.told()
 
 
+def told_by_session(written):
+    """Each session's lines with their replies of one line, in order. A line of no session is of session 0."""
+    found = {}
+    for line, reply in zip(written.split(b"\n")[0:-1:2], written.split(b"\n")[1::2]):
+        found.setdefault(session_of(line[2:]), []).append((line[2:], reply))
+    return found
+
+
+def beside(base):
+    """Sections beside each other, in whatever order their lines come. Of two open transactions the one that no line ends is aborted; and each of three sections makes a version."""
+    base.made()
+    status, written, said = base.run("sessions", b"1 begin\n2 begin\n1 get items 1\n2 get items 1\n2 commit\n")
+    yield "two sections, of which one ends its transaction", (status, told_by_session(written), said), (0, {
+        1: [(b"1 begin", b"ok"), (b"1 get items 1", b"none"), (b"1 abort", b"ok")],
+        2: [(b"2 begin", b"ok"), (b"2 get items 1", b"none"), (b"2 commit", b"ok")]}, b"")
+    status, written, said = base.run("sessions", b"3 insert items 3 3 3\n1 insert items 1 1 1\n2 insert items 2 2 2\nnonsense\n")
+    found = told_by_session(written)
+    yield "the lines of three sections and a bad one", (status, {session: [line for line, _ in lines] for session, lines in found.items()}, said), (0, {
+        0: [b"nonsense"], 1: [b"1 insert items 1 1 1"], 2: [b"2 insert items 2 2 2"], 3: [b"3 insert items 3 3 3"]}, b"")
+    yield "each of three sections makes a version", sorted(reply for lines in found.values() for _, reply in lines), [
+        b"ok master@1", b"ok master@2", b"ok master@3", b"refused 1 bad line"]
+    yield "check of the three sections", base.run("check"), (0, b"ok generation 1 branches 1 versions 4 entries 3\n", b"")
+    yield "the rows of the three sections", base.run("script", b"1 scan items\n"), (0, on_files.answered((b"1 scan items", b"row 1 1 1\nrow 2 2 2\nrow 3 3 3\nrows 3")), b"")
+
+
 def one_script(base, other, given):
     """What is wrong with a script whose sessions run on threads, in words, and how many lines changed their places."""
     schema, end, script = given.partition(b"\nend\n")
@@ -228,6 +253,6 @@ def checks(program):
         if on_files.Base(program, folder).run("sessions")[0] == 2:
             print("tests/run: the program has no `sessions` yet, so nobody ran sessions on threads")
             return
-    for part in (alone, three, at_random, at_length, killed):
+    for part in (alone, three, beside, at_random, at_length, killed):
         with tempfile.TemporaryDirectory() as folder:
             yield from part(on_files.Base(program, folder))

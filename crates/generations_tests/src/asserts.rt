@@ -12,3 +12,8 @@ pub fn holds(rt: &impl Abort, name: &str, is_so: bool) {
 pub fn holds_at(rt: &impl Abort, name: &str, number: u64, is_so: bool) {
     assert!(rt; is_so, "{name}, {number}");
 }
+
+/// The same at a call of each of two disks.
+pub fn holds_at_calls(rt: &impl Abort, name: &str, first: u64, second: u64, is_so: bool) {
+    assert!(rt; is_so, "{name}, {first} and {second}");
+}

@@ -1,165 +1,350 @@
-//! A crash at each call of making a dataset and of two appends. The expected counts are written by
-//! hand.
-use crate::asserts::{holds, holds_at};
-use crate::files::{BOTH, ONE, TWO, Told, appends, batch_of, created, opened};
+//! A crash at each call of making a dataset, of appends and of checkpoints, and after calls that
+//! failed. What is left was worked out by hand.
+use crate::asserts::{holds, holds_at_calls};
+use crate::files::{BOTH, ONE, TWO, batch_of, created, file_to, stored};
 use db_memdev::{Fill, MemDisk};
-use generations::{Dataset, OpenStop, Pair};
+use db_store::Store;
+use entry_codec::Log;
+use generations::{Dataset, DatasetStore, OpenStop, Pair, reopen};
 use std::alloc::Global;
 use std::process::Abort;
 use std::test::Fail;
 
-// How many entries a crash at a call leaves. Two empty files hold no dataset.
-fn left(alloc: Global, disk: &MemDisk, call: u64, fill: Fill) -> Option<Result<Told, OpenStop>> {
-    let Ok(stopped) = disk.stop(call, fill) else {
-        return None;
-    };
-    opened(alloc, stopped.bytes(), b"")
+/// What opening tells: the generation, the file that counts, the place of its first closed gate, how
+/// many entries were read, and the last version of master.
+type Told = (u64, u8, u64, u64, u32);
+
+/// A call of the log.
+enum Call {
+    /// A batch of this body.
+    Append(&'static [u8]),
+    /// The image of the store of the file with the records in front of this place.
+    Checkpoint(usize),
 }
 
-// What opening tells of so many entries, of 36 bytes each.
-fn told(entries: Option<u32>) -> Option<Result<Told, OpenStop>> {
-    match entries {
-        None => Some(Err(OpenStop::NotDataset)),
-        Some(0) => Some(Ok((124, 0, 0, 0))),
-        Some(1) => Some(Ok((197, 1, 0, 1))),
-        Some(_) => Some(Ok((270, 2, 0, 2))),
+/// The calls of both disks at a crash, and what is left if pending ranges are as the last sync left
+/// them, if they are as written, and if each of their bytes is 1, which opens a gate. None is no dataset.
+struct Crash {
+    first: u64,
+    second: u64,
+    old: Option<Told>,
+    new: Option<Told>,
+    ones: Option<Told>,
+}
+
+/// A new dataset on disks of which these calls fail, the calls of the log with whether each succeeds,
+/// where the dataset is then (its generation, the file that counts, and the place of its gate), how
+/// often its disks failed, and crashes.
+struct Run {
+    name: &'static str,
+    first: &'static [u64],
+    second: &'static [u64],
+    calls: &'static [(Call, bool)],
+    at: (u64, u8, u64),
+    faults: u64,
+    crashes: &'static [Crash],
+}
+
+// No dataset; a new one; one with `ONE`, with `TWO` behind it, and with `BOTH` alone.
+const NO: Option<Told> = None;
+
+const NEW: Option<Told> = Some((1, 0, 124, 0, 0));
+
+const WITH_ONE: Option<Told> = Some((1, 0, 197, 1, 1));
+
+const WITH_TWO: Option<Told> = Some((1, 0, 270, 2, 2));
+
+const WITH_BOTH: Option<Told> = Some((1, 0, 233, 2, 2));
+
+// The images of a dataset after one entry, after two of them, and after these and `BOTH`; and the second of
+// them with the record of `BOTH` behind it.
+const AT_ONE: Option<Told> = Some((2, 1, 4241, 0, 1));
+
+const AT_TWO: Option<Told> = Some((2, 1, 4262, 0, 2));
+
+const AT_TWO_BOTH: Option<Told> = Some((2, 1, 4371, 2, 4));
+
+const AT_FOUR: Option<Told> = Some((3, 0, 4304, 0, 4));
+
+// An append is the write of a record, a sync, the opening of its gate, and a sync. A checkpoint closes
+// the other file's gate and syncs, and then it is the same with an image.
+#[rattlefmt::skip]
+const WHOLE: Run = Run {
+    name: "no call fails",
+    first: &[],
+    second: &[],
+    calls: &[(Call::Append(&ONE), true), (Call::Append(&TWO), true), (Call::Checkpoint(270), true), (Call::Append(&BOTH), true), (Call::Checkpoint(379), true)],
+    at: (3, 0, 4304),
+    faults: 0,
+    crashes: &[
+        Crash { first: 0,  second: 0,  old: NO,          new: NO,          ones: NO },
+        Crash { first: 1,  second: 1,  old: NO,          new: NO,          ones: NO },
+        Crash { first: 2,  second: 2,  old: NO,          new: NO,          ones: NO },
+        Crash { first: 3,  second: 2,  old: NO,          new: NO,          ones: NO },
+        Crash { first: 4,  second: 2,  old: NO,          new: NO,          ones: NO },
+        Crash { first: 5,  second: 2,  old: NO,          new: NEW,         ones: NEW },
+        Crash { first: 6,  second: 2,  old: NEW,         new: NEW,         ones: NEW },
+        Crash { first: 7,  second: 2,  old: NEW,         new: NEW,         ones: NEW },
+        Crash { first: 8,  second: 2,  old: NEW,         new: NEW,         ones: NEW },
+        Crash { first: 9,  second: 2,  old: NEW,         new: WITH_ONE,    ones: WITH_ONE },
+        Crash { first: 10, second: 2,  old: WITH_ONE,    new: WITH_ONE,    ones: WITH_ONE },
+        Crash { first: 11, second: 2,  old: WITH_ONE,    new: WITH_ONE,    ones: WITH_ONE },
+        Crash { first: 12, second: 2,  old: WITH_ONE,    new: WITH_ONE,    ones: WITH_ONE },
+        Crash { first: 13, second: 2,  old: WITH_ONE,    new: WITH_TWO,    ones: WITH_TWO },
+        Crash { first: 14, second: 2,  old: WITH_TWO,    new: WITH_TWO,    ones: WITH_TWO },
+        Crash { first: 14, second: 3,  old: WITH_TWO,    new: WITH_TWO,    ones: WITH_TWO },
+        Crash { first: 14, second: 4,  old: WITH_TWO,    new: WITH_TWO,    ones: WITH_TWO },
+        Crash { first: 14, second: 5,  old: WITH_TWO,    new: WITH_TWO,    ones: WITH_TWO },
+        Crash { first: 14, second: 6,  old: WITH_TWO,    new: WITH_TWO,    ones: WITH_TWO },
+        Crash { first: 14, second: 7,  old: WITH_TWO,    new: AT_TWO,      ones: AT_TWO },
+        Crash { first: 14, second: 8,  old: AT_TWO,      new: AT_TWO,      ones: AT_TWO },
+        Crash { first: 14, second: 9,  old: AT_TWO,      new: AT_TWO,      ones: AT_TWO },
+        Crash { first: 14, second: 10, old: AT_TWO,      new: AT_TWO,      ones: AT_TWO },
+        Crash { first: 14, second: 11, old: AT_TWO,      new: AT_TWO_BOTH, ones: AT_TWO_BOTH },
+        Crash { first: 14, second: 12, old: AT_TWO_BOTH, new: AT_TWO_BOTH, ones: AT_TWO_BOTH },
+        Crash { first: 15, second: 12, old: AT_TWO_BOTH, new: AT_TWO_BOTH, ones: AT_TWO_BOTH },
+        Crash { first: 16, second: 12, old: AT_TWO_BOTH, new: AT_TWO_BOTH, ones: AT_TWO_BOTH },
+        Crash { first: 17, second: 12, old: AT_TWO_BOTH, new: AT_TWO_BOTH, ones: AT_TWO_BOTH },
+        Crash { first: 18, second: 12, old: AT_TWO_BOTH, new: AT_TWO_BOTH, ones: AT_TWO_BOTH },
+        Crash { first: 19, second: 12, old: AT_TWO_BOTH, new: AT_FOUR,     ones: AT_FOUR },
+        Crash { first: 20, second: 12, old: AT_FOUR,     new: AT_FOUR,     ones: AT_FOUR },
+        Crash { first: 99, second: 99, old: AT_FOUR,     new: AT_FOUR,     ones: AT_FOUR },
+    ],
+};
+
+// The first append fails: at the write of its record, which leaves its gate surely closed; and at each
+// later call. A gate that may be open is closed and synced before the next append.
+#[rattlefmt::skip]
+const FAILED_APPENDS: [Run; 4] = [
+    Run {
+        name: "the write of a record fails",
+        first: &[7],
+        second: &[],
+        calls: &[(Call::Append(&ONE), false), (Call::Append(&BOTH), true)],
+        at: (1, 0, 233),
+        faults: 1,
+        crashes: &[
+            Crash { first: 7,  second: 2, old: NEW,       new: NEW,       ones: NEW },
+            Crash { first: 8,  second: 2, old: NEW,       new: NEW,       ones: NEW },
+            Crash { first: 9,  second: 2, old: NEW,       new: NEW,       ones: NEW },
+            Crash { first: 10, second: 2, old: NEW,       new: WITH_BOTH, ones: WITH_BOTH },
+            Crash { first: 11, second: 2, old: WITH_BOTH, new: WITH_BOTH, ones: WITH_BOTH },
+        ],
+    },
+    Run {
+        name: "the sync of a record fails",
+        first: &[8],
+        second: &[],
+        calls: &[(Call::Append(&ONE), false), (Call::Append(&BOTH), true)],
+        at: (1, 0, 233),
+        faults: 1,
+        crashes: &[
+            Crash { first: 8,  second: 2, old: NEW,       new: NEW,       ones: NEW },
+            Crash { first: 9,  second: 2, old: NEW,       new: NEW,       ones: NEW },
+            Crash { first: 10, second: 2, old: NEW,       new: NEW,       ones: NEW },
+            Crash { first: 11, second: 2, old: NEW,       new: WITH_BOTH, ones: WITH_BOTH },
+            Crash { first: 12, second: 2, old: WITH_BOTH, new: WITH_BOTH, ones: WITH_BOTH },
+        ],
+    },
+    Run {
+        name: "the opening of a record's gate fails",
+        first: &[9],
+        second: &[],
+        calls: &[(Call::Append(&ONE), false), (Call::Append(&BOTH), true)],
+        at: (1, 0, 233),
+        faults: 1,
+        crashes: &[
+            Crash { first: 9,  second: 2, old: NEW,       new: NEW,       ones: WITH_ONE },
+            Crash { first: 10, second: 2, old: NEW,       new: NEW,       ones: WITH_ONE },
+            Crash { first: 11, second: 2, old: NEW,       new: NEW,       ones: NEW },
+            Crash { first: 12, second: 2, old: NEW,       new: NEW,       ones: NEW },
+            Crash { first: 13, second: 2, old: NEW,       new: NEW,       ones: NEW },
+            Crash { first: 14, second: 2, old: NEW,       new: WITH_BOTH, ones: WITH_BOTH },
+            Crash { first: 15, second: 2, old: WITH_BOTH, new: WITH_BOTH, ones: WITH_BOTH },
+        ],
+    },
+    Run {
+        name: "the sync of a record's gate fails",
+        first: &[10],
+        second: &[],
+        calls: &[(Call::Append(&ONE), false), (Call::Append(&BOTH), true)],
+        at: (1, 0, 233),
+        faults: 1,
+        crashes: &[
+            Crash { first: 10, second: 2, old: NEW,       new: WITH_ONE,  ones: WITH_ONE },
+            Crash { first: 11, second: 2, old: NEW,       new: NEW,       ones: WITH_ONE },
+            Crash { first: 12, second: 2, old: NEW,       new: NEW,       ones: NEW },
+            Crash { first: 13, second: 2, old: NEW,       new: NEW,       ones: NEW },
+            Crash { first: 14, second: 2, old: NEW,       new: NEW,       ones: NEW },
+            Crash { first: 15, second: 2, old: NEW,       new: WITH_BOTH, ones: WITH_BOTH },
+            Crash { first: 16, second: 2, old: WITH_BOTH, new: WITH_BOTH, ones: WITH_BOTH },
+        ],
+    },
+];
+
+// A checkpoint fails: at the write of its image, which leaves the other file's gate surely closed; and at
+// the sync behind the opening of that gate, which is closed and synced before the next append.
+#[rattlefmt::skip]
+const FAILED_CHECKPOINTS: [Run; 2] = [
+    Run {
+        name: "the write of an image fails",
+        first: &[],
+        second: &[5],
+        calls: &[(Call::Append(&ONE), true), (Call::Checkpoint(197), false), (Call::Append(&TWO), true)],
+        at: (1, 0, 270),
+        faults: 1,
+        crashes: &[
+            Crash { first: 10, second: 5, old: WITH_ONE, new: WITH_ONE, ones: WITH_ONE },
+            Crash { first: 13, second: 5, old: WITH_ONE, new: WITH_TWO, ones: WITH_TWO },
+            Crash { first: 14, second: 5, old: WITH_TWO, new: WITH_TWO, ones: WITH_TWO },
+        ],
+    },
+    Run {
+        name: "the sync of an image's gate fails",
+        first: &[],
+        second: &[8],
+        calls: &[(Call::Append(&ONE), true), (Call::Checkpoint(197), false), (Call::Append(&TWO), true)],
+        at: (1, 0, 270),
+        faults: 1,
+        crashes: &[
+            Crash { first: 10, second: 7,  old: WITH_ONE, new: AT_ONE,   ones: AT_ONE },
+            Crash { first: 10, second: 8,  old: WITH_ONE, new: AT_ONE,   ones: AT_ONE },
+            Crash { first: 10, second: 9,  old: WITH_ONE, new: WITH_ONE, ones: AT_ONE },
+            Crash { first: 10, second: 10, old: WITH_ONE, new: WITH_ONE, ones: WITH_ONE },
+            Crash { first: 11, second: 10, old: WITH_ONE, new: WITH_ONE, ones: WITH_ONE },
+            Crash { first: 12, second: 10, old: WITH_ONE, new: WITH_ONE, ones: WITH_ONE },
+            Crash { first: 13, second: 10, old: WITH_ONE, new: WITH_TWO, ones: WITH_TWO },
+            Crash { first: 14, second: 10, old: WITH_TWO, new: WITH_TWO, ones: WITH_TWO },
+        ],
+    },
+];
+
+fn appends<L: Log<DatasetStore>>(alloc: Global, log: &mut L, body: &[u8]) -> bool {
+    match batch_of(alloc, body) {
+        None => false,
+        Some(batch) => log.append(&batch).is_ok(),
     }
 }
 
-fn both_appended(alloc: Global, failing: &[u64]) -> Option<(Dataset<MemDisk>, bool, bool)> {
-    let mut dataset = created(alloc, failing)?;
-    let one = batch_of(alloc, &ONE)?;
-    let two = batch_of(alloc, &TWO)?;
-    let first = appends(&mut dataset, &one);
-    let second = appends(&mut dataset, &two);
-    Some((dataset, first, second))
+fn checkpoints<L: Log<DatasetStore>>(alloc: Global, log: &mut L, place: usize) -> bool {
+    match stored(alloc, place) {
+        None => false,
+        Some(store) => log.checkpoint(&store).is_ok(),
+    }
 }
 
-// The call, and the entries that are left if pending ranges are as before, and if they are as
-// written.
-const STOPS: [(u64, Option<u32>, Option<u32>); 15] = [
-    (0, None, None),
-    (1, None, None),
-    (2, None, None),
-    (3, None, None),
-    (4, None, None),
-    (5, None, Some(0)),
-    (6, Some(0), Some(0)),
-    (7, Some(0), Some(0)),
-    (8, Some(0), Some(0)),
-    (9, Some(0), Some(1)),
-    (10, Some(1), Some(1)),
-    (11, Some(1), Some(1)),
-    (12, Some(1), Some(1)),
-    (13, Some(1), Some(2)),
-    (14, Some(2), Some(2)),
-];
+// Does each call end as it should?
+fn are_done<L: Log<DatasetStore>>(alloc: Global, log: &mut L, calls: &[(Call, bool)]) -> bool {
+    for (call, is_done) in calls {
+        let found = match call {
+            Call::Append(body) => appends(alloc, log, body),
+            Call::Checkpoint(place) => checkpoints(alloc, log, *place),
+        };
+        if found != *is_done {
+            return false;
+        }
+    }
+    true
+}
 
-// A crash at a call leaves so many entries.
+fn is_at(dataset: &Dataset<MemDisk>, run: &Run) -> bool {
+    (dataset.generation(), dataset.counted(), dataset.place()) == run.at
+        && dataset.fault_count() == run.faults
+}
+
+// The disks of a run, if it went as it should.
+fn ran(alloc: Global, run: &Run) -> Option<Pair<MemDisk>> {
+    let mut dataset = created(alloc, run.first, run.second)?;
+    if are_done(alloc, &mut dataset, run.calls) && is_at(&dataset, run) {
+        return Some(dataset.into_disks());
+    }
+    None
+}
+
+fn told_of(dataset: &Dataset<MemDisk>, store: &DatasetStore) -> Told {
+    (
+        dataset.generation(),
+        dataset.counted(),
+        dataset.place(),
+        dataset.entries_read(),
+        store.last(0),
+    )
+}
+
+// Is this what a crash leaves, if pending ranges are filled so?
 fn leaves(
-    rt: &impl Abort,
     alloc: Global,
-    disk: &MemDisk,
-    call: u64,
+    disks: &Pair<MemDisk>,
+    crash: &Crash,
     fill: Fill,
-    entries: Option<u32>,
-) {
-    holds_at(
-        rt,
-        "the call",
-        call,
-        left(alloc, disk, call, fill) == told(entries),
-    );
+    left: &Option<Told>,
+) -> bool {
+    let Ok(first) = disks.first.stop(crash.first, fill) else {
+        return false;
+    };
+    let Ok(second) = disks.second.stop(crash.second, fill) else {
+        return false;
+    };
+    match reopen(alloc, Pair { first, second }) {
+        Ok((dataset, store)) => *left == Some(told_of(&dataset, &store)),
+        Err((OpenStop::NotDataset, _)) => left.is_none(),
+        Err(_) => false,
+    }
+}
+
+// Bytes other than 1 open no gate, so they leave what the last sync did.
+fn leaves_all(alloc: Global, disks: &Pair<MemDisk>, crash: &Crash) -> bool {
+    leaves(alloc, disks, crash, Fill::Old, &crash.old)
+        && leaves(alloc, disks, crash, Fill::New, &crash.new)
+        && leaves(alloc, disks, crash, Fill::Byte(0), &crash.old)
+        && leaves(alloc, disks, crash, Fill::Byte(1), &crash.ones)
+        && leaves(alloc, disks, crash, Fill::Byte(7), &crash.old)
+}
+
+fn all_leave(rt: &impl Abort, alloc: Global, disks: &Pair<MemDisk>, run: &Run) {
+    for crash in run.crashes {
+        let is_so = leaves_all(alloc, disks, crash);
+        holds_at_calls(rt, run.name, crash.first, crash.second, is_so);
+    }
+}
+
+// It goes as it should, and each crash leaves what it should.
+fn goes(rt: &impl Abort, alloc: Global, run: &Run) {
+    match ran(alloc, run) {
+        None => holds(rt, run.name, false),
+        Some(disks) => all_leave(rt, alloc, &disks, run),
+    }
 }
 
 #[test]
-fn stops_at_each_call_by_the_table(rt: HostRuntime) -> Result<(), Fail> {
-    let Some((dataset, true, true)) = both_appended(rt.alloc(), &[]) else {
-        return Err("not appended")?;
-    };
-    let Pair { first, second: _ } = dataset.into_disks();
-    for (call, before, after) in &STOPS {
-        leaves(&rt, rt.alloc(), &first, *call, Fill::Old, *before);
-        leaves(&rt, rt.alloc(), &first, *call, Fill::New, *after);
-        leaves(&rt, rt.alloc(), &first, *call, Fill::Byte(1), *after);
-        leaves(&rt, rt.alloc(), &first, *call, Fill::Byte(7), *before);
-    }
-    Ok(())
+fn stops_at_each_call_by_the_table(rt: HostRuntime) {
+    goes(&rt, rt.alloc(), &WHOLE);
 }
-
-// The repair is the calls 11 and 12, and the second append the next four.
-const REPAIRS: [(u64, Fill, Option<u32>); 5] = [
-    (10, Fill::New, Some(1)),
-    (11, Fill::New, Some(0)),
-    (12, Fill::New, Some(0)),
-    (14, Fill::New, Some(0)),
-    (16, Fill::Old, Some(1)),
-];
 
 #[test]
-fn closes_the_gate_of_a_failed_append_first(rt: HostRuntime) -> Result<(), Fail> {
-    // The tenth call is the sync behind the opening of the first record's gate.
-    let Some((dataset, false, true)) = both_appended(rt.alloc(), &[10]) else {
-        return Err("not made, or not as it should")?;
-    };
-    holds(&rt, "the place", dataset.place() == 197);
-    let Pair { first, second: _ } = dataset.into_disks();
-    for (call, fill, entries) in &REPAIRS {
-        leaves(&rt, rt.alloc(), &first, *call, *fill, *entries);
+fn closes_the_gate_of_a_failed_append_first(rt: HostRuntime) {
+    for run in &FAILED_APPENDS {
+        goes(&rt, rt.alloc(), run);
     }
-    Ok(())
 }
-
-// A batch of two entries is appended.
-fn batch_appended(alloc: Global) -> Option<(Dataset<MemDisk>, bool)> {
-    let mut dataset = created(alloc, &[])?;
-    let both = batch_of(alloc, &BOTH)?;
-    let is_stored = appends(&mut dataset, &both);
-    Some((dataset, is_stored))
-}
-
-// A crash at a call leaves both entries of the batch, or none.
-fn leaves_both(
-    rt: &impl Abort,
-    alloc: Global,
-    disk: &MemDisk,
-    call: u64,
-    fill: Fill,
-    are_there: bool,
-) {
-    let both = if are_there {
-        (233, 2, 0, 2)
-    } else {
-        (124, 0, 0, 0)
-    };
-    holds_at(
-        rt,
-        "the call",
-        call,
-        left(alloc, disk, call, fill) == Some(Ok(both)),
-    );
-}
-
-// The append is the calls 7 to 10: its bytes, a sync, the opening of the gate, and a sync.
-const BATCH_STOPS: [(u64, bool, bool); 5] = [
-    (6, false, false),
-    (7, false, false),
-    (8, false, false),
-    (9, false, true),
-    (10, true, true),
-];
 
 #[test]
-fn leaves_both_entries_of_a_batch_or_none(rt: HostRuntime) -> Result<(), Fail> {
-    let Some((dataset, true)) = batch_appended(rt.alloc()) else {
-        return Err("not appended")?;
-    };
-    let Pair { first, second: _ } = dataset.into_disks();
-    for (call, before, after) in &BATCH_STOPS {
-        leaves_both(&rt, rt.alloc(), &first, *call, Fill::Old, *before);
-        leaves_both(&rt, rt.alloc(), &first, *call, Fill::New, *after);
-        leaves_both(&rt, rt.alloc(), &first, *call, Fill::Byte(1), *after);
-        leaves_both(&rt, rt.alloc(), &first, *call, Fill::Byte(7), *before);
+fn closes_the_gate_of_a_failed_checkpoint_first(rt: HostRuntime) {
+    for run in &FAILED_CHECKPOINTS {
+        goes(&rt, rt.alloc(), run);
     }
+}
+
+// The first file once both entries were appended, before the second checkpoint writes over it.
+fn written(alloc: Global) -> Option<MemDisk> {
+    let disks = ran(alloc, &WHOLE)?;
+    disks.first.stop(14, Fill::Old).ok()
+}
+
+#[test]
+fn writes_a_file_by_hand(rt: HostRuntime) -> Result<(), Fail> {
+    let disk = written(rt.alloc()).ok_or("no file")?;
+    let file = file_to(rt.alloc(), 270).ok_or("no bytes")?;
+    holds(&rt, "the bytes", disk.bytes() == file.as_slice());
     Ok(())
 }

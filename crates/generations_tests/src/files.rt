@@ -1,18 +1,12 @@
-//! Files, disks and batches that the tests share. The bytes are written by hand, after the format.
-ghost use Rattle.std.specs.Prelude.{◌≡◌, ◌<◌, [], length, IfSome};
+//! Bytes, disks, batches and stores that the tests share. The bytes are written by hand, after the
+//! format.
+ghost use Rattle.std.specs.Prelude.{◌≡◌, [], IfSome};
 
 use db_memdev::MemDisk;
 use db_outside::Batch;
-use db_store::Store;
 use db_value::Schema;
-use entry_codec::Log;
-use generations::{CreateStop, Dataset, DatasetStore, OpenStop, Pair, create, reopen};
-use sha2::{Digest, Sha256};
-use std::alloc::Global;
-
-/// What opening tells: the place of the first closed gate, how many entries were read, the number of
-/// the file that counts, and the last version of master.
-pub type Told = (u64, u64, u8, u32);
+use generations::{Dataset, DatasetStore, Pair, create, reopen};
+use std::alloc::{AllocError, Global};
 
 /// The entry that puts the record with key 1 and the values 1, 1 into relation 0, on branch 0.
 pub const ONE: [u8; 36] = [
@@ -26,46 +20,52 @@ pub const TWO: [u8; 36] = [
     0, 0, 0, 0,
 ];
 
-/// Both, as the body of one batch.
+/// The same with the keys 3 and 4, as the body of one batch.
 pub const BOTH: [u8; 72] = [
-    1, 0, 0, 0, 0, 0, 1, 0, 0, 0, 0, 2, 1, 0, 0, 0, 0, 0, 0, 0, 1, 0, 0, 0, 0, 0, 0, 0, 1, 0, 0, 0,
-    0, 0, 0, 0, 1, 0, 0, 0, 0, 0, 1, 0, 0, 0, 0, 2, 2, 0, 0, 0, 0, 0, 0, 0, 1, 0, 0, 0, 0, 0, 0, 0,
+    1, 0, 0, 0, 0, 0, 1, 0, 0, 0, 0, 2, 3, 0, 0, 0, 0, 0, 0, 0, 1, 0, 0, 0, 0, 0, 0, 0, 1, 0, 0, 0,
+    0, 0, 0, 0, 1, 0, 0, 0, 0, 0, 1, 0, 0, 0, 0, 2, 4, 0, 0, 0, 0, 0, 0, 0, 1, 0, 0, 0, 0, 0, 0, 0,
     1, 0, 0, 0, 0, 0, 0, 0,
 ];
 
-/// The image of the new dataset with the relation `items a b`.
-pub const IMAGE: [u8; 67] = [
-    1, 5, 105, 116, 101, 109, 115, 2, 1, 97, 1, 98, 1, 0, 0, 0, 6, 109, 97, 115, 116, 101, 114, 0,
-    0, 0, 0, 0, 0, 0, 0, 0, 0, 0, 0, 1, 0, 0, 0, 1, 0, 0, 0, 0, 0, 0, 0, 1, 0, 0, 0, 0, 0, 0, 0, 0,
-    0, 0, 0, 0, 0, 0, 0, 0, 0, 0, 0,
+// The file of a new dataset with the relation `items a b`, and records of these three bodies: an open
+// gate, the generation, the length of the image and its digest; the image; and of each record an open
+// gate, the length of its body, its digest and the body. The closed gate behind the last one lacks.
+#[rattlefmt::skip]
+const FILE: [u8; 379] = [
+    1, 68, 69, 67, 73, 66, 69, 76, 49, 1, 0, 0, 0, 0, 0, 0, 0, 67, 0, 0, 0, 0, 0, 0, 0,
+    90, 133, 44, 49, 3, 46, 99, 197, 81, 162, 28, 177, 227, 73, 209, 122,
+    49, 48, 232, 194, 254, 133, 154, 113, 190, 247, 30, 229, 20, 196, 229, 104,
+    1, 5, 105, 116, 101, 109, 115, 2, 1, 97, 1, 98, 1, 0, 0, 0, 6, 109, 97, 115, 116, 101, 114, 0, 0, 0, 0, 0, 0, 0, 0, 0, 0, 0, 0,
+    1, 0, 0, 0, 1, 0, 0, 0, 0, 0, 0, 0, 1, 0, 0, 0, 0, 0, 0, 0, 0, 0, 0, 0, 0, 0, 0, 0, 0, 0, 0, 0,
+    1, 36, 0, 0, 0,
+    226, 92, 214, 229, 89, 234, 246, 86, 11, 200, 85, 150, 95, 109, 45, 5,
+    249, 171, 238, 229, 78, 255, 236, 60, 195, 63, 166, 5, 23, 83, 243, 139,
+    1, 0, 0, 0, 0, 0, 1, 0, 0, 0, 0, 2, 1, 0, 0, 0, 0, 0, 0, 0, 1, 0, 0, 0, 0, 0, 0, 0, 1, 0, 0, 0, 0, 0, 0, 0,
+    1, 36, 0, 0, 0,
+    123, 207, 54, 26, 8, 8, 188, 1, 81, 98, 193, 211, 141, 245, 70, 241,
+    106, 116, 25, 94, 22, 158, 54, 215, 226, 158, 170, 247, 81, 67, 32, 204,
+    1, 0, 0, 0, 0, 0, 1, 0, 0, 0, 0, 2, 2, 0, 0, 0, 0, 0, 0, 0, 1, 0, 0, 0, 0, 0, 0, 0, 1, 0, 0, 0, 0, 0, 0, 0,
+    1, 72, 0, 0, 0,
+    195, 248, 72, 29, 69, 230, 42, 252, 4, 0, 248, 154, 214, 249, 76, 161,
+    54, 177, 124, 43, 96, 101, 149, 234, 43, 89, 30, 195, 44, 139, 9, 48,
+    1, 0, 0, 0, 0, 0, 1, 0, 0, 0, 0, 2, 3, 0, 0, 0, 0, 0, 0, 0, 1, 0, 0, 0, 0, 0, 0, 0, 1, 0, 0, 0, 0, 0, 0, 0,
+    1, 0, 0, 0, 0, 0, 1, 0, 0, 0, 0, 2, 4, 0, 0, 0, 0, 0, 0, 0, 1, 0, 0, 0, 0, 0, 0, 0, 1, 0, 0, 0, 0, 0, 0, 0,
 ];
 
-/// A file with this generation, this image, an open record for each body, and a closed gate.
-pub fn file_of(alloc: Global, generation: u64, image: &[u8], bodies: &[&[u8]]) -> Option<Vec<u8>> {
-    let mut bytes: Vec<u8> = Vec::new(alloc);
-    bytes.extend_from_slice(b"\x01DECIBEL1").ok()?;
-    bytes.extend_from_slice(&generation.to_le_bytes()).ok()?;
-    bytes
-        .extend_from_slice(&(image.len() as u64).to_le_bytes())
-        .ok()?;
-    bytes.extend_from_slice(&Sha256::digest(image)).ok()?;
-    bytes.extend_from_slice(image).ok()?;
-    for body in bodies {
-        let count = u32::try_from(body.len()).ok()?;
-        bytes.push(1).ok()?;
-        bytes.extend_from_slice(&count.to_le_bytes()).ok()?;
-        bytes.extend_from_slice(&Sha256::digest(*body)).ok()?;
-        bytes.extend_from_slice(body).ok()?;
-    }
+/// That file with the records in front of a place, and a closed gate there.
+pub fn file_to(alloc: Global, place: usize) -> Option<Vec<u8>> {
+    let mut bytes = FILE.get(..place)?.to_vec(alloc).ok()?;
     bytes.push(0).ok()?;
     Some(bytes)
 }
 
-/// A batch of one body.
+/// A batch of one body. An empty body makes none.
 pub fn batch_of(alloc: Global, body: &[u8]) -> Option<Batch>
-    requires { 0 < length body.now }
     ensures { IfSome result (λ b. b ≡ [] → ⊥) }
 {
+    if body.is_empty() {
+        return None;
+    }
     let Ok(mut batch) = Batch::new(alloc) else {
         return None;
     };
@@ -75,109 +75,36 @@ pub fn batch_of(alloc: Global, body: &[u8]) -> Option<Batch>
     }
 }
 
-/// Was the batch stored?
-pub fn appends<L: Log<DatasetStore>>(log: &mut L, batch: &Batch) -> bool
-    requires { batch.now ≡ [] → ⊥ }
-{
-    log.append(batch).is_ok()
+// Two disks, of which the first one has these bytes, that fail at these calls.
+fn disks_of(
+    alloc: Global,
+    bytes: &[u8],
+    first: &[u64],
+    second: &[u64],
+) -> Result<Pair<MemDisk>, AllocError> {
+    let first = MemDisk::of(alloc, bytes, first, 1000, 100_000)?;
+    let second = MemDisk::of(alloc, b"", second, 1000, 100_000)?;
+    Ok(Pair { first, second })
 }
 
 /// The new dataset with the relation `items a b`, on disks that fail at these calls.
-pub fn created_on(alloc: Global, first: &[u64], second: &[u64]) -> Option<Dataset<MemDisk>> {
+pub fn created(alloc: Global, first: &[u64], second: &[u64]) -> Option<Dataset<MemDisk>> {
     let Ok((schema, _)) = Schema::read(alloc, b"relation items a b\nend\n") else {
         return None;
     };
-    let disks = Pair {
-        first: MemDisk::of(alloc, b"", first, 1000, 100_000).ok()?,
-        second: MemDisk::of(alloc, b"", second, 1000, 100_000).ok()?,
-    };
+    let disks = disks_of(alloc, b"", first, second).ok()?;
     match create(alloc, disks, &schema) {
         Ok(dataset) => Some(dataset),
         Err(_) => None,
     }
 }
 
-/// The same, on disks of which the first one fails at these calls.
-pub fn created(alloc: Global, failing: &[u64]) -> Option<Dataset<MemDisk>> {
-    created_on(alloc, failing, &[])
-}
-
-/// The image of that dataset after the entry `ONE`: one version more, and in the head of master one
-/// record on a page of 4,096 bytes, which the second delta of master's row sets.
-pub fn image_after_one(alloc: Global) -> Option<Vec<u8>> {
-    let mut bytes: Vec<u8> = Vec::new(alloc);
-    bytes.extend_from_slice(&IMAGE[..31]).ok()?;
-    bytes.extend_from_slice(&[1, 0, 0, 0, 0, 0, 0, 0, 0]).ok()?;
-    bytes
-        .extend_from_slice(&[1, 0, 0, 0, 1, 0, 0, 0, 1, 0, 0, 0])
-        .ok()?;
-    bytes
-        .extend_from_slice(&[1, 0, 2, 0, 0, 0, 0, 0, 0, 0, 0, 0, 0, 0, 0, 0])
-        .ok()?;
-    for _i in 0..3 {
-        bytes.extend_from_slice(&1u64.to_le_bytes()).ok()?;
-    }
-    for _i in 0..4056 {
-        bytes.push(0).ok()?;
-    }
-    bytes
-        .extend_from_slice(&[1, 0, 0, 0, 0, 0, 0, 0, 0, 0, 0, 0])
-        .ok()?;
-    bytes.extend_from_slice(&[0, 0, 0, 0, 0, 0, 0, 0]).ok()?;
-    bytes.extend_from_slice(&[0, 0, 0, 0, 1, 0, 0, 0]).ok()?;
-    bytes.extend_from_slice(&1u64.to_le_bytes()).ok()?;
-    Some(bytes)
-}
-
-/// The store of that dataset after the entries of bodies.
-pub fn stored(alloc: Global, bodies: &[&[u8]]) -> Option<DatasetStore> {
-    let file = file_of(alloc, 1, &IMAGE, bodies)?;
-    match reopen(alloc, disks_of(alloc, &file, b"")?) {
+/// The store of the file with the records in front of a place.
+pub fn stored(alloc: Global, place: usize) -> Option<DatasetStore> {
+    let bytes = file_to(alloc, place)?;
+    let disks = disks_of(alloc, &bytes, &[], &[]).ok()?;
+    match reopen(alloc, disks) {
         Ok((_, store)) => Some(store),
         Err(_) => None,
-    }
-}
-
-/// Why no dataset is made on disks with these bytes, and the disks. `None` is a dataset, or want of
-/// memory.
-pub fn not_created(
-    alloc: Global,
-    first: &[u8],
-    second: &[u8],
-) -> Option<(CreateStop, Pair<MemDisk>)> {
-    let Ok((schema, _)) = Schema::read(alloc, b"relation items a b\nend\n") else {
-        return None;
-    };
-    let disks = Pair {
-        first: MemDisk::of(alloc, first, &[], 1000, 1000).ok()?,
-        second: MemDisk::of(alloc, second, &[], 1000, 1000).ok()?,
-    };
-    match create(alloc, disks, &schema) {
-        Ok(_) => None,
-        Err(stop) => Some(stop),
-    }
-}
-
-fn disks_of(alloc: Global, first: &[u8], second: &[u8]) -> Option<Pair<MemDisk>> {
-    let first = MemDisk::of(alloc, first, &[], 1000, 100_000).ok()?;
-    let second = MemDisk::of(alloc, second, &[], 1000, 100_000).ok()?;
-    Some(Pair { first, second })
-}
-
-fn told_of(dataset: &Dataset<MemDisk>, store: &DatasetStore) -> Told {
-    (
-        dataset.place(),
-        dataset.entries_read(),
-        dataset.counted(),
-        store.last(0),
-    )
-}
-
-/// What opening two files of these bytes tells. `None` is want of memory.
-pub fn opened(alloc: Global, first: &[u8], second: &[u8]) -> Option<Result<Told, OpenStop>> {
-    match reopen(alloc, disks_of(alloc, first, second)?) {
-        Ok((dataset, store)) => Some(Ok(told_of(&dataset, &store))),
-        Err((OpenStop::Memory, _)) => None,
-        Err((stop, _)) => Some(Err(stop)),
     }
 }

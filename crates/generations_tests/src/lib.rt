@@ -1,15 +1,15 @@
-//! Tests of a dataset in two files. Nothing here is called.
+//! Tests of devices, of a journal, and of a dataset in two files. Nothing here is called.
 #![tactic(auto)]
 
 #[cfg(test)]
 mod asserts;
 #[cfg(test)]
-mod checkpoint_tests;
-#[cfg(test)]
 mod crash_tests;
 #[cfg(test)]
-mod damage_tests;
+mod db_memdev_tests;
+#[cfg(test)]
+mod db_outside_tests;
+#[cfg(test)]
+mod db_realdev_tests;
 #[cfg(test)]
 mod files;
-#[cfg(test)]
-mod path_tests;

@@ -1,21 +1,40 @@
 //! A room on one thread. What is told was worked out by hand.
-ghost use Rattle.std.specs.Prelude.{◌≡◌, ◌∷◌, [], false, Some, OnOk};
+ghost use Rattle.std.specs.Prelude.{◌≡◌, ◌∷◌, [], false, Some, IfOk, OnOk};
 ghost use Rattle.history_note.specs.Shown.{new_pen};
+ghost use Rattle.db_core.specs.Kept.{Stands};
+ghost use Rattle.db_core.specs.Order.{said_of};
+ghost use Rattle.db_core.specs.Sits.{heard};
 ghost use Rattle.db_hub.specs.Rooms.{IsOut};
-ghost use Rattle.session_run.specs.Runs.{IsNew, IsUnused};
-ghost use Rattle.thread_tests.specs.Said.{HasSaid, MayLeave, HasLeft};
+ghost use Rattle.thread_tests.specs.Said.{IsUnused, HasSaid, MayLeave, HasLeft};
 
-use crate::session_run_tests::{new_board, new_store};
+use crate::asserts::holds;
+use crate::boards::{new_board, new_store};
 use db_core::Board;
 use db_hub::{LogTag, Room, Seat, Tag};
-use db_value::{ListOf, Name, Reply};
+use db_value::{LineText, ListOf, Reply, Step};
 use entry_codec::NoLog;
 use history_note::{Note, Pen};
 use plain_store::PlainStore;
 use std::alloc::Global;
 use std::marker::Brand;
-use std::test::*;
-use stmt_text::read_line;
+use std::process::Abort;
+use std::test::Fail;
+use stmt_text::{Line, Stmt, read_line};
+
+// A line of session 1, with the statement that it says.
+fn line_from(alloc: Global, text: &str) -> Result<(LineText, Stmt), Fail>
+    ensures { IfOk result (λ r. said_of r.0 false ≡ heard 1 r.1) }
+{
+    let Ok(line) = read_line(alloc, text.as_bytes()) else {
+        return Err("no line".into());
+    };
+    if line.session != 1 {
+        return Err("a line of another session".into());
+    }
+    let text = ListOf::of(text.as_bytes().to_vec(alloc)?);
+    let Line { stmt, .. } = line;
+    Ok((text, stmt))
+}
 
 // Session 1 says a line at the room.
 fn say<T: LogTag<NoLog>>(
@@ -29,25 +48,9 @@ fn say<T: LogTag<NoLog>>(
     requires none { seat.old.desk.waiting ≡ [] }
     ensures { OnOk result (HasSaid 1 room.old room.new seat.old seat.new) }
 {
-    let Ok(line) = read_line(alloc, text.as_bytes()) else {
-        return Err("no line".into());
-    };
-    if line.session != 1 {
-        return Err("a line of another session".into());
-    }
-    let text = ListOf::of(text.as_bytes().to_vec(alloc)?);
-    let reply = room.visit(seat, &text, &line.stmt)?;
+    let (text, stmt) = line_from(alloc, text)?;
+    let reply = room.visit(seat, &text, &stmt)?;
     Ok(reply)
-}
-
-// What is told of a session whose seat is closed and given again: how many seats are out in between
-// and then, the session's branch then, and the reply to a change.
-#[derive(Drop)]
-struct Told {
-    between: usize,
-    then: usize,
-    branch: Name,
-    reply: Reply,
 }
 
 // Session 1 goes to another branch.
@@ -100,32 +103,43 @@ fn go_aside<T: LogTag<NoLog>>(
     leave(room, seat)
 }
 
-// Session 1 has its seat again.
+// Are the seats of these sessions out, and no other?
+fn are_out<T: LogTag<NoLog>>(room: &Room<PlainStore, NoLog, T>, sessions: &[u32]) -> bool {
+    match room.out() {
+        Ok(out) => out.as_slice() == sessions,
+        Err(_) => false,
+    }
+}
+
+// Is it told that this version was made?
+fn is_made(reply: &Reply, name: &[u8], at: u32) -> bool {
+    match reply {
+        Reply::Made { branch, position } => branch.as_bytes() == name && *position == at,
+        _ => false,
+    }
+}
+
+// Session 1 has its seat again. Is it where it was?
 fn come_back<T: LogTag<NoLog>>(
     alloc: Global,
     room: &mut Room<PlainStore, NoLog, T>,
-) -> Result<Told, Fail>
+) -> Result<bool, Fail>
     requires numbers { T.numbers ≡ (0, 1) ∷ (1, 1) ∷ [] }
     requires since { T.since 1 ≡ 2 }
     requires left { HasLeft room.old }
 {
-    let between = room.out()?.as_slice().len();
+    let was_gone = are_out(room, &[]);
     let mut seat = room.seat(1)?;
-    let then = room.out()?.as_slice().len();
-    let branch = seat.current();
+    let is_there = are_out(room, &[1]);
+    let is_aside = seat.current().as_bytes() == b"side".as_slice();
     let reply = say(alloc, room, &mut seat, "1 insert items 1 1")?;
-    Ok(Told {
-        between,
-        then,
-        branch,
-        reply,
-    })
+    Ok(was_gone && is_there && is_aside && is_made(&reply, b"side", 1))
 }
 
 fn go_on<T: LogTag<NoLog>>(
     alloc: Global,
     room: &mut Room<PlainStore, NoLog, T>,
-) -> Result<Told, Fail>
+) -> Result<bool, Fail>
     requires numbers { T.numbers ≡ (0, 1) ∷ (1, 1) ∷ [] }
     requires since { (T.since 0 ≡ 0) × (T.since 1 ≡ 2) }
     requires leaves { T.stays ≡ false }
@@ -135,24 +149,40 @@ fn go_on<T: LogTag<NoLog>>(
     come_back(alloc, room)
 }
 
+// That in a room of a new board, and the board that it leaves.
 fn go_on_anew<T: LogTag<NoLog>>(
     alloc: Global,
     board: Board<PlainStore, NoLog>,
     note: Note<PlainStore>,
     pen: Pen<PlainStore>,
-) -> Result<Told, Fail>
+) -> (Result<bool, Fail>, Board<PlainStore, NoLog>)
     requires numbers { T.numbers ≡ (0, 1) ∷ (1, 1) ∷ [] }
     requires since { (T.since 0 ≡ 0) × (T.since 1 ≡ 2) }
     requires leaves { T.stays ≡ false }
-    requires board { IsNew board.kept }
+    requires board { Stands board.kept × (board.kept.steps ≡ []) }
     requires opened { (board.kept.opening ≡ T.opened) × (board.kept.first_count ≡ T.first) }
     requires log { T.log ≡ Some board.log }
     requires note { (note ≡ record { note = T.note; opening = T.opened }) × (pen ≡ new_pen note) }
 {
     let mut room = Room::<PlainStore, NoLog, T>::new(alloc, board, note, pen);
     let told = go_on(alloc, &mut room);
-    let Room { .. } = room;
-    told
+    let Room { board, .. } = room;
+    (told, board)
+}
+
+// Are these the three lines with their replies?
+fn are_said(steps: &[Step]) -> bool {
+    match steps {
+        [branch, on, insert] => {
+            branch.line.as_slice() == b"1 branch side of master".as_slice()
+                && is_made(&branch.reply, b"side", 0)
+                && on.line.as_slice() == b"1 on side".as_slice()
+                && matches!(on.reply, Reply::Done)
+                && insert.line.as_slice() == b"1 insert items 1 1".as_slice()
+                && is_made(&insert.reply, b"side", 1)
+        }
+        _ => false,
+    }
 }
 
 #[test]
@@ -160,10 +190,8 @@ fn a_session_goes_on_where_its_seat_was_closed(rt: HostRuntime) -> Result<(), Fa
     let store = new_store(rt.alloc())?;
     let board = new_board(rt.alloc(), store)?;
     let (note, pen) = Note::new(rt.alloc(), board.store())?;
-    let told = go_on_anew::<Brand>(rt.alloc(), board, note, pen)?;
-    assert!(rt; told.between == 0);
-    assert!(rt; told.then == 1);
-    assert!(rt; told.branch.as_bytes() == b"side".as_slice());
-    assert!(rt; matches!(told.reply, Reply::Made { .. }));
+    let (told, board) = go_on_anew::<Brand>(rt.alloc(), board, note, pen);
+    holds(&rt, "the session is where it was", told?);
+    holds(&rt, "the board's lines", are_said(board.steps()));
     Ok(())
 }

@@ -2,8 +2,10 @@
 #![tactic(auto)]
 
 #[cfg(test)]
+mod asserts;
+#[cfg(test)]
+mod boards;
+#[cfg(test)]
 mod db_hub_tests;
 #[cfg(test)]
 mod history_note_tests;
-#[cfg(test)]
-mod session_run_tests;

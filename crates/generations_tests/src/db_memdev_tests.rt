@@ -2,6 +2,7 @@
 use crate::asserts::holds_at;
 use db_memdev::{Fill, MemDisk};
 use db_outside::{Disk, Failed};
+use std::alloc::{AllocError, Global};
 use std::process::Abort;
 use std::test::Fail;
 
@@ -31,26 +32,37 @@ const STOPS: [(u64, Fill, &[u8]); 12] = [
     (99, Fill::New, b"aXYdefghi"),
 ];
 
-fn stops(rt: &impl Abort, disk: &MemDisk) -> Result<(), Fail> {
-    for (call, fill, expected) in &STOPS {
-        let stopped = disk.stop(*call, *fill)?;
-        holds_at(rt, "the call", *call, stopped.bytes() == *expected);
+// Does a crash at the call leave these bytes?
+fn leaves(disk: &MemDisk, call: u64, fill: Fill, expected: &[u8]) -> bool {
+    match disk.stop(call, fill) {
+        Ok(stopped) => stopped.bytes() == expected,
+        Err(_) => false,
     }
-    Ok(())
 }
 
-#[test]
-fn stops_by_the_table(rt: HostRuntime) -> Result<(), Fail> {
-    let mut disk = MemDisk::of(rt.alloc(), b"abcdef", &[3], 6, 10)?;
-    can_be_sent(&disk);
-    // The third call fails, as does a write past the room.
+fn stops(rt: &impl Abort, disk: &MemDisk) {
+    for (call, fill, expected) in &STOPS {
+        holds_at(rt, "the call", *call, leaves(disk, *call, *fill, expected));
+    }
+}
+
+// A disk of which the third call fails, as does a write past the room.
+fn written(rt: &impl Abort, alloc: Global) -> Result<MemDisk, AllocError> {
+    let mut disk = MemDisk::of(alloc, b"abcdef", &[3], 6, 10)?;
     assert!(rt; disk.write_at(1, b"XY").is_ok());
     assert!(rt; disk.sync().is_ok());
     assert!(rt; disk.write_at(4, b"12345") == Err(Failed));
     assert!(rt; disk.write_at(6, b"ghi").is_ok());
     assert!(rt; disk.write_at(0, b"too long") == Err(Failed));
     assert!(rt; disk.bytes() == b"aXYdefghi".as_slice());
-    stops(&rt, &disk)?;
+    Ok(disk)
+}
+
+#[test]
+fn stops_by_the_table(rt: HostRuntime) -> Result<(), Fail> {
+    let mut disk = written(&rt, rt.alloc())?;
+    can_be_sent(&disk);
+    stops(&rt, &disk);
     takes_one_more(&rt, &mut disk);
     Ok(())
 }

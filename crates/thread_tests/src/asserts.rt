@@ -1,0 +1,8 @@
+//! What the tests assert. A message that is written at each assertion costs more proof than the rest
+//! of its test, so the message stands here.
+use std::process::Abort;
+
+/// What the name says is so.
+pub fn holds(rt: &impl Abort, name: &str, is_so: bool) {
+    assert!(rt; is_so, "{name}");
+}
