@@ -58,6 +58,16 @@ REFUSED = (
     ("a quote within a field", b'1,1"0,20\n', 1),
     ("a comment", b"# rows\n1,10,20\n", 1),
     ("bytes that are no text", b"1,10,\xff\n", 1),
+    ("two byte order marks", MARK + MARK + TWO, 1),
+    ("a comma at the end", b"1,10,20,\n", 1),
+    ("an empty quoted field", b'1,"",20\n', 1),
+    ("a quote that isn't closed in row 1", b'1,10,"20\n2,-5,0\n', 1),
+    ("a value with a leading zero", b"1,010,20\n", 1),
+    ("a value below its end", b"1,0,-9223372036854775809\n", 1),
+    ("a key past its end in row 2", b"1,0,0\n18446744073709551616,0,0", 2),
+    ("two rows that are none", b"1,10,20\nx\ny\n", 2),
+    ("a row twice", b"1,0,0\n1,0,0\n", 2),
+    ("a key of two rows, with other values", b"1,0,0\n2,0,0\n1,5,5", 3),
     ("a mark in the second row", b"1,10,20\n" + MARK + b"2,-5,0\n", 2),
     ("a key twice", b"1,10,20\n2,-5,0\n1,10,20\n", 3),
     ("a key twice, and a later row that is none", b"1,10,20\n1,10,20\nx\n", 3),
@@ -114,13 +124,26 @@ def again(base):
     yield "import into a damaged file", base.run("import", TWO, ("items",)), (4, b"", b"decibel: damaged file 0 at 124\n")
 
 
+def two_relations(base):
+    """A relation with one column, behind another one."""
+    yield "create of two relations", base.run("create", b"relation items a b\nrelation notes n\nend\n"), (0, b"created\n", b"")
+    yield "the columns of another relation", base.run("import", b"1,10,20\n", ("notes",)), refused(1)
+    yield "a row of one column", base.run("import", b"7,1\n", ("notes",)), imported(1, 1)
+    yield "its rows", base.run("export", b"", ("notes", "master")), (0, b"7,1\n", b"")
+    yield "no rows of the other relation", base.run("export", b"", ("items", "master")), (0, b"", b"")
+    yield "three rows in any order", base.run("import", b"2,0,0\n1,0,0\n3,0,0\n", ("items",)), imported(3, 2)
+    yield "these rows by key", base.run("export", b"", ("items", "master")), (0, b"1,0,0\n2,0,0\n3,0,0\n", b"")
+
+
 def most_rows(base):
     base.made()
     most = rows_of(MOST)
     yield "a row too many", base.run("import", rows_of(MOST + 1), ("items",)), refused(MOST + 1)
     yield "a row too many that is none", base.run("import", most + b"x\n", ("items",)), refused(MOST + 1)
+    yield "a row too many of another number of columns", base.run("import", most + b"1,0\n", ("items",)), refused(MOST + 1)
+    yield "a row too many before one that is none", base.run("import", rows_of(MOST + 1) + b"x\n", ("items",)), refused(MOST + 1)
     for turn in range(4):
-        yield "65,536 rows, time %d" % (turn + 1), base.run("import", rows_of(MOST, 2, turn * MOST), ("items",)), imported(MOST, turn + 1)
+        yield "65,536 rows, time %d" % (turn + 1), base.run("import", rows_of(MOST, 2, turn * MOST) + b"\n\n" * (turn == 0), ("items",)), imported(MOST, turn + 1)
     yield "a full relation", base.run("import", b"300000,0,0\n", ("items",)), refused(1)
     yield "262,144 rows", base.run("export", b"", ("items", "master")), (0, rows_of(4 * MOST), b"")
     yield "of the second version", base.run("export", b"", ("items", "master@2")), (0, rows_of(2 * MOST), b"")
@@ -232,6 +255,6 @@ def told_apart(base):
 
 def checks(program):
     """Names with what was found and what should be."""
-    for part in (taken, not_taken, again, most_rows, all_versions, devices, no_room, killed, read_back, told_apart):
+    for part in (taken, not_taken, again, two_relations, most_rows, all_versions, devices, no_room, killed, read_back, told_apart):
         with tempfile.TemporaryDirectory(dir="/dev/shm" if os.path.isdir("/dev/shm") else None) as folder:
             yield from part(Base(program, folder))

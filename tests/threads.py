@@ -167,6 +167,15 @@ def at_random(base):
     print("tests/run: in %d random scripts on threads %d lines stood at another place than in the input" % (2 * SCRIPTS, moved), flush=True)
 
 
+def comments_and_bad_lines(base):
+    """A comment and an empty line belong to no section, and a bad line without a session to one of its own. No line end stands at the end."""
+    place = os.path.join(base.folder, "odd")
+    os.mkdir(place)
+    given = SCHEMA + b"# sections\n2 begin\n\n1 get items 1\nx\n65 commit\n64 log master\n2 hello\n2 insert items 1 1 1\n2 commit"
+    wrong, _ = one_script(base, on_files.Base(base.program, place), given)
+    yield "comments and bad lines of sessions on threads", wrong, []
+
+
 def branch_of(session):
     return b"of%d" % session
 
@@ -253,6 +262,6 @@ def checks(program):
         if on_files.Base(program, folder).run("sessions")[0] == 2:
             print("tests/run: the program has no `sessions` yet, so nobody ran sessions on threads")
             return
-    for part in (alone, three, beside, at_random, at_length, killed):
+    for part in (alone, three, beside, at_random, comments_and_bad_lines, at_length, killed):
         with tempfile.TemporaryDirectory() as folder:
             yield from part(on_files.Base(program, folder))

@@ -2,6 +2,4 @@
 #![tactic(auto)]
 
 #[cfg(test)]
-mod device_tests;
-#[cfg(test)]
 mod stop_tests;

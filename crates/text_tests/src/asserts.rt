@@ -1,6 +1,5 @@
-//! What the tests assert of a row of a table, or of another thing that has a name. A message that
-//! is written at each assertion costs more proof than the rest of its test, so the message stands
-//! here.
+//! What the tests assert of a row of a table. A message that is written at each assertion costs more
+//! proof than the rest of its test, so the message stands here.
 use std::process::Abort;
 
 /// What the name says is so.

@@ -1,0 +1,156 @@
+"""Lines that miss the grammar by little, each with the session to which it belongs, which is 0 where none can be read. They were written by hand."""
+
+ROWS = (
+    (0, "a session alone", b"1"),
+    (0, "a space alone", b" "),
+    (0, "no session", b"begin"),
+    (0, "a word for a session", b"hello begin"),
+    (0, "a space in front", b" 1 begin"),
+    (0, "session 0", b"0 begin"),
+    (0, "session 65", b"65 begin"),
+    (0, "a session with a leading zero", b"01 begin"),
+    (0, "a session with a plus sign", b"+1 begin"),
+    (0, "a session with a minus sign", b"-1 begin"),
+    (0, "a session past 64 bits", b"18446744073709551617 begin"),
+    (0, "a session with a tab behind it", b"1\tbegin"),
+    (0, "a session without a space behind it", b"1begin"),
+    (64, "session 64", b"64 begins"),
+    (2, "two spaces behind the session", b"2 "),
+    (2, "two spaces before a verb", b"2  begin"),
+    (2, "a space at the end", b"2 begin "),
+    (2, "two spaces before a part", b"2 begin  5"),
+    (2, "a carriage return at the end", b"2 begin\r"),
+    (2, "a verb with a capital letter", b"2 Begin"),
+    (2, "no such verb", b"2 start"),
+    (3, "room 0", b"3 begin 0"),
+    (3, "room 65,537", b"3 begin 65537"),
+    (3, "a room with a leading zero", b"3 begin 05"),
+    (3, "two rooms", b"3 begin 5 5"),
+    (3, "a room past 32 bits", b"3 begin 4294967297"),
+    (3, "a commit with a part", b"3 commit 1"),
+    (3, "an abort with a part", b"3 abort now"),
+    (3, "a graph with a branch", b"3 graph master"),
+    (3, "segments with a relation", b"3 segments items"),
+    (3, "a checkpoint with a part", b"3 checkpoint 1"),
+    (4, "on no branch", b"4 on"),
+    (4, "on an empty name", b"4 on "),
+    (4, "on two branches", b"4 on a b"),
+    (4, "on a version", b"4 on master@1"),
+    (4, "a name with a capital letter", b"4 on Master"),
+    (4, "a name with a digit first", b"4 on 1a"),
+    (4, "a name with an underscore first", b"4 on _a"),
+    (4, "a name with a hyphen", b"4 on a-b"),
+    (4, "a name of 33 bytes", b"4 on abcdefghijklmnopqrstuvwxyz0123456"),
+    (4, "a byte above 126 in a name", b"4 on a\x7f"),
+    (4, "a letter of two bytes in a name", b"4 on \xc3\xa9"),
+    (4, "a byte that is no text", b"4 on \xff"),
+    (5, "the log of nothing", b"5 log"),
+    (5, "the log of two branches", b"5 log a b"),
+    (6, "an insert without a key", b"6 insert items"),
+    (6, "an insert without values", b"6 insert items 1"),
+    (6, "an insert of 16 values", b"6 insert items 1 1 2 3 4 5 6 7 8 9 10 11 12 13 14 15 16"),
+    (6, "a key with a leading zero", b"6 insert items 01 1"),
+    (6, "a key below 0", b"6 insert items -1 1"),
+    (6, "a key past 64 bits", b"6 insert items 18446744073709551616 1"),
+    (6, "a value of minus 0", b"6 insert items 1 -0"),
+    (6, "a value with a plus sign", b"6 insert items 1 +1"),
+    (6, "a value with two signs", b"6 insert items 1 --1"),
+    (6, "a sign alone", b"6 insert items 1 -"),
+    (6, "a value with a leading zero", b"6 insert items 1 -01"),
+    (6, "a value past its range", b"6 insert items 1 9223372036854775808"),
+    (6, "a value below its range", b"6 insert items 1 -9223372036854775809"),
+    (6, "a value with a letter", b"6 insert items 1 1a"),
+    (7, "a session and a space", b"7 "),
+    (7, "an update without pairs", b"7 update items 1"),
+    (7, "an update without a key", b"7 update items a=1"),
+    (7, "a pair without a sign", b"7 update items 1 a"),
+    (7, "a pair without a value", b"7 update items 1 a="),
+    (7, "a pair without a column", b"7 update items 1 =1"),
+    (7, "a pair of two signs", b"7 update items 1 a==1"),
+    (7, "a pair in three words", b"7 update items 1 a = 1"),
+    (7, "a pair of minus 0", b"7 update items 1 a=-0"),
+    (7, "a new value of the key", b"7 update items 1 key=1"),
+    (7, "a column twice", b"7 update items 1 a=1 b=2 a=3"),
+    (7, "16 pairs", b"7 update items 1 a=1 b=1 c=1 d=1 e=1 f=1 g=1 h=1 i=1 j=1 k=1 l=1 m=1 n=1 o=1 p=1"),
+    (8, "a deletion without a key", b"8 delete items"),
+    (8, "a deletion of two keys", b"8 delete items 1 2"),
+    (8, "a get without a key", b"8 get items"),
+    (8, "a get of two keys", b"8 get items 1 2"),
+    (8, "a get in no version", b"8 get items 1 in"),
+    (8, "a get in two versions", b"8 get items 1 in a b"),
+    (8, "a get in heads", b"8 get items 1 in heads"),
+    (8, "a get of a version without `in`", b"8 get items 1 of a"),
+    (8, "a get under a condition", b"8 get items 1 where a = 1"),
+    (8, "a version without a position", b"8 get items 1 in a@"),
+    (8, "a version without a branch", b"8 get items 1 in @1"),
+    (8, "a position with a leading zero", b"8 get items 1 in a@01"),
+    (8, "a position past 64 bits", b"8 get items 1 in a@18446744073709551616"),
+    (8, "a version of two positions", b"8 get items 1 in a@1@2"),
+    (9, "a scan of nothing", b"9 scan"),
+    (9, "a scan of two relations", b"9 scan items notes"),
+    (9, "a scan in nothing", b"9 scan items in"),
+    (9, "a scan in a list with a space", b"9 scan items in a, b"),
+    (9, "a scan with a comma at its end", b"9 scan items in a,"),
+    (9, "a scan with two commas", b"9 scan items in a,,b"),
+    (9, "a scan in heads and a branch", b"9 scan items in heads,a"),
+    (9, "a scan where nothing", b"9 scan items where"),
+    (9, "a term without a value", b"9 scan items where a ="),
+    (9, "a term in one word", b"9 scan items where a=1"),
+    (9, "no such comparison", b"9 scan items where a == 1"),
+    (9, "a comparison turned round", b"9 scan items where a => 1"),
+    (9, "a key below 0 in a term", b"9 scan items where key = -1"),
+    (9, "a value past its range in a term", b"9 scan items where a = 9223372036854775808"),
+    (9, "a value for a column", b"9 scan items where 1 = a"),
+    (9, "a term behind `or`", b"9 scan items where a = 1 or b = 1"),
+    (9, "a term behind a term", b"9 scan items where a = 1 b = 1"),
+    (9, "an `and` at the end", b"9 scan items where a = 1 and"),
+    (9, "`where` twice", b"9 scan items where a = 1 where b = 1"),
+    (9, "a condition before the versions", b"9 scan items where a = 1 in heads"),
+    (9, "17 terms", b"9 scan items where a = 1" + b" and a = 1" * 16),
+    (9, "65 versions", b"9 scan items in a" + b",a" * 64),
+    (10, "a join of one version", b"10 join items notes a"),
+    (10, "a join of three versions", b"10 join items notes a b c"),
+    (10, "a join of versions with a comma", b"10 join items notes a,b"),
+    (10, "a minus of one version", b"10 minus items a"),
+    (10, "a minus of three versions", b"10 minus items a b c"),
+    (10, "a minus under a condition", b"10 minus items a b where a = 1"),
+    (11, "a branch of nothing", b"11 branch a of"),
+    (11, "a branch in place of a word", b"11 branch a in b"),
+    (11, "a branch of two versions", b"11 branch a of b c"),
+    (11, "a branch of a position as its name", b"11 branch a@1 of b"),
+    (12, "a merge of nothing", b"12 merge"),
+    (12, "a merge of a version", b"12 merge a@1"),
+    (12, "a merge by neither side", b"12 merge a neither"),
+    (12, "a merge by both sides", b"12 merge a left right"),
+    *((13, "the word `%s` as a name" % word, b"13 on " + word.encode()) for word in ("all", "and", "catalogue", "heads", "in", "key", "left", "of", "right", "where")),
+)
+
+NAME = b"abcdefghijklmnopqrstuvwxyz012345"
+
+
+def longest(bytes_more):
+    """A scan in 64 versions under 11 terms, of 4,096 bytes and some more."""
+    line = b"7 scan items in " + (NAME + b"@18446744073709551615,") * 63 + b"master where " + (NAME + b" >= -9223372036854775808 and ") * 10 + NAME + b" >= -922337203685477580"
+    assert len(line) == 4096
+    return line + b"8" * bytes_more
+
+
+# The most that a line may have, and what it is answered.
+MOST = (
+    ("16 terms", b"9 scan items where a = 1" + b" and a = 1" * 15, b"rows 0"),
+    ("64 versions", b"9 scan items in master" + b",master" * 63, b"rows 0"),
+    ("a line of 4,096 bytes", longest(0), b"refused 3 no column " + NAME),
+    ("a line of 4,097 bytes", longest(1), b"refused 1 bad line"),
+)
+
+
+def refused():
+    """A block: each row is a bad line."""
+    return b"".join(b"> " + line + b"\nrefused 1 bad line\n" for _, _, line in ROWS) + b"".join(b"> " + line + b"\n" + reply + b"\n" for _, line, reply in MOST)
+
+
+def passed_over():
+    """A block: the sessions of all rows are held by session 1, so each row of theirs is passed over, and those of no session are still bad lines."""
+    held = b"".join(b"> %d begin\nok\n> %d get items 1\nrefused 8 held master by 1\n" % (session, session) for session in sorted({session for session, _, _ in ROWS} - {0}))
+    rows = b"".join(b"> " + line + (b"\nrefused 18 skipped\n" if session else b"\nrefused 1 bad line\n") for session, _, line in ROWS)
+    return b"> 1 begin\nok\n> 1 insert items 1 1 1\nok\n" + held + rows + b"> " + longest(1) + b"\nrefused 18 skipped\n"
