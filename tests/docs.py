@@ -407,7 +407,7 @@ def checks_itself():
     for row, expected in WRONG_CLAIMS:
         found = list(check_claim("db_store", cells(row)))
         yield expected, found == [expected], found
-    found = list(check_claim("db_store", cells("| x | `Store::view`: `table`; `View::rows_are` | `changes_by_the_table` | `one_key_too_many` |")))
+    found = list(check_claim("db_store", cells("| x | `Store::view`: `table`; `View::rows_are` | `entries_fit_by_the_table` | `one_key_too_many` |")))
     yield "a claim that holds", found == [], found
     for *edits, expected in WRONG_EDITS:
         found = list(check_edits(*edits))

@@ -18,6 +18,8 @@ const DESCENDING: [u8; 46] = [
     0, 0, 0, 0, 0, 0, 0, 0, 0, 0, 0, 0, 0, 0,
 ];
 
+const BRANCH: &[u8] = b"\x02\x03dev\x00\x00\x00\x00\x01\x00\x00\x00";
+
 #[test]
 fn spells_a_commit(rt: HostRuntime) -> Result<(), Fail> {
     let alloc = rt.alloc();
@@ -36,64 +38,51 @@ fn spells_a_commit(rt: HostRuntime) -> Result<(), Fail> {
     Ok(())
 }
 
-// How many bytes are the entry at the front, if one is there.
-fn size_of(alloc: Global, bytes: &[u8]) -> Result<Option<usize>, EntryStop> {
-    match decode(alloc, bytes) {
+// How many bytes are the entry at the front, if one is there. One byte was changed.
+fn size_with(
+    alloc: Global,
+    bytes: &[u8],
+    count: usize,
+    place: usize,
+    byte: u8,
+) -> Result<Option<usize>, Fail> {
+    let mut bytes = Vec::from_slice(alloc, bytes.get(..count).ok_or("too few bytes")?)?;
+    if place < bytes.len() {
+        bytes[place] = byte;
+    }
+    match decode(alloc, &bytes) {
         Ok((_, read)) => Ok(Some(read)),
         Err(EntryStop::NotAnEntry) => Ok(None),
-        Err(stop) => Err(stop),
+        Err(EntryStop::Memory) => Err("no memory".into()),
     }
 }
 
 #[rattlefmt::skip]
-const FRONTS: [(&str, &[u8], usize, Option<usize>); 7] = [
-    // what stands at the front          the bytes, how many of them, its size
-    ("a commit",                         &ONE,                                                   36,               Some(36)),
-    ("a commit without its last byte",   &ONE,                                                   35,               None),
-    ("changes that descend",             &DESCENDING,                                            46,               None),
-    ("no byte",                          &ONE,                                                   0,                None),
-    ("a new branch",                     b"\x02\x03dev\x00\x00\x00\x00\x01\x00\x00\x00",          13,               Some(13)),
-    ("a new branch without a name",      b"\x02\x00\x00\x00\x00\x00\x01\x00\x00\x00",             10,               None),
-    ("no entry's first byte",            b"\x03\x03dev\x00\x00\x00\x00\x01\x00\x00\x00",          13,               None),
+const READ: [(&str, &[u8], usize, usize, u8, Option<usize>); 17] = [
+    // what stands at the front             the bytes    how many, one of them   its size
+    ("a commit",                            &ONE,        36,       0,  1,        Some(36)),
+    ("a commit without its last byte",      &ONE,        35,       0,  1,        None),
+    ("changes that descend",                &DESCENDING, 46,       0,  1,        None),
+    ("changes that ascend",                 &DESCENDING, 46,       38, 2,        Some(46)),
+    ("no byte",                             &ONE,        0,        0,  1,        None),
+    ("a new branch",                        BRANCH,      13,       0,  2,        Some(13)),
+    ("a new branch without a name",         BRANCH,      13,       1,  0,        None),
+    ("no entry's first byte",               BRANCH,      13,       0,  3,        None),
+    ("a commit that begins so",             &ONE,        36,       0,  3,        None),
+    ("the tag of the second parent",        &ONE,        36,       5,  2,        None),
+    ("a count that the bytes don't hold",   &ONE,        36,       6,  2,        None),
+    ("a count of nothing",                  &ONE,        36,       6,  0,        None),
+    ("a relation past the last",            &ONE,        36,       10, 8,        None),
+    ("a field count of 16",                 &ONE,        36,       11, 16,       None),
+    ("a field count past the end",          &ONE,        36,       11, 3,        None),
+    ("one field, and surplus bytes",        &ONE,        36,       11, 1,        Some(28)),
+    ("a deletion, and surplus bytes",       &ONE,        36,       11, 0,        Some(20)),
 ];
 
 #[test]
 fn reads_by_the_table(rt: HostRuntime) -> Result<(), Fail> {
-    for (name, bytes, count, size) in &FRONTS {
-        let front = bytes.get(..*count).ok_or("too few bytes")?;
-        same(&rt, name, size_of(rt.alloc(), front)?, *size);
-    }
-    Ok(())
-}
-
-#[rattlefmt::skip]
-const SPOILT: [(&str, usize, u8, Option<usize>); 10] = [
-    // what is spoilt                      place byte  size
-    ("nothing",                            0,    1,    Some(36)),
-    ("the first byte",                     0,    3,    None),
-    ("the tag of the second parent",       5,    2,    None),
-    ("a count that the bytes don't hold",  6,    2,    None),
-    ("a count of nothing",                 6,    0,    None),
-    ("a relation past the last",           10,   8,    None),
-    ("a field count of 16",                11,   16,   None),
-    ("a field count past the end",         11,   3,    None),
-    ("one field, and surplus bytes",       11,   1,    Some(28)),
-    ("a deletion, and surplus bytes",      11,   0,    Some(20)),
-];
-
-// The bytes of the entry with another one at a place.
-fn spoilt(place: usize, byte: u8) -> [u8; 36] {
-    let mut bytes = ONE;
-    if place < 36 {
-        bytes[place] = byte;
-    }
-    bytes
-}
-
-#[test]
-fn reads_spoilt_commits_by_the_table(rt: HostRuntime) -> Result<(), Fail> {
-    for (name, place, byte, size) in &SPOILT {
-        let read = size_of(rt.alloc(), &spoilt(*place, *byte))?;
+    for (name, bytes, count, place, byte, size) in &READ {
+        let read = size_with(rt.alloc(), bytes, *count, *place, *byte)?;
         same(&rt, name, read, *size);
     }
     Ok(())

@@ -1,26 +1,36 @@
-//! Tests of entries, of stores, of working tables, of merges, and of questions to versions of a
-//! plain store. Nothing here is called.
+//! Tests of what a dataset in memory is made of: the structures that stand alone, entries, stores and
+//! their images, and how much questions read. Nothing here is called.
 #![tactic(auto)]
 
 #[cfg(test)]
 mod asserts;
 #[cfg(test)]
+mod branch_segments_tests;
+#[cfg(test)]
+mod commit_history_tests;
+#[cfg(test)]
 mod entry_codec_tests;
 #[cfg(test)]
-mod field_merge_tests;
+mod image_tests;
 #[cfg(test)]
-mod graph_tests;
+mod key_index_tests;
 #[cfg(test)]
-mod join_tests;
+mod lock_table_tests;
 #[cfg(test)]
-mod merge_tests;
+mod made;
 #[cfg(test)]
-mod part_tests;
+mod plain_bits_tests;
 #[cfg(test)]
-mod plain_tests;
+mod plain_store_tests;
 #[cfg(test)]
-mod scan_tests;
+mod read_tests;
+#[cfg(test)]
+mod record_page_tests;
+#[cfg(test)]
+mod segment_tests;
+#[cfg(test)]
+mod version_graph_tests;
 #[cfg(test)]
 mod watched;
 #[cfg(test)]
-mod work_tests;
+mod work_region_tests;

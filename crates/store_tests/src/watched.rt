@@ -1,8 +1,15 @@
-//! Views that count what is read of them.
-use db_store::{PartInfo, Spot, View};
+//! Versions of a store, and views of them that count what is read.
+ghost use Rattle.std.specs.Prelude.{◌<◌, length, IfOk};
+ghost use Rattle.db_store.specs.State.{dataset_of};
+ghost use Rattle.db_store.specs.Counted.{IsTable};
+ghost use Rattle.db_store.specs.Parts.{AreOf};
+
+use crate::made::{Pair, at};
+use db_store::{PartInfo, Spot, Store, View};
 use db_value::{Record, Steps};
 use std::cell::Cell;
 use std::sync::ledger::Ledger;
+use std::test::Fail;
 
 /// A view that counts the records that are read of it.
 #[derive(Drop)]
@@ -42,4 +49,35 @@ impl<'a, V: View> View for Watched<'a, V> {
         self.reads.set(self.reads.get().wrapping_add(1));
         self.view.read(relation, spot, into, steps);
     }
+}
+
+/// A version, with a first relation.
+pub fn version<St: Store>(store: &St, place: Pair) -> Result<St::View, Fail>
+    ensures some { IfOk result (λ v. 0 < length (St.View.table v)) }
+    ensures table { IfOk result (λ v.
+        IsTable (dataset_of (St.state store.now)).schema (St.View.table v)) }
+    ensures parts { IfOk result (λ v. AreOf (St.state store.now) (St.View.parts_of v)) }
+{
+    let asked = at(place);
+    let made = asked.branch < store.branches() && asked.position <= store.last(asked.branch);
+    if !made || store.schema().relations().is_empty() {
+        return Err("no version".into());
+    }
+    let view = store.view(asked)?;
+    Ok(view)
+}
+
+/// A version whose reads are counted.
+pub fn counted<'a, St: Store>(
+    store: &St,
+    position: u32,
+    reads: &'a Cell<u32>,
+) -> Result<Watched<'a, St::View>, Fail>
+    ensures some { IfOk result (λ w. 0 < length (St.View.table w.view)) }
+    ensures table { IfOk result (λ w.
+        IsTable (dataset_of (St.state store.now)).schema (St.View.table w.view)) }
+    ensures parts { IfOk result (λ w. AreOf (St.state store.now) (St.View.parts_of w.view)) }
+{
+    let view = version(store, (0, position))?;
+    Ok(Watched { view, reads })
 }

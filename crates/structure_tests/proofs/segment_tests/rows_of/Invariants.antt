@@ -1,9 +1,0 @@
-use Rattle.std.proofs.Common.{◌≡◌, length}
-use Rattle.segment.specs.Pages.{AreWide}
-use Rattle.structure_tests.proofs.segment_tests.rows_of.Given as goal
-
-abbrev pub invariant-loop-place : goal.invariant-loop-place
-invariant-loop-place l = record {
-  count : length l.rows.items ≡ l.place;
-  wide : AreWide l.fields l.rows.items;
-}
