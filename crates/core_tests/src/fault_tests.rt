@@ -2,11 +2,11 @@
 ghost use Rattle.std.specs.Prelude.{◌≡◌};
 ghost use Rattle.db_outside.specs.Count.{counted};
 
+use crate::asserts::{are_steps, holds, is_spelled, line_of};
 use crate::desk_tests::new_store;
 use db_core::Core;
 use db_outside::{Batch, Failed};
 use db_store::Store;
-use db_value::Step;
 use entry_codec::{CheckpointStop, Log};
 use std::alloc::Global;
 use std::process::Abort;
@@ -72,79 +72,72 @@ impl<St: Store> Log<St> for Faulty {
 }
 
 // A row is whether the line has the mark, the line, and its reply.
-const ROWS: &str = "\
-marked|1 insert items 1 1 1|refused 19 fault disk;\
-|1 get items 1|none;\
-|1 insert items 1 1 1|ok master@1;\
-marked|1 branch dev of master|refused 19 fault disk;\
-|1 on dev|refused 4 no branch dev;\
-|1 branch dev of master|ok dev@0;\
-|1 begin|ok;\
-|1 insert items 2 2 2|ok;\
-|1 insert items 1 1 1|refused 6 key there items 1;\
-marked|1 commit|refused 19 fault disk;\
-|1 commit|refused 11 no transaction;\
-|1 get items 2|none;\
-|2 insert items 2 2 2|ok master@2;\
-marked|1 merge dev|refused 19 fault disk;\
-|1 merge dev|ok master@3;\
-|1 insert items 1 5 5|refused 6 key there items 1;\
-|1 abort|refused 11 no transaction;\
-marked|1 checkpoint|refused 19 fault disk;\
-|1 begin|ok;\
-|1 checkpoint|refused 10 in transaction;\
-|1 get items 1|row 1 1 1;\
-|1 commit|ok";
+const ROWS: [&str; 22] = [
+    "marked> 1 insert items 1 1 1\nrefused 19 fault disk\n",
+    "> 1 get items 1\nnone\n",
+    "> 1 insert items 1 1 1\nok master@1\n",
+    "marked> 1 branch dev of master\nrefused 19 fault disk\n",
+    "> 1 on dev\nrefused 4 no branch dev\n",
+    "> 1 branch dev of master\nok dev@0\n",
+    "> 1 begin\nok\n",
+    "> 1 insert items 2 2 2\nok\n",
+    "> 1 insert items 1 1 1\nrefused 6 key there items 1\n",
+    "marked> 1 commit\nrefused 19 fault disk\n",
+    "> 1 commit\nrefused 11 no transaction\n",
+    "> 1 get items 2\nnone\n",
+    "> 2 insert items 2 2 2\nok master@2\n",
+    "marked> 1 merge dev\nrefused 19 fault disk\n",
+    "> 1 merge dev\nok master@3\n",
+    "> 1 insert items 1 5 5\nrefused 6 key there items 1\n",
+    "> 1 abort\nrefused 11 no transaction\n",
+    "marked> 1 checkpoint\nrefused 19 fault disk\n",
+    "> 1 begin\nok\n",
+    "> 1 checkpoint\nrefused 10 in transaction\n",
+    "> 1 get items 1\nrow 1 1 1\n",
+    "> 1 commit\nok\n",
+];
 
 // How often the log fails in these rows.
 const FAULTS: u64 = 5;
 
 fn tell_row<St: Store>(
     rt: &impl Abort,
-    alloc: Global,
     core: &mut Core<St, Faulty>,
     row: &str,
 ) -> Result<(), Fail> {
-    let (_, row) = row.split_once('|').ok_or("a row of one part")?;
-    let (line, reply) = row.split_once('|').ok_or("a row of two parts")?;
-    let bytes = core.line(line.as_bytes())?;
-    let expected = format!(in alloc; "> {line}\n{reply}\n")?;
-    assert!(rt; bytes.as_slice() == expected.as_bytes(), "{line}");
+    let bytes = core.line(line_of(row)?.as_bytes())?;
+    let bytes = bytes.as_slice();
+    holds(
+        rt,
+        row,
+        is_spelled(row, "", bytes) || is_spelled(row, "marked", bytes),
+    );
     Ok(())
 }
 
-// Each step has the mark exactly if its row says so.
-fn are_marked(rt: &impl Abort, steps: &[Step]) {
-    let mut rows = ROWS.split(';');
-    for step in steps {
-        let marked = match rows.next() {
-            None => false,
-            Some(row) => row.starts_with("marked"),
-        };
-        assert_eq!(rt; step.failed, marked);
+fn tell_all<St: Store>(rt: &impl Abort, core: &mut Core<St, Faulty>) -> Result<(), Fail> {
+    for row in &ROWS {
+        tell_row(rt, core, row)?;
     }
-    assert!(rt; rows.next().is_none());
+    are_steps(rt, core.steps(), &ROWS)
 }
 
-fn tell_all<St: Store>(rt: &impl Abort, alloc: Global, store: St) -> Result<(), Fail> {
-    let log = Faulty {
-        fails: true,
-        count: 0,
-    };
+fn run<St: Store>(rt: &impl Abort, alloc: Global, store: St, log: Faulty) -> Result<(), Fail> {
     let Ok(mut core) = Core::new(alloc, store, log) else {
         return Err("no core".into());
     };
-    for row in ROWS.split(';') {
-        tell_row(rt, alloc, &mut core, row)?;
-    }
-    are_marked(rt, core.steps());
+    tell_all(rt, &mut core)?;
     let (store, log) = core.into_parts();
-    assert_eq!(rt; log.count, FAULTS);
-    assert_eq!(rt; store.last(0), 3);
+    holds(rt, "its faults", log.count == FAULTS);
+    holds(rt, "its versions", store.last(0) == 3);
     Ok(())
 }
 
 #[test]
 fn a_failed_append_refuses_its_line_alone(rt: HostRuntime) -> Result<(), Fail> {
-    tell_all(&rt, rt.alloc(), new_store(rt.alloc())?)
+    let log = Faulty {
+        fails: true,
+        count: 0,
+    };
+    run(&rt, rt.alloc(), new_store(rt.alloc())?, log)
 }

@@ -1,6 +1,7 @@
 //! A script with a checkpoint, on two files in memory of which each call fails in turn; and of each such
 //! run what a crash leaves, at each call of each file with each fill. The expected rows are written by
 //! hand.
+use crate::asserts::holds;
 use db_core::Core;
 use db_memdev::{Fill, MemDisk, MemSink};
 use db_store::Store;
@@ -16,6 +17,10 @@ const MORE_THAN_ANY: u64 = 100_000;
 
 // More calls than a run makes on one of the files.
 const MOST_CALLS: u64 = 24;
+
+// Of each file how many runs there are, up to the first one in which no call of it fails, and how many
+// pairs of files are opened after a crash.
+const TRIED: [(&str, u64, u64, u64); 2] = [("file 0", 0, 11, 159), ("file 1", 1, 14, 359)];
 
 const SCRIPT: &[u8] = b"1 insert items 1 1 1\n1 checkpoint\n1 insert items 2 2 2\n";
 
@@ -40,27 +45,27 @@ struct Ran {
     disks: Pair<MemDisk>,
 }
 
-// What was tried: runs, and openings after a crash.
-#[derive(Clone, Copy, Drop)]
-struct Tried {
-    runs: u64,
-    crashes: u64,
+// A file in memory with these bytes, of which this call fails. The first call has the number 1.
+fn file_of(alloc: Global, bytes: &[u8], call: u64) -> Result<MemDisk, Fail> {
+    let disk = MemDisk::of(alloc, bytes, &[call], MORE_THAN_ANY, MORE_THAN_ANY)?;
+    Ok(disk)
 }
 
-// A file in memory with these bytes, of which some calls fail.
-fn file_of(alloc: Global, bytes: &[u8], failing: &[u64]) -> Result<MemDisk, Fail> {
-    let disk = MemDisk::of(alloc, bytes, failing, MORE_THAN_ANY, MORE_THAN_ANY)?;
-    Ok(disk)
+fn files_of(
+    alloc: Global,
+    first: &[u8],
+    second: &[u8],
+    calls: (u64, u64),
+) -> Result<Pair<MemDisk>, Fail> {
+    let first = file_of(alloc, first, calls.0)?;
+    let second = file_of(alloc, second, calls.1)?;
+    Ok(Pair { first, second })
 }
 
 // The bytes of the first file of a new dataset.
 fn new_bytes(alloc: Global) -> Result<Vec<u8>, Fail> {
     let (schema, _) = Schema::read(alloc, b"relation items a b\nend\n")?;
-    let empty = Pair {
-        first: file_of(alloc, b"", &[])?,
-        second: file_of(alloc, b"", &[])?,
-    };
-    match create(alloc, empty, &schema) {
+    match create(alloc, files_of(alloc, b"", b"", (0, 0))?, &schema) {
         Err(_) => Err("not made".into()),
         Ok(dataset) => Ok(Vec::from_slice(alloc, dataset.into_disks().first.bytes())?),
     }
@@ -73,9 +78,8 @@ fn run_on<St: Store, J: Log<St>>(
     log: J,
     script: &[u8],
 ) -> Result<(Vec<u8>, J), Fail> {
-    let mut core = match Core::new(alloc, store, log) {
-        Ok(core) => core,
-        Err(_) => return Err("no core".into()),
+    let Ok(mut core) = Core::new(alloc, store, log) else {
+        return Err("no core".into());
     };
     let mut sink = MemSink::of(alloc, &[], MORE_THAN_ANY)?;
     let ended = run_script(&mut core, script, &mut sink);
@@ -102,14 +106,6 @@ fn run(alloc: Global, disks: Pair<MemDisk>, script: &[u8]) -> Result<Ran, Fail> 
             })
         }
     }
-}
-
-// How many lines were answered so.
-fn times(output: &[u8], reply: &[u8]) -> usize {
-    output
-        .split(|b| *b == b'\n')
-        .filter(|line| **line == *reply)
-        .count()
 }
 
 // Were the rows acknowledged, the first one and the second one?
@@ -139,32 +135,40 @@ fn may_end(answer: &[u8], stored: (bool, bool)) -> bool {
     }
 }
 
+// What is answered on files with these bytes.
+fn answer_on(alloc: Global, first: &[u8], second: &[u8]) -> Result<Vec<u8>, Fail> {
+    let ran = run(alloc, files_of(alloc, first, second, (0, 0))?, QUESTION)?;
+    Ok(ran.output)
+}
+
+// What a crash leaves of a file at a call with a fill, if that isn't in the list.
+fn leave(
+    alloc: Global,
+    disk: &MemDisk,
+    call: u64,
+    fill: Fill,
+    all: &mut Vec<Vec<u8>>,
+) -> Result<(), Fail> {
+    let stopped = disk.stop(call, fill)?;
+    let bytes = Vec::from_slice(alloc, stopped.bytes())?;
+    if !all.contains(&bytes) {
+        all.push(bytes)?;
+    }
+    Ok(())
+}
+
 // What a crash leaves of a file: at each call with each fill, each once.
 fn left_of(alloc: Global, disk: &MemDisk) -> Result<Vec<Vec<u8>>, Fail> {
     let mut all: Vec<Vec<u8>> = Vec::new(alloc);
     for call in 0..=MOST_CALLS {
-        for fill in [Fill::Old, Fill::New, Fill::Byte(1)] {
-            let stopped = disk.stop(call, fill)?;
-            let bytes = Vec::from_slice(alloc, stopped.bytes())?;
-            if !all.contains(&bytes) {
-                all.push(bytes)?;
-            }
-        }
+        leave(alloc, disk, call, Fill::Old, &mut all)?;
+        leave(alloc, disk, call, Fill::New, &mut all)?;
+        leave(alloc, disk, call, Fill::Byte(1), &mut all)?;
     }
     Ok(all)
 }
 
-// What is answered on files with these bytes.
-fn answer_on(alloc: Global, first: &[u8], second: &[u8]) -> Result<Vec<u8>, Fail> {
-    let disks = Pair {
-        first: file_of(alloc, first, &[])?,
-        second: file_of(alloc, second, &[])?,
-    };
-    let ran = run(alloc, disks, QUESTION)?;
-    Ok(ran.output)
-}
-
-// A crash while the script ran left these bytes.
+// A crash while the script ran left these bytes of both files.
 fn crash_with(
     rt: &impl Abort,
     alloc: Global,
@@ -173,105 +177,81 @@ fn crash_with(
     stored: (bool, bool),
 ) -> Result<(), Fail> {
     let answer = answer_on(alloc, first, second)?;
-    assert!(rt; may_show(&answer, stored), "a crash while it ran");
+    holds(rt, "a crash while it ran", may_show(&answer, stored));
     Ok(())
 }
 
-// Each of the first files with each of the second. Tells how many pairs of files were opened.
+// Each of the first files with each of the second, counted.
 fn crash_pairs(
     rt: &impl Abort,
     alloc: Global,
     firsts: &[Vec<u8>],
     seconds: &[Vec<u8>],
     stored: (bool, bool),
-) -> Result<u64, Fail> {
-    let mut tried = 0u64;
+    tried: &mut u64,
+) -> Result<(), Fail> {
     for first in firsts {
         for second in seconds {
             crash_with(rt, alloc, first, second, stored)?;
-            tried = tried.saturating_add(1);
+            *tried = tried.saturating_add(1);
         }
     }
-    Ok(tried)
-}
-
-// A crash behind the script.
-fn crash_behind(
-    rt: &impl Abort,
-    alloc: Global,
-    ran: &Ran,
-    stored: (bool, bool),
-) -> Result<(), Fail> {
-    let answer = answer_on(alloc, ran.disks.first.bytes(), ran.disks.second.bytes())?;
-    assert!(rt; may_end(&answer, stored), "at the end");
     Ok(())
 }
 
-// A crash of each file at each call. Tells how many pairs of files were opened.
-fn crash(rt: &impl Abort, alloc: Global, ran: &Ran) -> Result<u64, Fail> {
+// A crash behind the script, and one of each file at each call.
+fn crash(rt: &impl Abort, alloc: Global, ran: &Ran, tried: &mut u64) -> Result<(), Fail> {
     let stored = acknowledged(&ran.output);
-    crash_behind(rt, alloc, ran, stored)?;
-    let firsts = left_of(alloc, &ran.disks.first)?;
-    let seconds = left_of(alloc, &ran.disks.second)?;
-    crash_pairs(rt, alloc, &firsts, &seconds, stored)
+    let (one, two) = (&ran.disks.first, &ran.disks.second);
+    let answer = answer_on(alloc, one.bytes(), two.bytes())?;
+    holds(rt, "at the end", may_end(&answer, stored));
+    let firsts = left_of(alloc, one)?;
+    let seconds = left_of(alloc, two)?;
+    crash_pairs(rt, alloc, &firsts, &seconds, stored, tried)
 }
 
-// The script on files of which a call fails.
-fn run_failing(alloc: Global, new: &[u8], file: u64, call: u64) -> Result<Ran, Fail> {
-    let failing = [call];
-    let (first, second): (&[u64], &[u64]) = if file == 0 {
-        (&failing, &[])
-    } else {
-        (&[], &failing)
-    };
-    let disks = Pair {
-        first: file_of(alloc, new, first)?,
-        second: file_of(alloc, b"", second)?,
-    };
-    run(alloc, disks, SCRIPT)
+// Was no call of a file failed? At most one line is told that the disk failed.
+fn is_whole(rt: &impl Abort, output: &[u8]) -> bool {
+    let failed = output
+        .split(|b| *b == b'\n')
+        .filter(|line| **line == *b"refused 19 fault disk".as_slice())
+        .count();
+    holds(rt, "at most one line failed", failed <= 1);
+    let whole = failed == 0 && !output.is_empty();
+    holds(
+        rt,
+        "all is acknowledged",
+        !whole || acknowledged(output) == (true, true),
+    );
+    whole
 }
 
-// A run of which a call failed, and what a crash leaves of it. Was the call behind its last one?
-fn try_crashes(
-    rt: &impl Abort,
-    alloc: Global,
-    ran: &Ran,
-    call: u64,
-    tried: &mut Tried,
-) -> Result<bool, Fail> {
-    let failed = times(&ran.output, b"refused 19 fault disk");
-    assert!(rt; failed <= 1, "one call failed, and {failed} lines");
-    tried.runs = tried.runs.saturating_add(1);
-    tried.crashes = tried.crashes.saturating_add(crash(rt, alloc, ran)?);
-    if failed != 0 || ran.output.is_empty() {
-        return Ok(false);
-    }
-    assert!(rt; acknowledged(&ran.output) == (true, true), "call {call}");
-    Ok(true)
-}
-
-// A call of a file fails. Was it behind the last one of the run?
+// The script on files of which a call fails. Was the call behind the last one of the file?
 fn fail_at(
     rt: &impl Abort,
     alloc: Global,
     new: &[u8],
     file: u64,
     call: u64,
-    tried: &mut Tried,
+    tried: &mut u64,
 ) -> Result<bool, Fail> {
-    let ran = run_failing(alloc, new, file, call)?;
-    try_crashes(rt, alloc, &ran, call, tried)
+    let calls = if file == 0 { (call, 0) } else { (0, call) };
+    let ran = run(alloc, files_of(alloc, new, b"", calls)?, SCRIPT)?;
+    crash(rt, alloc, &ran, tried)?;
+    Ok(is_whole(rt, &ran.output))
 }
 
-// Each call of a file fails in turn, until a run makes fewer.
-fn fail_each(rt: &impl Abort, alloc: Global, new: &[u8], file: u64) -> Result<Tried, Fail> {
-    let mut tried = Tried {
-        runs: 0,
-        crashes: 0,
-    };
+// Each call of a file fails in turn, until a run makes fewer. Tells how many runs there were.
+fn fail_each(
+    rt: &impl Abort,
+    alloc: Global,
+    new: &[u8],
+    file: u64,
+    tried: &mut u64,
+) -> Result<u64, Fail> {
     for call in 1..MOST_CALLS {
-        if fail_at(rt, alloc, new, file, call, &mut tried)? {
-            return Ok(tried);
+        if fail_at(rt, alloc, new, file, call, tried)? {
+            return Ok(call);
         }
     }
     Err("each run failed".into())
@@ -279,13 +259,12 @@ fn fail_each(rt: &impl Abort, alloc: Global, new: &[u8], file: u64) -> Result<Tr
 
 #[test]
 fn keeps_acknowledged_rows_beside_a_checkpoint(rt: HostRuntime) -> Result<(), Fail> {
-    let alloc = rt.alloc();
-    let new = new_bytes(alloc)?;
-    for file in 0..2u64 {
-        let tried = fail_each(&rt, alloc, &new, file)?;
-        let (runs, crashes) = (tried.runs, tried.crashes);
-        println!(rt; "file {file}: {runs} runs, {crashes} pairs of files after a crash")?;
-        assert!(rt; runs > 4 && crashes > runs, "file {file}");
+    let new = new_bytes(rt.alloc())?;
+    for (name, file, runs, pairs) in &TRIED {
+        let mut tried = 0u64;
+        let ran = fail_each(&rt, rt.alloc(), &new, *file, &mut tried)?;
+        println!(rt; "{name}: {ran} runs, {tried} pairs of files after a crash")?;
+        holds(&rt, name, ran == *runs && tried == *pairs);
     }
     Ok(())
 }
