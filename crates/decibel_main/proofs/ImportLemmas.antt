@@ -1,5 +1,5 @@
 -- An import on a log, and on two files.
-use Rattle.std.proofs.Common.{◌≡◌, ◌∙◌, ◌-◌, ◌^◌, ◌<◌, [], ◌∷◌, List, ℕ, Bool, true, false, cond, nat_lt, map, refl, sym, ap, subst, arith, Option, None}
+use Rattle.std.proofs.Common.{◌≡◌, ◌∙◌, ◌-◌, ◌^◌, ◌<◌, ◌≤◌, [], ◌∷◌, List, ℕ, Bool, true, false, cond, nat_lt, map, refl, sym, ap, subst, arith, Option, None}
 use Rattle.std.specs.Prelude.{Result, Ok, Err, OnOk, IfErr}
 use Rattle.std.specs.Result.{is_ok}
 use Rattle.std.proofs.lemmas.Bool.{ltb-true, ltb-false}
@@ -28,10 +28,11 @@ use Rattle.db_core.specs.Accounts.{StoresAll, NoneCheckpoints}
 use Rattle.db_core.specs.Runs.{Runs}
 use Rattle.db_core.proofs.Storing.{stores_none, no_image_law}
 use Rattle.decibel_main.specs.Ends.{IsRowsStatus, IsUntouched}
+use Rattle.decibel_main.specs.Faults.{EndsByBytes}
 use Rattle.decibel_main.specs.Imports.{imported_text, line_refused, stop_status, TellsMade, EndedBy, EndsImport, ImportsAll, ImportsLog, RunsImport}
 use Rattle.decibel_main.specs.declared.status.Status.{Status}
 use Rattle.decibel_main.specs.declared.status.Status.TheVariants.{Done, Usage, NotDataset, Damaged, ReadFault, WriteFault, DiskFault, TooLong, Memory, AlreadyThere, BadLine}
-use Rattle.decibel_main.proofs.ScriptLemmas.{log_of, runs_on}
+use Rattle.decibel_main.proofs.ScriptLemmas.{none_rose, log_of, runs_on}
 
 -- a count that is told to be greater is greater
 pub counted_less : (a b : ℕ) → counted a < counted b → a < b
@@ -96,6 +97,39 @@ made_row : {P : Type 0} (made : Imported) (rose : Bool) (n : ℕ) (status : Stat
 made_row made true n status before after is e = absurd (cc (sym is ∙ e.0))
 made_row made false n status before after is e = absurd (subst (λ (t : Status). TellsMade made t before after) is e)
 
+-- what ends by bytes touches no disk
+pub bytes_untouched : (status : Status) → EndsByBytes status → IsUntouched status
+bytes_untouched NotDataset bytes = tt
+bytes_untouched (Damaged file at) bytes = tt
+bytes_untouched AlreadyThere bytes = tt
+bytes_untouched (BadLine n) bytes = tt
+bytes_untouched Done bytes = absurd bytes
+bytes_untouched Usage bytes = absurd bytes
+bytes_untouched ReadFault bytes = absurd bytes
+bytes_untouched WriteFault bytes = absurd bytes
+bytes_untouched DiskFault bytes = absurd bytes
+bytes_untouched TooLong bytes = absurd bytes
+bytes_untouched Memory bytes = absurd bytes
+
+-- no import that stopped ends with status Done
+not_done : (stop : ImportStop) (rose : Bool) → stop_status rose stop ≡ Done → ⊥
+not_done (BadRow row) rose is = cc is
+not_done NoRelation rose is = cc is
+not_done (KeyThere row) rose is = cc is
+not_done (Full row) rose is = cc is
+not_done LogFailed true is = cc is
+not_done LogFailed false is = cc is
+not_done NoMemory rose is = cc is
+
+-- and none whose log failed
+not_rose : (imported : Result Imported ImportStop) (rose : Bool) (before after : Option (List ℕ)) → EndedBy imported rose Done before after → rose ≡ false
+not_rose (Ok made) true before after e = absurd (cc e.0)
+not_rose (Ok made) false before after e = refl
+not_rose (Err stop) rose before after e = absurd (not_done stop rose (sym e.0))
+
+not_less : (a b : ℕ) → nat_lt a b ≡ false → b ≤ a
+not_less a b is = omega (arith, ltb-false a b is)
+
 module _ {L S V P Q : Type 0} (j : LogGhosts L S V P Q) where
   -- a row that is refused spares the log
   row_spares : (old new : Logged L) (stop : ImportStop) (rose : Bool) (n : ℕ) → stop_status rose stop ≡ BadLine n → StopsAs j.faults old new stop → new.log ≡ old.log
@@ -134,6 +168,7 @@ module _ {L S V P Q : Type 0} (j : LogGhosts L S V P Q) where
     ends = refl;
     others = tt;
     spared = λ n is. absurd (cc is);
+    count = λ is. absurd (cc is);
   }
 
   module _ (s : State) (k m : Logged L) (relation input : List ℕ) (rose : Bool) (status : Status) (before after : Option (List ℕ)) (world : world_of k.kept ≡ opening s) where
@@ -148,8 +183,9 @@ module _ {L S V P Q : Type 0} (j : LogGhosts L S V P Q) where
         → OnOk imported (RunsToEnd j k m lines)
         → IfErr imported (StopsAs j.faults k m)
         → EndedBy imported rose status before after
+        → rose ≡ nat_lt (counted (j.faults k.log)) (counted (j.faults m.log))
         → Log s k.log m.log relation input status before after
-    by_result (Ok made) tells first all stops e = record {
+    by_result (Ok made) tells first all stops e is_rose = record {
       ran = map unmarked lines;
       rest = [];
       lines = all.0.lines;
@@ -157,8 +193,10 @@ module _ {L S V P Q : Type 0} (j : LogGhosts L S V P Q) where
       ends = ends_made (import_told s relation input) (map unmarked lines) [] before after made rose status (tells, refl, none_marked lines) e;
       others = all.1;
       spared = λ n is. made_row made rose n status before after is e;
+      count = λ is below. none_rose (j.faults k.log) (j.faults m.log) (stores_at (map unmarked lines) [] all.0).later
+          (not_less _ _ (sym is_rose ∙ not_rose (Ok made) rose before after (subst (λ (t : Status). EndedBy (Ok made) rose t before after) is e))) below;
     }
-    by_result (Err stop) tells first all stops e = record {
+    by_result (Err stop) tells first all stops e is_rose = record {
       ran = first.0;
       rest = first.1;
       lines = first.2.lines;
@@ -166,25 +204,27 @@ module _ {L S V P Q : Type 0} (j : LogGhosts L S V P Q) where
       ends = subst (λ (t : Status). EndsImport t (import_told s relation input) first.0 first.1 before after) (sym e.0) (ends_stop (import_told s relation input) first.0 first.1 before after stop rose tells e.1);
       others = first.3;
       spared = λ n is. row_spares k m stop rose n (sym e.0 ∙ is) stops;
+      count = λ is. absurd (not_done stop rose (sym e.0 ∙ is));
     }
 
   -- an import into a core on which nothing was run before
-  pub imports_told : (k m : Logged L) (s : State) (n : ℕ) (log log' : L) (relation input : List ℕ) (rose : Bool) (status : Status) (before after : Option (List ℕ)) (imported : Result Imported ImportStop)
-      → k.kept ≡ new_kept s n → k.log ≡ log → log' ≡ m.log
+  pub imports_told : (k m : Logged L) (s : State) (n : ℕ) (log log' : L) (relation input : List ℕ) (rose : Bool) (status : Status) (before after : Option (List ℕ)) (imported : Result Imported ImportStop) (x y : ℕ)
+      → k.kept ≡ new_kept s n → k.log ≡ log → log' ≡ m.log → x ≡ counted (j.faults log) → y ≡ counted (j.faults log') → rose ≡ nat_lt x y
       → Tells (import_told k.kept.now relation input) imported
       → RunsFirst j k m (lines_told k.kept.now relation input)
       → OnOk imported (RunsToEnd j k m (lines_told k.kept.now relation input))
       → IfErr imported (StopsAs j.faults k m)
       → EndedBy imported rose status before after
       → Log s log log' relation input status before after
-  imports_told k m s n log log' relation input rose status before after imported kept same after_is tells first all stops e =
+  imports_told k m s n log log' relation input rose status before after imported x y kept same after_is is_x is_y is_rose tells first all stops e =
       let now : k.kept.now ≡ s = ap (λ (x : Kept). x.now) kept in
       subst (λ (p : L × L). Log s p.0 p.1 relation input status before after) (λ i. (same i, sym after_is i))
       (by_result s k m relation input rose status before after (ap (λ (x : Kept). world_of x) kept) imported
       (subst (λ (x : State). Tells (import_told x relation input) imported) now tells)
       (subst (λ (x : State). RunsFirst j k m (lines_told x relation input)) now first)
       (subst (λ (x : State). OnOk imported (RunsToEnd j k m (lines_told x relation input))) now all)
-      stops e)
+      stops e
+      (is_rose ∙ (λ i. nat_lt ((is_x ∙ ap (λ (l : L). counted (j.faults l)) (sym same)) i) ((is_y ∙ ap (λ (l : L). counted (j.faults l)) after_is) i))))
 
 -- ---- on two files
 

@@ -16,7 +16,7 @@ use Rattle.generations.specs.declared.pair.Pair.{Pair}
 use Rattle.generations.specs.Datasets.{pair_in, generation_in, counted_in, place_in, KeepsIn, OwesIn, moment_in, OpensNowIn, OpensSinceIn, QuietIn}
 use Rattle.generations.specs.Files.{opened, counts, reads}
 use Rattle.generations.specs.Given.{opening_of}
-use Rattle.generations.specs.Pairs.{moments_of, AreAllOnDisk, RoseInOne, BothOnlyRead}
+use Rattle.generations.specs.Pairs.{moments_of, AreAllOnDisk, NoneRose, BothOnlyRead}
 use Rattle.generations.specs.Reopens.{StaysQuiet}
 use Rattle.script_run.specs.declared.run.RunStop.{RunStop}
 use Rattle.script_run.specs.declared.run.RunStop.TheVariants.{Fault, Memory as NoMemory}
@@ -28,7 +28,8 @@ use Rattle.db_core.proofs.Grouping.{unfailed_groups_law}
 use Rattle.script_run.specs.Runs.{RunsAll, RunsCut, RunsWhole}
 use Rattle.script_run.proofs.OutputLemmas.{out_end}
 use Rattle.db_core.proofs.Storing.{few_alone, stores_none, may_any, unfailed_law, one_opening_law}
-use Rattle.decibel_main.specs.Ends.{IsEndOf}
+use Rattle.decibel_main.specs.Ends.{IsEndOf, IsRanStatus}
+use Rattle.decibel_main.specs.Faults.{EndsByBytes, TellsDisks}
 use Rattle.decibel_main.specs.Images.{OpensNow, OpensSince, faults_in}
 use Rattle.decibel_main.specs.Scripts.{GivesAs, RunsLog, RunsOn, RunsScript}
 use Rattle.decibel_main.specs.declared.status.Status.{Status}
@@ -46,6 +47,10 @@ counted_below n below = by (nat_lt n (2 ^ 64 - 1)) (search (arith, below))
 pub none_failed : (n old new : ℕ) → (new < 2 ^ 64 - 1 → n + old ≤ new) → old ≤ new → counted new ≤ counted old → new < 2 ^ 64 - 1 → n ≡ 0
 none_failed n old new few later le below =
     omega (arith, few below, le, counted_below new below, counted_below old (omega (arith, later, below)))
+
+-- so its count is what it was
+pub none_rose : (old new : ℕ) → old ≤ new → counted new ≤ counted old → new < 2 ^ 64 - 1 → new ≡ old
+none_rose old new later le below = omega (arith, later, le, counted_below new below, counted_below old (omega (arith, later, below)))
 
 -- what holds after Ok
 pub ok_of : {T E P : Type 0} (r : Result T E) (x : T) → r ≡ Ok x → OnOk r P → P
@@ -65,6 +70,7 @@ module _ {L S V P Q : Type 0} (j : LogGhosts L S V P Q) where
     stores = stores_none j w log;
     answers = ([], inl refl, λ old h. h ∙ ap Some (sym (append-nil old) ∙ ap (λ t. old ++ t) (sym (out_end w))));
     unfailed = λ is. absurd (cc is);
+    count = λ is. absurd (cc is);
   }
 
   module _ (k m : Logged L) (all : List (List ℕ)) (before written : Option (List ℕ)) where
@@ -88,16 +94,17 @@ module _ {L S V P Q : Type 0} (j : LogGhosts L S V P Q) where
       stores = a.runs.stores;
       answers = (refl, a.answers);
       unfailed = λ is below. none_failed (failures a.ran) (j.faults k.log) (j.faults m.log) (few_alone j (world_of k.kept) a.ran k.log m.log a.runs.stores) a.runs.stores.later le below;
+      count = λ is below. none_rose (j.faults k.log) (j.faults m.log) a.runs.stores.later le below;
     }
 
     of_fault : All → Of DiskFault
-    of_fault a = record { ran = a.ran; rest = []; lines = a.runs.lines; stores = a.runs.stores; answers = (refl, a.answers); unfailed = λ is. absurd (cc is) }
+    of_fault a = record { ran = a.ran; rest = []; lines = a.runs.lines; stores = a.runs.stores; answers = (refl, a.answers); unfailed = λ is. absurd (cc is); count = λ is. absurd (cc is) }
 
     of_cut : Cut → Of WriteFault
-    of_cut a = record { ran = a.done ++ a.last ∷ []; rest = a.rest; lines = a.runs.lines; stores = a.runs.stores; answers = (a.done, a.last, refl, a.answers); unfailed = λ is. absurd (cc is) }
+    of_cut a = record { ran = a.done ++ a.last ∷ []; rest = a.rest; lines = a.runs.lines; stores = a.runs.stores; answers = (a.done, a.last, refl, a.answers); unfailed = λ is. absurd (cc is); count = λ is. absurd (cc is) }
 
     of_whole : Whole → Of Memory
-    of_whole a = record { ran = a.ran; rest = a.rest; lines = a.runs.lines; stores = a.runs.stores; answers = (a.done, a.one_more, a.answers); unfailed = λ is. absurd (cc is) }
+    of_whole a = record { ran = a.ran; rest = a.rest; lines = a.runs.lines; stores = a.runs.stores; answers = (a.done, a.one_more, a.answers); unfailed = λ is. absurd (cc is); count = λ is. absurd (cc is) }
 
     module _ (ran : Result (Unit {0}) RunStop) (all_of : OnOk ran All) (cut_of : IsErrOf ran Fault → Cut) (whole_of : IsErrOf ran NoMemory → Whole) where
       pub runs_by : (status : Status) → IsEndOf status ran (counted (j.faults k.log)) (counted (j.faults m.log)) → Of status
@@ -124,6 +131,20 @@ module _ {L S V P Q : Type 0} (j : LogGhosts L S V P Q) where
       subst (λ (p : World × L × L). Log p.0 p.1 p.2 all status before written) (λ i. (world_of (kept i), same i, sym after i))
       (runs_by k m all before written ran all_of cut_of whole_of status
       (subst (λ (p : ℕ × ℕ). IsEndOf status ran p.0 p.1) (λ i. ((is_x ∙ ap (λ (l : L). counted (j.faults l)) (sym same)) i, (is_y ∙ ap (λ (l : L). counted (j.faults l)) after) i)) end))
+
+-- lines that were run don't end by bytes
+pub ran_not : {P : Type 0} (status : Status) → IsRanStatus status → EndsByBytes status → P
+ran_not NotDataset ran bytes = absurd ran
+ran_not (Damaged file at) ran bytes = absurd ran
+ran_not AlreadyThere ran bytes = absurd ran
+ran_not (BadLine n) ran bytes = absurd ran
+ran_not Done ran bytes = absurd bytes
+ran_not Usage ran bytes = absurd bytes
+ran_not ReadFault ran bytes = absurd bytes
+ran_not WriteFault ran bytes = absurd bytes
+ran_not DiskFault ran bytes = absurd bytes
+ran_not TooLong ran bytes = absurd bytes
+ran_not Memory ran bytes = absurd bytes
 
 -- ---- on two files
 
@@ -197,9 +218,14 @@ module _ {D : Type 0} (g : Ghosts D) where
     pub runs_on : (c d : List ℕ) → reads c d ≡ counts (counted_in a) (generation_in a) (opened s es (place_in a)) → (AreAllOnDisk g disks → StaysQuiet (moments_of g disks) a c d) → RunsOn g disks (pair_in b) (generation_in a) s es ran groups
     runs_on c d is quiet = record { cut = stores.cut; few = few; now = now; settled = settled; any_moment = λ none durable. any_moment none c d is (quiet durable) }
 
-  -- a count that rose in the run
-  pub rose : (disks : Pair D) (a b : Dataset D g) → BothOnlyRead g disks (pair_in a) → faults_l a < faults_l b → RoseInOne g disks (pair_in b)
-  rose disks a b only less = one_rose g disks (pair_in b) (omega (arith, less, faults_are g a, faults_are g b, only.first.later, only.second.later))
+  -- what the status of a run says of the disks
+  pub run_tells : (disks : Pair D) (a b : Dataset D g) (status : Status) → BothOnlyRead g disks (pair_in a) → NoneRose g disks (pair_in a) → (EndsByBytes status → NoneRose g disks (pair_in b))
+      → (status ≡ DiskFault → faults_l a < faults_l b) → (status ≡ Done → faults_l b < 2 ^ 64 - 1 → faults_l b ≡ faults_l a) → TellsDisks g disks (pair_in b) status
+  run_tells disks a b status only none by_bytes less same = record {
+    fault = λ is. one_rose g disks (pair_in b) (omega (arith, less is, faults_are g a, faults_are g b, only.first.later, only.second.later));
+    done = λ is below. omega (arith, same is (omega (arith, below, faults_are g b)), faults_are g a, faults_are g b, none.0, none.1);
+    by_bytes = by_bytes;
+  }
 
   pub runs_files : {S V P Q : Type 0} (disks : Pair D) (a b : Dataset D g) (s : State) (es : List Entry) (all : List (List ℕ)) (status : Status) (before written : Option (List ℕ)) → BothOnlyRead g disks (pair_in a) → KeepsIn a s es None
       → RunsLog (log_of {S = S} {V = V} {P = P} {Q = Q}) (opening s) a b all status before written

@@ -49,6 +49,7 @@ fn size_at<D: Disk>(disk: &mut D, at: u64) -> Result<u32, ReadStop>
     ensures told { IfOk result (λ n. IfTold (D.seen disk.old) (λ s. n ≡ size_in (drop at s))) }
     ensures reads { OnlyReads D.faults D.writes D.seen D.image D.moment D.since disk.old disk.new }
     ensures cause { IsErrOf result ReadStop.DiskFault → Faulted D.faults disk.old disk.new }
+    ensures still { OnOk result (D.faults disk.new ≡ D.faults disk.old) }
 {
     let size: [u8; 4] = array_at(disk, at)?;
     Ok(u32::from_le_bytes(size))
@@ -75,6 +76,7 @@ fn body_at<D: Disk>(alloc: Global, disk: &mut D, at: u64, size: usize) -> Result
     ensures long { IfOk result (λ b. HasSize b size) }
     ensures reads { OnlyReads D.faults D.writes D.seen D.image D.moment D.since disk.old disk.new }
     ensures cause { IsErrOf result ReadStop.DiskFault → Faulted D.faults disk.old disk.new }
+    ensures still { OnOk result (D.faults disk.new ≡ D.faults disk.old) }
 {
     let digest: [u8; 32] = array_at(disk, at)?;
     let body = bytes_at(alloc, disk, at + 32, size)?;
@@ -89,6 +91,7 @@ fn record_at<D: Disk>(alloc: Global, disk: &mut D, at: u64, left: u64) -> Result
     ensures within { IfOk result (λ b. EndsWithin b left) }
     ensures reads { OnlyReads D.faults D.writes D.seen D.image D.moment D.since disk.old disk.new }
     ensures cause { IsErrOf result ReadStop.DiskFault → Faulted D.faults disk.old disk.new }
+    ensures still { OnOk result (D.faults disk.new ≡ D.faults disk.old) }
 {
     if left < HEAD {
         return Ok(Behind::Short);
@@ -110,6 +113,7 @@ fn found_at<D: Disk>(alloc: Global, disk: &mut D, at: u64, len: u64) -> Result<F
     ensures within { IfOk result (λ f. EndsBy f at len) }
     ensures reads { OnlyReads D.faults D.writes D.seen D.image D.moment D.since disk.old disk.new }
     ensures cause { IsErrOf result ReadStop.DiskFault → Faulted D.faults disk.old disk.new }
+    ensures still { OnOk result (D.faults disk.new ≡ D.faults disk.old) }
 {
     let gate: [u8; 1] = array_at(disk, at)?;
     if gate[0] != 1 {
@@ -140,6 +144,7 @@ pub fn read_all<D: Disk>(
         IfOk result (λ r. EndsShut (D.image disk.new) r.1) }
     ensures reads { OnlyReads D.faults D.writes D.seen D.image D.moment D.since disk.old disk.new }
     ensures cause { IsErrOf result ReadStop.DiskFault → Faulted D.faults disk.old disk.new }
+    ensures still { OnOk result (D.faults disk.new ≡ D.faults disk.old) }
 {
     let len = match length_of(disk) {
         Ok(len) => len,

@@ -9,7 +9,7 @@ use Rattle.generations.specs.declared.new.CreateStop.{CreateStop}
 use Rattle.generations.specs.declared.new.CreateStop.TheVariants.{AlreadyThere, DiskFault, Memory}
 use Rattle.generations.specs.declared.pair.Pair.{Pair}
 use Rattle.generations.specs.Datasets.{generation_in, entries_read_in, counted_in, place_in}
-use Rattle.generations.specs.Pairs.{RoseInOne}
+use Rattle.generations.specs.Pairs.{RoseInOne, NoneRose}
 use Rattle.new_image.specs.Image.{image_of}
 
 -- a new dataset: file 0 counts, with generation 1, no entry was read, and its first record goes behind the image
@@ -43,8 +43,9 @@ IsCreateStop AlreadyThere c d = IsOneThere c d
 IsCreateStop DiskFault c d = Unit {0}
 IsCreateStop Memory c d = Unit {0}
 
--- No dataset was made: the first disk was only read, unless a disk failed after a write of it was called; the second one was only read; and a disk failed only if its count rose.
+-- No dataset was made: the first disk was only read, unless a disk failed after a write of it was called; the second one was only read; and a disk failed only if its count rose. If a file was there, none did.
 pub record StopsCreating {D : Type 0} (g : Ghosts D) (stop : CreateStop) (old new : Pair D) : Type 0 where
   pub first : OnlyReads g.faults g.writes g.seen g.image g.moment g.since old.first new.first ⊎ ((stop ≡ DiskFault) × Rose (g.writes old.first) (g.writes new.first))
   pub second : OnlyReads g.faults g.writes g.seen g.image g.moment g.since old.second new.second
   pub cause : stop ≡ DiskFault → RoseInOne g old new
+  pub still : stop ≡ AlreadyThere → NoneRose g old new

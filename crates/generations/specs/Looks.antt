@@ -34,6 +34,13 @@ pub record IsClean {D : Type 0} (g : Ghosts D) (disks : Pair D) (l : Looked) : T
   pub clean : l.journal.clean ≡ true
   pub shut : InAll (g.image (disk_of l.second disks)) (IsShut l.journal.at)
 
+-- it is the bytes of the files that say why they don't open
+abbrev pub IsByBytes : OpenStop → Type 0
+IsByBytes NotDataset = Unit {0}
+IsByBytes (DamagedFile file at cause) = Unit {0}
+IsByBytes DiskFault = ⊥
+IsByBytes Memory = ⊥
+
 -- why the files don't open
 abbrev pub IsOpenStop : OpenStop → List ℕ → List ℕ → Type 0
 IsOpenStop NotDataset c d = reads c d ≡ no_header

@@ -26,6 +26,10 @@ AreAllOnDisk g disks = IsAllOnDisk (g.seen disks.first) (g.image disks.first) ×
 abbrev pub RoseInOne : {D : Type 0} → Ghosts D → Pair D → Pair D → Type 0
 RoseInOne g old new = Rose (g.faults old.first) (g.faults new.first) ⊎ Rose (g.faults old.second) (g.faults new.second)
 
+-- neither of them rose
+abbrev pub NoneRose : {D : Type 0} → Ghosts D → Pair D → Pair D → Type 0
+NoneRose g old new = (g.faults new.first ≡ g.faults old.first) × (g.faults new.second ≡ g.faults old.second)
+
 -- both disks were only read
 pub record BothOnlyRead {D : Type 0} (g : Ghosts D) (old new : Pair D) : Type 0 where
   pub first : OnlyReads g.faults g.writes g.seen g.image g.moment g.since old.first new.first

@@ -10,7 +10,8 @@ use Rattle.generations.specs.declared.pair.Pair.{Pair}
 use Rattle.generations.specs.Datasets.{generation_in, entries_read_in, counted_in, place_in, KeepsIn, OpensSinceIn, QuietIn}
 use Rattle.generations.specs.Files.{opened, counts, reads}
 use Rattle.generations.specs.Given.{opening_of}
-use Rattle.generations.specs.Pairs.{RoseInOne, BothOnlyRead}
+use Rattle.generations.specs.Looks.{IsByBytes}
+use Rattle.generations.specs.Pairs.{RoseInOne, NoneRose, BothOnlyRead}
 use Rattle.generations.specs.Stored.{DatasetStore, state_in}
 
 -- The bytes of the files stand for the store's state, with entries of the number told, the file that counts, its generation and the place of its first closed gate. The dataset keeps that state, with no pending body.
@@ -22,7 +23,8 @@ pub record StaysQuiet {D : Type 0} {g : Ghosts D} (t : ℕ × ℕ) (d : Dataset 
   pub quiet : QuietIn d t
   pub opens : (o : Opening) → OpensSinceIn d t o → o ≡ opening_of (reads c e)
 
--- Two files weren't opened: both were only read, and a disk failed only if its count rose.
+-- Two files weren't opened: both were only read, and a disk failed only if its count rose. If their bytes say why, none did.
 pub record StopsOpening {D : Type 0} (g : Ghosts D) (stop : OpenStop) (old new : Pair D) : Type 0 where
   pub only_read : BothOnlyRead g old new
   pub cause : stop ≡ DiskFault → RoseInOne g old new
+  pub still : IsByBytes stop → NoneRose g old new

@@ -5,7 +5,7 @@ ghost use Rattle.gate_journal.specs.Gate.{IsShut};
 ghost use Rattle.generations.specs.Datasets.{pair_in};
 ghost use Rattle.generations.specs.declared.other_gate.OtherGate.TheVariants.{Unread};
 ghost use Rattle.generations.specs.Looks.{IsOpenStop};
-ghost use Rattle.generations.specs.Pairs.{disk_of, moments_of, IfTold, AreAllOnDisk, BothOnlyRead};
+ghost use Rattle.generations.specs.Pairs.{disk_of, moments_of, IfTold, AreAllOnDisk, NoneRose, BothOnlyRead};
 ghost use Rattle.generations.specs.Reopens.{Reopens, StaysQuiet, StopsOpening};
 
 use crate::beside::Beside;
@@ -80,6 +80,7 @@ pub fn reopen<D: Disk>(
     ensures opens { IfOk result (λ r. IfTold D.Disk disks (Reopens r.0 r.1)) }
     ensures reads { IfOk result (λ r. BothOnlyRead D.Disk disks (pair_in r.0)) }
     ensures durable { IfOk result (λ r. AreAllOnDisk D.Disk (pair_in r.0)) }
+    ensures still { IfOk result (λ r. NoneRose D.Disk disks (pair_in r.0)) }
     ensures quiet { IfOk result (λ r. AreAllOnDisk D.Disk disks →
         IfTold D.Disk disks (StaysQuiet (moments_of D.Disk disks) r.0)) }
 

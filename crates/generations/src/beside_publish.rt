@@ -19,6 +19,7 @@ fn first_gate<D: Disk>(disk: &mut D) -> Result<OtherGate, Failed>
     ensures read { IfOk result (λ gate. (is_unread gate ≡ false) × (is_owed gate ≡ false)) }
     ensures reads { OnlyReads D.faults D.writes D.seen D.image D.moment D.since disk.old disk.new }
     ensures cause { OnErr result (Faulted D.faults disk.old disk.new) }
+    ensures still { OnOk result (D.faults disk.new ≡ D.faults disk.old) }
 {
     let len = length_of(disk)?;
     if len == 0 {

@@ -3,8 +3,8 @@ ghost use Rattle.std.specs.Prelude.{◌≡◌, ◌⊎◌, ◌≤◌, List, ℕ, 
 ghost use Rattle.generations.specs.Files.{number_of};
 ghost use Rattle.generations.specs.Headers.{IsHeaderOf};
 ghost use Rattle.generations.specs.Openings.{IsOpened, IsCleanOpened};
-ghost use Rattle.generations.specs.Pairs.{disk_of, IfTold, AreAllOnDisk, RoseInOne, BothOnlyRead};
-ghost use Rattle.generations.specs.Looks.{IsPicked, SaysPicked, IsLooked, IsClean, IsOpenStop};
+ghost use Rattle.generations.specs.Pairs.{disk_of, IfTold, AreAllOnDisk, RoseInOne, NoneRose, BothOnlyRead};
+ghost use Rattle.generations.specs.Looks.{IsPicked, SaysPicked, IsLooked, IsClean, IsOpenStop, IsByBytes};
 
 use crate::header::{HEADER, Header, header_of};
 use crate::open::{Opened, open_file};
@@ -65,6 +65,7 @@ fn picked<D: Disk>(disks: &mut Pair<D>) -> Result<Option<(bool, Header)>, ReadSt
     ensures long { IfOk result (λ o. IfSome o (λ p. HEADER ≤ p.1.len)) }
     ensures reads { BothOnlyRead D.Disk disks.old disks.new }
     ensures cause { IsErrOf result ReadStop.DiskFault → RoseInOne D.Disk disks.old disks.new }
+    ensures still { OnOk result (NoneRose D.Disk disks.old disks.new) }
 {
     let a = header_of(&mut disks.first)?;
     let b = header_of(&mut disks.second)?;
@@ -86,6 +87,7 @@ fn open_one<D: Disk>(
     ensures clean { IfOk result (λ o. IsCleanOpened o) }
     ensures reads { BothOnlyRead D.Disk disks.old disks.new }
     ensures cause { IsErrOf result ReadStop.DiskFault → RoseInOne D.Disk disks.old disks.new }
+    ensures still { OnOk result (NoneRose D.Disk disks.old disks.new) }
 {
     if second {
         return open_file(alloc, &mut disks.second, header);
@@ -101,6 +103,8 @@ pub fn look<D: Disk>(alloc: Global, disks: &mut Pair<D>) -> Result<Looked, OpenS
 
     ensures stop { IfErr result (λ e. IfTold D.Disk disks.old (IsOpenStop e)) }
     ensures cause { IsErrOf result OpenStop.DiskFault → RoseInOne D.Disk disks.old disks.new }
+    ensures still { OnOk result (NoneRose D.Disk disks.old disks.new) }
+    ensures judged { IfErr result (λ e. IsByBytes e → NoneRose D.Disk disks.old disks.new) }
     ensures reads { BothOnlyRead D.Disk disks.old disks.new }
 {
     match sync_both(disks) {

@@ -6,12 +6,12 @@ ghost use Rattle.gate_journal.specs.Reads.{OnlyReads};
 ghost use Rattle.generations.specs.Created.{AreEmpty, IsEmptyBy, AreEmptyBy, IsCreateStop, StopsCreating, IsNew};
 ghost use Rattle.generations.specs.Written.{behind_gate};
 ghost use Rattle.generations.specs.declared.other_gate.OtherGate.TheVariants.{Low};
-ghost use Rattle.generations.specs.Datasets.{KeepsIn};
+ghost use Rattle.generations.specs.Datasets.{KeepsIn, pair_in};
 ghost use Rattle.generations.specs.Fronts.{Keeps};
 ghost use Rattle.new_image.specs.Schemas.{IsDeclared};
 ghost use Rattle.new_image.specs.Image.{image_of};
 ghost use Rattle.generations.specs.NewState.{new_state};
-ghost use Rattle.generations.specs.Pairs.{IfTold, RoseInOne, BothOnlyRead};
+ghost use Rattle.generations.specs.Pairs.{IfTold, RoseInOne, NoneRose, BothOnlyRead};
 
 use crate::beside::Beside;
 use crate::bytes::new_bytes;
@@ -61,6 +61,7 @@ fn is_empty<D: Disk>(disk: &mut D) -> Result<bool, Failed>
         (s : List ℕ) → D.seen disk.old ≡ Some s → IsEmptyBy empty s) }
     ensures reads { OnlyReads D.faults D.writes D.seen D.image D.moment D.since disk.old disk.new }
     ensures cause { OnErr result (Rose (D.faults disk.old) (D.faults disk.new)) }
+    ensures still { OnOk result (D.faults disk.new ≡ D.faults disk.old) }
 {
     let len = length_of(disk)?;
     Ok(len == 0)
@@ -75,6 +76,7 @@ fn are_empty<D: Disk>(disks: &mut Pair<D>) -> Result<bool, Failed>
     ensures told { IfOk result (λ empty. IfTold D.Disk disks.old (AreEmptyBy empty)) }
     ensures reads { BothOnlyRead D.Disk disks.old disks.new }
     ensures cause { OnErr result (RoseInOne D.Disk disks.old disks.new) }
+    ensures still { OnOk result (NoneRose D.Disk disks.old disks.new) }
 {
     sync_both(disks)?;
     let first = is_empty(&mut disks.first)?;
@@ -89,6 +91,7 @@ fn make_file<D: Disk>(disk: &mut D, bytes: &[u8]) -> Result<(), Failed>
         bytes.now ≡ 0 ∷ back → InAll (D.image disk.new) (Begins (1 ∷ back))) }
     ensures later { D.faults disk.old ≤ D.faults disk.new }
     ensures cause { OnErr result (Rose (D.faults disk.old) (D.faults disk.new)) }
+    ensures still { OnOk result (D.faults disk.new ≡ D.faults disk.old) }
     ensures wrote { OnErr result (Rose (D.writes disk.old) (D.writes disk.new)) }
 {
     stage(disk, 0, bytes)?;
@@ -103,6 +106,7 @@ fn made<D: Disk>(alloc: Global, disks: &mut Pair<D>, schema: &Schema) -> Result<
         (D.image disks.new.first) (D.image disks.new.second) (new_state schema.now) [] None) }
     ensures place { IfOk result (λ j. j.at ≡ 57 + length (image_of schema.now)) }
     ensures empty { OnOk result (IfTold D.Disk disks.old AreEmpty) }
+    ensures still { OnOk result (NoneRose D.Disk disks.old disks.new) }
 
     ensures stop { IfErr result (λ e. IfTold D.Disk disks.old (IsCreateStop e)) }
     ensures left { IfErr result (λ e. StopsCreating D.Disk e disks.old disks.new) }
@@ -133,6 +137,7 @@ pub fn create<D: Disk>(
     ensures kept { IfOk result (λ d. KeepsIn d (new_state schema.now) [] None) }
     ensures new { IfOk result (λ d. IsNew d schema.now) }
     ensures empty { OnOk result (IfTold D.Disk disks AreEmpty) }
+    ensures still { IfOk result (λ d. NoneRose D.Disk disks (pair_in d)) }
 
     ensures stop { IfErr result (λ e. IfTold D.Disk disks (IsCreateStop e.0)) }
     ensures left { IfErr result (λ e. StopsCreating D.Disk e.0 disks e.1) }

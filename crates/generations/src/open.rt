@@ -1,5 +1,5 @@
 //! One file, opened.
-ghost use Rattle.std.specs.Prelude.{◌≡◌, ◌+◌, ◌≤◌, ◌<◌, List, ℕ, Some, None, IfOk, IsErrOf};
+ghost use Rattle.std.specs.Prelude.{◌≡◌, ◌+◌, ◌≤◌, ◌<◌, List, ℕ, Some, None, IfOk, OnOk, IsErrOf};
 ghost use Rattle.db_outside.specs.Device.{Faulted};
 ghost use Rattle.gate_journal.specs.Reads.{OnlyReads};
 ghost use Rattle.generations.specs.Headers.{IsHeaderOf};
@@ -54,6 +54,7 @@ fn image_at<D: Disk>(alloc: Global, disk: &mut D, header: &Header) -> Result<Ima
     ensures within { IfOk result (λ f. EndsImage f header.now) }
     ensures reads { OnlyReads D.faults D.writes D.seen D.image D.moment D.since disk.old disk.new }
     ensures cause { IsErrOf result ReadStop.DiskFault → Faulted D.faults disk.old disk.new }
+    ensures still { OnOk result (D.faults disk.new ≡ D.faults disk.old) }
 {
     if header.generation == 0 {
         return Ok(ImageFound::Damaged {
@@ -126,6 +127,7 @@ pub fn open_file<D: Disk>(alloc: Global, disk: &mut D, header: &Header) -> Resul
     ensures clean { IfOk result (λ o. IsCleanOpened o) }
     ensures reads { OnlyReads D.faults D.writes D.seen D.image D.moment D.since disk.old disk.new }
     ensures cause { IsErrOf result ReadStop.DiskFault → Faulted D.faults disk.old disk.new }
+    ensures still { OnOk result (D.faults disk.new ≡ D.faults disk.old) }
 {
     match image_at(alloc, disk, header)? {
         ImageFound::Damaged { at, cause } => Ok(Opened::Damaged { at, cause }),

@@ -1,7 +1,7 @@
 use Rattle.std.proofs.Common.{◌≡◌, cond, true, sym, ◌∙◌, ap, subst}
 use Rattle.gate_journal.specs.declared.place.Journal.{Journal}
 use Rattle.generations.specs.declared.pair.Pair.{Pair}
-use Rattle.generations.specs.Pairs.{AreAllOnDisk, BothOnlyRead}
+use Rattle.generations.specs.Pairs.{AreAllOnDisk, NoneRose, BothOnlyRead}
 use Rattle.generations.specs.Stored.{state_in}
 use Rattle.generations.proofs.Quieting.{stays_quiet, read_as}
 use Rattle.generations.proofs.Reopening.{keeps_it, one_image, file_of, beside_of, all_two}
@@ -41,6 +41,9 @@ returns-in-Ok-clause-quiet g c all s d told_s told_d =
 
 pub returns-in-Ok-clause-reads : goal.returns-in-Ok-clause-reads
 returns-in-Ok-clause-reads g c = subst (λ (p : Pair g.row.D.Denot). BothOnlyRead g.D.Disk c.args.disks p) (sym c.assembled-dataset.ensures.disks) c.look.ensures.reads
+
+pub returns-in-Ok-clause-still : goal.returns-in-Ok-clause-still
+returns-in-Ok-clause-still g c = subst (λ (p : Pair g.row.D.Denot). NoneRose g.D.Disk c.args.disks p) (sym c.assembled-dataset.ensures.disks) c.in-Ok.ensures.still
 
 pub returns-in-Ok-clause-durable : goal.returns-in-Ok-clause-durable
 returns-in-Ok-clause-durable g c = subst (λ (p : Pair g.row.D.Denot). AreAllOnDisk g.D.Disk p) (sym c.assembled-dataset.ensures.disks) c.in-Ok.ensures.durable
