@@ -5,7 +5,7 @@ use Rattle.db_value.specs.declared.step.Step.{Step}
 use Rattle.db_store.specs.State.{State}
 use Rattle.stmt_text.specs.declared.sections.Section.{Section}
 use Rattle.history_note.specs.Places.{places}
-use Rattle.history_note.specs.Shown.{AtNote, AtPen, AtPass, FitsPen}
+use Rattle.history_note.specs.Shown.{AtNote, AtPen, AtPass, is_carrying, FitsPen}
 use Rattle.db_core.specs.Kept.{Kept, Stands, said_step}
 use Rattle.db_hub.specs.Entered.{is_open_after}
 use Rattle.db_hub.specs.Rooms.{AtRoom}
@@ -176,6 +176,15 @@ AreTied pen (j ∷ js) = ((p : AtPass) × (j.last ≡ Some p) × FitsPen pen p) 
 abbrev pub AreWhole : List AtJob → Type 0
 AreWhole [] = Unit {0}
 AreWhole (j ∷ js) = (j.whole ≡ true) × AreWhole js
+
+-- a job came back without its pass
+abbrev pub MissesPass : List AtJob → Type 0
+MissesPass [] = ⊥
+MissesPass (j ∷ js) = (j.last ≡ None) ⊎ MissesPass js
+
+-- a pass was lost: the pen still carries one, or a job came back without its own
+abbrev pub IsLost : AtPen → List AtJob → Type 0
+IsLost pen jobs = (is_carrying pen ≡ true) ⊎ MissesPass jobs
 
 -- unless a pass was lost, all are tied
 abbrev pub AreTiedIf : AtPen → List AtJob → Unfinished → Type 0
