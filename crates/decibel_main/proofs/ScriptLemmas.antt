@@ -27,7 +27,7 @@ use Rattle.db_core.specs.Accounts.{Account, opened_account, account, GivesBy, Gi
 use Rattle.db_core.proofs.Grouping.{unfailed_groups_law}
 use Rattle.script_run.specs.Runs.{RunsAll, RunsCut, RunsWhole}
 use Rattle.script_run.proofs.OutputLemmas.{out_end}
-use Rattle.db_core.proofs.Storing.{few_alone, stores_none, may_any, unfailed_law, one_opening_law}
+use Rattle.db_core.proofs.Storing.{few_alone, stores_none, unfailed_law, one_opening_law}
 use Rattle.decibel_main.specs.Ends.{IsEndOf, IsRanStatus}
 use Rattle.decibel_main.specs.Faults.{EndsByBytes, TellsDisks}
 use Rattle.decibel_main.specs.Images.{OpensNow, OpensSince, faults_in}
@@ -191,18 +191,18 @@ module _ {D : Type 0} (g : Ghosts D) where
     few below =
         omega (arith, faults_are g a, faults_are g b, only.first.later, only.second.later, stores.few (omega (arith, below, faults_are g b)))
 
-    now : OpensNow g (pair_in b) (GivesBy after last)
+    keeps : IsHeldBy (log_of {S = S} {V = V} {P = P} {Q = Q}) b after last
+    keeps = stores.held first held
+
+    now : OpensNow g (pair_in b) (GivesBy after last keeps.pending)
     now = λ c d hc hd.
-        let k = stores.held first held in
         let o : Opening = opening_of (reads c d) in
-        let gives : MayGive last.generation after last.entries k.pending o ⊎ GivesOwed last.owing last.generation after o =
-        subst (λ (n : ℕ). MayGive n after last.entries k.pending o ⊎ GivesOwed last.owing n after o) k.generation (has_pairs S V P Q last.owing b after last.entries k.pending k.has c d hc hd) in
-        ⊎_elim (λ may. inl (may_any last.generation after last.entries k.pending last.batches o k.among may)) (λ owed. inr owed) gives
+        subst (λ (n : ℕ). MayGive n after last.entries keeps.pending o ⊎ GivesOwed last.owing n after o) keeps.generation (has_pairs S V P Q last.owing b after last.entries keeps.pending keeps.has c d hc hd)
 
     settled : failures ran ≡ 0 → OpensNow g (pair_in b) (GivesAs after last)
     settled none = λ c d hc hd.
         let clean = unfailed_law (opening s) first groups (unfailed_groups_law (opening s) ran groups stores.cut none) refl refl in
-        one_opening_law after last (opening_of (reads c d)) clean.0 clean.1 (now c d hc hd)
+        one_opening_law after last keeps.pending (opening_of (reads c d)) keeps.among clean.0 clean.1 (now c d hc hd)
 
     -- before the first line was run
     at_first : (o : Opening) → o ≡ gives (generation_in a) s es → GivesDuring (opening s) first groups o
@@ -216,7 +216,7 @@ module _ {D : Type 0} (g : Ghosts D) where
         ((stores.any_moment none first refl held).adds (moments_of g disks) (only.first.any_moment.later, only.second.any_moment.later) quiet.quiet o (x, y, hx, hy, refl))
 
     pub runs_on : (c d : List ℕ) → reads c d ≡ counts (counted_in a) (generation_in a) (opened s es (place_in a)) → (AreAllOnDisk g disks → StaysQuiet (moments_of g disks) a c d) → RunsOn g disks (pair_in b) (generation_in a) s es ran groups
-    runs_on c d is quiet = record { cut = stores.cut; few = few; now = now; settled = settled; any_moment = λ none durable. any_moment none c d is (quiet durable) }
+    runs_on c d is quiet = record { cut = stores.cut; few = few; pending = keeps.pending; among = keeps.among; now = now; settled = settled; any_moment = λ none durable. any_moment none c d is (quiet durable) }
 
   -- what the status of a run says of the disks
   pub run_tells : (disks : Pair D) (a b : Dataset D g) (status : Status) → BothOnlyRead g disks (pair_in a) → NoneRose g disks (pair_in a) → (EndsByBytes status → NoneRose g disks (pair_in b))

@@ -113,9 +113,10 @@ const WHOLE: Run = Run {
 };
 
 // The first append fails: at the write of its record, which leaves its gate surely closed; and at each
-// later call. A gate that may be open is closed and synced before the next append.
+// later call. A gate that may be open is closed and synced before the next append. If that one fails too,
+// a crash may show the batch whose record was begun last, and no other.
 #[rattlefmt::skip]
-const FAILED_APPENDS: [Run; 4] = [
+const FAILED_APPENDS: [Run; 6] = [
     Run {
         name: "the write of a record fails",
         first: &[7],
@@ -178,6 +179,34 @@ const FAILED_APPENDS: [Run; 4] = [
             Crash { first: 14, second: 2, old: NEW,       new: NEW,       ones: NEW },
             Crash { first: 15, second: 2, old: NEW,       new: WITH_BOTH, ones: WITH_BOTH },
             Crash { first: 16, second: 2, old: WITH_BOTH, new: WITH_BOTH, ones: WITH_BOTH },
+        ],
+    },
+    Run {
+        name: "the syncs of two records' gates fail",
+        first: &[10, 16],
+        second: &[],
+        calls: &[(Call::Append(&ONE), false), (Call::Append(&BOTH), false)],
+        at: (1, 0, 124),
+        faults: 2,
+        crashes: &[
+            Crash { first: 10, second: 2, old: NEW,       new: WITH_ONE,  ones: WITH_ONE },
+            Crash { first: 12, second: 2, old: NEW,       new: NEW,       ones: NEW },
+            Crash { first: 14, second: 2, old: NEW,       new: NEW,       ones: NEW },
+            Crash { first: 15, second: 2, old: NEW,       new: WITH_BOTH, ones: WITH_BOTH },
+            Crash { first: 16, second: 2, old: NEW,       new: WITH_BOTH, ones: WITH_BOTH },
+        ],
+    },
+    Run {
+        name: "the closing of a failed record's gate fails",
+        first: &[10, 12],
+        second: &[],
+        calls: &[(Call::Append(&ONE), false), (Call::Append(&BOTH), false)],
+        at: (1, 0, 124),
+        faults: 2,
+        crashes: &[
+            Crash { first: 10, second: 2, old: NEW,       new: WITH_ONE,  ones: WITH_ONE },
+            Crash { first: 11, second: 2, old: NEW,       new: NEW,       ones: WITH_ONE },
+            Crash { first: 12, second: 2, old: NEW,       new: NEW,       ones: WITH_ONE },
         ],
     },
 ];
