@@ -1,30 +1,19 @@
 //! What threads share: a board and its note under a lock.
-ghost use Rattle.std.specs.Prelude.{◌≡◌, [], Some, true, false, is_some, IfOk, IfErr, OnErr};
-ghost use Rattle.history_note.specs.Shown.{is_carrying};
+ghost use Rattle.std.specs.Prelude.{◌≡◌, true, false, Some, is_some, IfOk, IfErr, OnErr};
 ghost use Rattle.db_core.specs.Desk.{waits};
 ghost use Rattle.db_core.specs.Order.{said_of};
 ghost use Rattle.db_core.specs.Sits.{heard};
-ghost use Rattle.db_core.specs.Kept.{Stands};
-ghost use Rattle.db_hub.specs.Entered.{steps_of};
-ghost use Rattle.db_hub.specs.Left.{OwesLines};
-ghost use Rattle.db_hub.specs.Own.{AllNoted};
-ghost use Rattle.db_hub.specs.Rooms.{StoresSince};
 ghost use Rattle.db_hub.specs.Seats.{SeatClosed, SeatFailed};
 ghost use Rattle.db_hub.specs.Served.{SeatServed};
 
-use crate::patience::Patience;
-use crate::room::{Room, Shut};
 use crate::seat::Seat;
 use crate::tag::LogTag;
 use crate::whole::{Visit, Whole};
-use db_core::Waiting;
 use db_store::Store;
 use db_value::{LineText, Reply};
 use entry_codec::Log;
-use flush_queue::FlushQueue;
 use history_note::Pass;
 use std::alloc::AllocError;
-use std::marker::PhantomData;
 use std::sync::{Mutex, MutexGuard, Wait};
 use std::thread;
 use stmt_text::Stmt;
@@ -39,7 +28,8 @@ const YIELDS: u32 = 8;
 const TURNS: u32 = 400;
 
 /// A hub is what a room has, and the lines that wait for the log together, under a lock, which threads
-/// share. All seats of the room stay out: one that was given up goes on to be listed.
+/// share. All seats of the room stay out: one that was given up goes on to be listed. Whoever runs
+/// threads makes it of a room, on which the seats were made before, and takes it apart when they returned.
 #[derive(Drop)]
 pub struct Hub<St: Store, J: Log<St>, T: LogTag<J>> {
     pub lock: Mutex<Whole<St, J, T>>,
@@ -84,40 +74,6 @@ impl<St: Store, J: Log<St>, T: LogTag<J>> Hub<St, J, T> {
             }
         }
         self.lock.lock(rt)
-    }
-
-    /// A hub of a room, on which the seats were made before, and of a queue and members, of which none
-    /// waits.
-    pub fn new(room: Room<St, J, T>, queue: FlushQueue, waiting: Waiting<St>) -> Hub<St, J, T>
-        requires stays { T.stays ≡ true }
-        requires none { (queue.waiting ≡ []) × (waiting.members.items ≡ []) }
-    {
-        let Room {
-            alloc,
-            board,
-            note,
-            pen,
-            out,
-            issued,
-            ..
-        } = room;
-        let whole = Whole {
-            alloc,
-            board,
-            note,
-            pen,
-            out,
-            issued,
-            queue,
-            waiting,
-            waits: Vec::new(alloc),
-            told: Vec::new(alloc),
-            patience: Patience::new(),
-            of: PhantomData,
-        };
-        Hub {
-            lock: Mutex::new(whole),
-        }
     }
 
     /// Enters the lines that wait at the seat's desk, and then answers one more and enters it, for a
@@ -172,31 +128,5 @@ impl<St: Store, J: Log<St>, T: LogTag<J>> Hub<St, J, T> {
                 Some(pass) => Ok(pass),
             },
         }
-    }
-
-    /// The board, whose log did for its lines what a log does, the note and its pen, whose list is that
-    /// of the board's steps. Lines that wait are settled first, unless a pass was lost. The pen may owe
-    /// places of lines to sessions that were between their two visits: of each the place of its own line.
-    pub fn into_board(self) -> Shut<St, J>
-        ensures named { (result.note.note ≡ T.note) × (result.pen.note ≡ T.note) }
-        ensures opened { (result.board.kept.opening ≡ T.opened)
-            × (result.board.kept.first_count ≡ T.first) }
-        ensures stores { StoresSince J.Log T.log result.board }
-        ensures stands { Stands result.board.kept
-            × (result.board.kept.steps ≡ steps_of result.pen.lines) }
-        ensures noted { AllNoted T.numbers result.pen.lines }
-        ensures kept { is_carrying result.pen ≡ false → result.pen.kept ≡ [] }
-        ensures owed { OwesLines result.pen }
-    {
-        let Hub { lock } = self;
-        let mut whole = lock.into_inner();
-        whole.finish();
-        let Whole {
-            board,
-            note,
-            pen,
-            ..
-        } = whole;
-        Shut { board, note, pen }
     }
 }

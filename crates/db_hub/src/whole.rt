@@ -419,13 +419,4 @@ impl<St: Store, J: Log<St>, T: LogTag<J>> Whole<St, J, T> {
         );
         Ok(())
     }
-
-    /// Settles the members that wait, unless a pass was lost.
-    pub fn finish(&mut self)
-        ensures kept { is_carrying self.new.pen ≡ false → self.new.pen.kept ≡ [] }
-    {
-        if !self.pen.carries() {
-            self.settle_all();
-        }
-    }
 }

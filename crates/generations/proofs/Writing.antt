@@ -10,7 +10,7 @@ use Rattle.sha2.proofs.Facts256.{length-sha256}
 use Rattle.db_store.specs.State.{State}
 use Rattle.image_parts.specs.Whole.{image_at}
 use Rattle.db_image.specs.Stores.{IsImageOf}
-use Rattle.new_image.proofs.Back.{same_self}
+use Rattle.new_image.proofs.Images.{same_self}
 use Rattle.generations.specs.Files.{mark, has_header, generation_of, image_length, image_digest, image_in}
 use Rattle.generations.specs.Fronts.{IsFront}
 use Rattle.generations.specs.ImageState.{image_state}

@@ -1,12 +1,11 @@
 -- Slots of the parts of a view.
-use Rattle.std.proofs.Common.{◌≡◌, ◌≢◌, ◌⊎◌, inl, inr, ℕ, ◌<◌, Bool, List, length, set, arith, ap, sym, ◌∙◌, subst}
-use Rattle.std.proofs.lemmas.Bool.{cases_eq}
-use Rattle.std.proofs.lemmas.List.{length-map, length-set, get_or-set_same, get_or-set_other}
+use Rattle.std.proofs.Common.{◌≡◌, ℕ, ◌<◌, Bool, length, arith, ap}
+use Rattle.std.proofs.lemmas.List.{length-map}
 use Rattle.db_value.specs.declared.record.Record.{Record}
 use Rattle.db_store.specs.Parts.{part_at, slot_at}
 use Rattle.plain_bits.specs.Truth.{bit_of}
 use Rattle.record_page.specs.Page.{record_at}
-use Rattle.hybrid_view.specs.Live.{Lived, no_lived, part_of, piece_at, parts_in, lived_at, AllLived, IsLived}
+use Rattle.hybrid_view.specs.Live.{Lived, part_of, piece_at, parts_in}
 use Rattle.hybrid_view.proofs.FindLemmas.{slots_count, slot_at_is}
 
 pub piece_there : (l : Lived) (i : ℕ) → i < length (parts_in l) → i < length l.pieces
@@ -23,14 +22,3 @@ row_is l i slot h k = ap (λ (s : Record × Bool). s.0) (slot_at_is l.pieces i s
 
 pub count_is : (l : Lived) (i : ℕ) → i < length (parts_in l) → length (part_at (parts_in l) i).slots ≡ length (piece_at l.pieces i).rows.records
 count_is l i h = slots_count l.pieces i (piece_there l i h)
-
--- all live, and one more in the place of another
-pub lived_set : (ls : List Lived) (r : ℕ) (l : Lived) → AllLived ls → IsLived l → AllLived (set ls r l)
-lived_set ls r l all is k h = by (cases_eq k r)
-  where
-    n : length (set ls r l) ≡ length ls
-    n = length-set ls r l
-
-    by : (k ≡ r) ⊎ (k ≢ r) → IsLived (lived_at (set ls r l) k)
-    by (inl e) = let c = n in subst IsLived (sym (ap (λ i. lived_at (set ls r l) i) e ∙ get_or-set_same ls r l no_lived (omega (arith, c, h, e)))) is
-    by (inr m) = let c = n in subst IsLived (sym (get_or-set_other ls r k l no_lived m)) (all k (omega (arith, c, h)))

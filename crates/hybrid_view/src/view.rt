@@ -1,5 +1,5 @@
 //! The view of a version: what it has of each relation, shared with the store.
-ghost use Rattle.std.specs.Prelude.{◌≡◌, ◌<◌, length, map, set, IfOk};
+ghost use Rattle.std.specs.Prelude.{◌≡◌, ◌<◌, length, map, IfOk};
 ghost use Rattle.std.specs.Arc.{arc_value};
 ghost use Rattle.hybrid_view.specs.Live.{lived_at, AllLived};
 
@@ -33,20 +33,6 @@ impl Model for LiveTable {
     ghost invariant = { λ t. AllLived (map arc_value t.relations.items) };
 }
 
-// Links to what there is of each relation.
-fn share_all(
-    alloc: Global,
-    relations: &[Arc<LiveRelation>],
-) -> Result<Vec<Arc<LiveRelation>>, AllocError>
-    ensures { IfOk result (λ v. map arc_value v.items ≡ map arc_value relations.now) }
-{
-    let mut all = Vec::with_capacity(alloc, relations.len())?;
-    for shared in relations {
-        all.push(Arc::try_clone(shared)?)?;
-    }
-    Ok(all)
-}
-
 impl LiveTable {
     /// What holds of every relation of it.
     pub fn told(&self)
@@ -77,25 +63,6 @@ impl LiveTable {
         ensures { result.now ≡ lived_at self.now relation }
     {
         &self.relations[relation as usize]
-    }
-
-    /// The same but for one relation. The others are shared.
-    #[tactic(auto, using(crate::proofs::ViewLemmas::lived_set))]
-    pub fn with_relation(
-        &self,
-        alloc: Global,
-        relation: u8,
-        live: LiveRelation,
-    ) -> Result<LiveTable, AllocError>
-        requires { relation < length self.now }
-        ensures { IfOk result (λ t. t ≡ set self.now relation live) }
-    {
-        live.told();
-        self.told();
-        let live = Arc::new(alloc, live)?;
-        let mut relations = share_all(alloc, &self.relations)?;
-        relations[relation as usize] = live;
-        Ok(LiveTable { relations })
     }
 }
 

@@ -9,10 +9,13 @@ use Rattle.db_value.specs.Schema.{names_from, with_columns, relation_of_words, r
 use Rattle.db_value.specs.declared.schema.Relation.{Relation}
 use Rattle.db_value.specs.declared.schema.SchemaFault.{SchemaFault}
 use Rattle.db_value.specs.declared.schema.SchemaFault.TheVariants.{Line, TooMany}
-use Rattle.new_image.specs.Image.{relation_of, are_distinct, are_apart}
-use Rattle.new_image.specs.Schemas.{IsDeclared, AreNames, AreNamed, IsSchema, IsReadBack}
-use Rattle.new_image.proofs.Back.{schema_back}
+use Rattle.new_image.specs.Image.{are_distinct, are_apart}
+use Rattle.new_image.specs.Schemas.{IsDeclared, AreNames, AreNamed, IsSchema}
 use Rattle.new_image.proofs.Images.{same_flip}
+
+-- the relation with this name and these columns
+abbrev relation_of : List ℕ → List (List ℕ) → Relation
+relation_of name columns = record { name = name; columns = columns }
 
 cond_some : {T : Type 0} (q : Bool) (o : Option T) (x : T) → cond q o None ≡ Some x → (q ≡ true) × (o ≡ Some x)
 cond_some true o x is = (refl, is)
@@ -195,6 +198,3 @@ pub declared_is : (rs : List Relation) → IsDeclared rs → IsSchema rs
 declared_is rs is =
     schema_from_is (lines is.0) 1 [] rs is.1 (with_line_ok (reading_of is.0) (rs, is.1) is.2)
     (record { few = refl; counted = refl; distinct = refl; apart = refl; named = tt })
-
-pub read_back : IsReadBack
-read_back rs is = schema_back rs (declared_is rs is)

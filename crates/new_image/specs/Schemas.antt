@@ -1,9 +1,9 @@
 -- The schemas that a text can declare.
-use Rattle.std.specs.Prelude.{◌≡◌, ℕ, true, List, [], ◌∷◌, Some, Ok}
+use Rattle.std.specs.Prelude.{◌≡◌, ℕ, true, List, [], ◌∷◌, Ok}
 use Rattle.db_value.specs.Text.{is_name}
 use Rattle.db_value.specs.Schema.{schema_of}
 use Rattle.db_value.specs.declared.schema.Relation.{Relation}
-use Rattle.new_image.specs.Image.{image_of, is_schema, schema_in}
+use Rattle.new_image.specs.Image.{is_schema}
 
 -- a text declares these relations
 abbrev pub IsDeclared : List Relation → Type 0
@@ -23,7 +23,3 @@ AreNamed (r ∷ rs) = (is_name r.name ≡ true) × AreNames r.columns × AreName
 pub record IsSchema (rs : List Relation) : Type 0 where
   pub counted : is_schema rs ≡ true
   pub named : AreNamed rs
-
--- the image of the new dataset of relations that a text declares is read as those relations
-abbrev pub IsReadBack : Type 0
-IsReadBack = (rs : List Relation) → IsDeclared rs → schema_in (image_of rs) ≡ Some rs

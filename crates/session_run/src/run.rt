@@ -108,8 +108,7 @@ where
             };
             run_jobs(rt, alloc, &hub, sections, &mut jobs, gate);
             let Hub { lock } = hub;
-            let mut whole = lock.into_inner();
-            whole.finish();
+            let whole = lock.into_inner();
             let Whole {
                 board,
                 note,
