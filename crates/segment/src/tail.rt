@@ -26,9 +26,11 @@ pub(crate) struct Tail {
     ghost most: { fields ≤ 15 },
 }
 
-// Whether there is a last page that isn't full.
+// Whether there is a last page that isn't full. A full one isn't made again: segments go on to share it.
 fn has_room(fields: u8, links: &[Arc<Page>]) -> bool
     ensures some { result ≡ true → 0 < length links.now }
+    ensures room { result ≡ true →
+        length (page_at (map arc_value links.now) (length links.now - 1)).records < capacity fields }
     ensures full { result ≡ false → 0 < length links.now → capacity fields
         ≤ length (page_at (map arc_value links.now) (length links.now - 1)).records }
 {
@@ -50,6 +52,8 @@ impl Tail {
     ) -> Result<Tail, AllocError>
         requires laid { IsLaid fields (arc_value blocks.now) (map arc_value links.now) }
         requires some { 0 < length links.now }
+        requires room { length (page_at (map arc_value links.now)
+            (length links.now - 1)).records < capacity fields }
         ensures rows { IfOk result (λ t.
             rows_in t ≡ records_of (pages_of (arc_value blocks.now) ++ map arc_value links.now)) }
         ensures fields { IfOk result (λ t. t.fields ≡ fields) }
