@@ -1,5 +1,5 @@
 //! A note with its pen and passes, on one thread. What is seen was counted by hand.
-ghost use Rattle.std.specs.Prelude.{◌≡◌, [], ◌∷◌, None, IfOk};
+ghost use Rattle.std.specs.Prelude.{◌≡◌, [], ◌∷◌, Some, None, IfOk};
 ghost use Rattle.history_note.specs.Shown.{new_pen};
 ghost use Rattle.history_note.specs.Views.{noted_line};
 
@@ -45,6 +45,23 @@ fn line_written_later<St: Store>(
     Ok((first, second))
 }
 
+// A line is left, and is what the pass left that is handed out then.
+fn line_left<St: Store>(
+    note: &Note<St>,
+    pen: &mut Pen<St>,
+    step: &Step,
+) -> Result<Pass<St>, AllocError>
+    requires { pen.old ≡ new_pen note.now }
+    ensures note { IfOk result (λ p. p.note ≡ note.now.note) }
+    ensures left { IfOk result (λ p. p.left ≡ Some step.now.line) }
+{
+    let first = note.issue(pen, 3, 7)?;
+    note.take_in(pen, first);
+    note.leave(pen, &step.line);
+    let first = note.hand_out(pen)?;
+    Ok(first)
+}
+
 fn new_note(alloc: Global) -> Result<(Note<PlainStore>, Pen<PlainStore>), Fail>
     ensures { IfOk result (λ r. r.1 ≡ new_pen r.0) }
 {
@@ -68,6 +85,27 @@ fn loads<St: Store>(note: &Note<St>, pen: &mut Pen<St>, step: &Step) -> Result<b
 {
     let (mut first, mut second) = line_written_later(note, pen, step)?;
     Ok(!pen.carries() && note.load(&mut first) == 2 && note.load(&mut second) == 2)
+}
+
+// No line is in the list.
+fn loads_none<St: Store>(
+    note: &Note<St>,
+    pen: &mut Pen<St>,
+    step: &Step,
+) -> Result<bool, AllocError>
+    requires { pen.old ≡ new_pen note.now }
+{
+    let mut first = line_left(note, pen, step)?;
+    Ok(!pen.carries() && note.load(&mut first) == 0)
+}
+
+#[test]
+fn a_line_that_is_left_is_kept(rt: HostRuntime) -> Result<(), Fail> {
+    let step = new_step(rt.alloc())?;
+    let (note, mut pen) = new_note(rt.alloc())?;
+    let is_told = loads_none(&note, &mut pen, &step)?;
+    holds(&rt, "no line, and no pass is carried", is_told);
+    Ok(())
 }
 
 #[test]
