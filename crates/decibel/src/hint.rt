@@ -108,7 +108,7 @@ fn of_names<R: Files<File = File> + AllocGlobal + Threads + Wait + Sync>(
 }
 
 /// What to do after a call with these words, if its status is short of that. The files were let go.
-pub fn hint<R: Files<File = File> + AllocGlobal + Threads + Wait + Sync>(
+pub fn hint_for<R: Files<File = File> + AllocGlobal + Threads + Wait + Sync>(
     rt: &R,
     words: &[String],
     status: Status,
