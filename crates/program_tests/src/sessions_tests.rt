@@ -23,6 +23,7 @@ const TURNS: u64 = 10_000_000;
 struct Beside {
     first: AtomicU64,
     second: AtomicU64,
+    lines: AtomicU64,
     missed: AtomicU64,
 }
 
@@ -31,6 +32,7 @@ impl Beside {
         Beside {
             first: AtomicU64::new(0),
             second: AtomicU64::new(0),
+            lines: AtomicU64::new(0),
             missed: AtomicU64::new(0),
         }
     }
@@ -58,12 +60,15 @@ impl Beside {
         holds(rt, "session 1 stood before its last line", first == 5);
         let second = self.second.load(Ordering::SeqCst);
         holds(rt, "session 2 stood before its last line", second == 6);
+        let lines = self.lines.load(Ordering::SeqCst);
+        holds(rt, "each line came to the gate", lines == 6);
     }
 }
 
 // The sessions' lines have the numbers 1, 3 and 5, and 2, 4 and 6.
 impl Gate for Beside {
     fn before(&self, session: u32, line: u64) {
+        self.lines.fetch_add(1, Ordering::SeqCst);
         if session == 1 {
             self.first.store(line, Ordering::SeqCst);
             if line == 3 {
