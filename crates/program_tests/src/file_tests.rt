@@ -122,7 +122,10 @@ fn kept<R: Abort + Threads + Wait + Sync>(
     Err("another output".into())
 }
 
-// How often each of two lines fails if this call does.
+// The last call of the first file: `create` makes six, opening it makes six, and each line four.
+const LAST_CALL: u64 = 20;
+
+// How often each of two lines fails if this call does. Each fault is told, one of opening the files too.
 fn two_lines<R: Abort + Threads + Wait + Sync>(
     rt: &R,
     alloc: Global,
@@ -130,6 +133,8 @@ fn two_lines<R: Abort + Threads + Wait + Sync>(
 ) -> Result<(u64, u64), Fail> {
     let disks = created(rt, alloc, call, Status::Done)?;
     let ran = run_open(rt, alloc, "script", TWO_ROWS, disks)?;
+    let is_told = ran.ended.status != Status::Done;
+    holds_at(rt, "a fault is told", call, is_told == (call <= LAST_CALL));
     kept(rt, alloc, call, &ran)
 }
 
