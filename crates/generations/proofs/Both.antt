@@ -3,7 +3,7 @@ use Rattle.std.proofs.Common.{◌≡◌, ℕ, Bool, true, false, List, Some}
 use Rattle.db_outside.specs.Disk.{IsAllOnDisk}
 use Rattle.db_outside.specs.declared.disk.Disk.{Ghosts}
 use Rattle.gate_journal.specs.Reads.{OnlyReads}
-use Rattle.gate_journal.proofs.OnlyReading.{reads_none}
+use Rattle.gate_journal.proofs.OnlyReading.{reads_none, reads_then}
 use Rattle.generations.specs.declared.pair.Pair.{Pair}
 use Rattle.generations.specs.Pairs.{disk_of, AreAllOnDisk, BothOnlyRead}
 use Rattle.generations.specs.Picks.{of_two}
@@ -28,3 +28,10 @@ module _ {D : Type 0} (g : Ghosts D) where
 
     pub second_read : (new : D) → OnlyReads g.faults g.writes g.seen g.image g.moment g.since disks.second new → BothOnlyRead g disks (record { first = disks.first; second = new })
     second_read new reads = record { first = reads_none g.faults g.writes g.seen g.image g.moment g.since only_now disks.first; second = reads }
+
+  -- both were read, and then once more
+  pub both_read : (only_now : (d : D) (c : List ℕ) → g.since d (g.moment d) c → g.image d c) (old mid new : Pair D) → BothOnlyRead g old mid → BothOnlyRead g mid new → BothOnlyRead g old new
+  both_read only_now old mid new a b = record {
+    first = reads_then g.faults g.writes g.seen g.image g.moment g.since only_now old.first mid.first new.first a.first b.first;
+    second = reads_then g.faults g.writes g.seen g.image g.moment g.since only_now old.second mid.second new.second a.second b.second;
+  }

@@ -5,7 +5,7 @@ use Rattle.generations.specs.Looks.{IsPicked, SaysPicked}
 use Rattle.generations.specs.Openings.{IsOpened, IsCleanOpened}
 use Rattle.generations.specs.Picks.{of_two}
 use Rattle.generations.specs.Stored.{state_in}
-use Rattle.generations.proofs.Both.{one_read, one_on_disk, one_told}
+use Rattle.generations.proofs.Both.{one_read, one_on_disk, one_told, both_read}
 use Rattle.generations.proofs.Looking.{damaged_by, looked_by}
 use Rattle.generations.proofs.Reopening.{shut_found}
 use Rattle.generations.proofs.look.look.Goals as goal
@@ -53,3 +53,8 @@ returns-in-Ok-Whole-clause-clean g c =
           let read = subst (λ (o : Opened). IsOpened o s) c.in-Ok-Whole.field-0-is (c.in-Ok-Whole.ensures.told s (picked.seen_stays ∙ synced)) in
           shut_found s (state_in c.in-Ok-Whole.store) read.0 c.in-Ok-Whole.journal.at header read.2;
     }
+
+pub returns-in-Ok-Whole-clause-reads : goal.returns-in-Ok-Whole-clause-reads
+returns-in-Ok-Whole-clause-reads g c =
+    both_read g.D.Disk g.met.D.Disk.only_now c.args.disks.now c.picked.new.disks c.open_one.new.disks
+    (both_read g.D.Disk g.met.D.Disk.only_now c.args.disks.now c.sync_both.new.disks c.picked.new.disks c.sync_both.ensures.reads c.picked.ensures.reads) c.open_one.ensures.reads
