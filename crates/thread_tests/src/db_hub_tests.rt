@@ -10,7 +10,7 @@ ghost use Rattle.thread_tests.specs.Said.{IsUnused, HasSaid, MayLeave, HasLeft};
 use crate::asserts::holds;
 use crate::boards::{new_board, new_store};
 use db_core::Board;
-use db_hub::{LogTag, Room, Seat, Shut, Tag};
+use db_hub::{LogTag, Room, Seat, Tag};
 use db_value::{LineText, ListOf, Reply, Step};
 use entry_codec::NoLog;
 use history_note::{Note, Pen};
@@ -166,7 +166,7 @@ fn go_on_anew<T: LogTag<NoLog>>(
 {
     let mut room = Room::<PlainStore, NoLog, T>::new(alloc, board, note, pen);
     let told = go_on(alloc, &mut room);
-    let Shut { board, .. } = room.into_board();
+    let Room { board, .. } = room;
     (told, board)
 }
 
