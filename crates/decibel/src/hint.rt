@@ -1,5 +1,5 @@
 //! What somebody at a terminal is told below the status, where its text is short.
-use crate::{access_of, files_of};
+use crate::{access_of, files_of, paths_of};
 use db_outside::OpenGate;
 use db_realdev::{Access, RealSink, RealSource};
 use decibel_main::{Command, Status, command_of, decibel};
@@ -50,8 +50,7 @@ fn of_files<R: Files<File = File> + AllocGlobal>(
     base: &str,
     access: Access,
 ) -> Result<Option<String>, AllocError> {
-    let first = format!(in rt.alloc(); "{base}.0")?;
-    let second = format!(in rt.alloc(); "{base}.1")?;
+    let (first, second) = paths_of(rt, base)?;
     if metadata(rt, first.as_str()).is_err() && metadata(rt, second.as_str()).is_err() {
         let text = format!(in rt.alloc();
             "there is no {first} and no {second}: create BASE makes them"
@@ -64,12 +63,12 @@ fn of_files<R: Files<File = File> + AllocGlobal>(
     }
 }
 
-// Has master the relation? Its rows are exported to nowhere.
-fn has_relation<R: Files<File = File> + AllocGlobal + Threads + Wait + Sync>(
+// How the relation's rows in master would be exported. They go nowhere.
+fn export_ends<R: Files<File = File> + AllocGlobal + Threads + Wait + Sync>(
     rt: &R,
     base: &str,
     relation: &str,
-) -> Result<bool, AllocError> {
+) -> Result<Status, AllocError> {
     let mut words = Vec::new(rt.alloc());
     words.push(format!(in rt.alloc(); "export")?)?;
     words.push(format!(in rt.alloc(); "{base}")?)?;
@@ -87,7 +86,7 @@ fn has_relation<R: Files<File = File> + AllocGlobal + Threads + Wait + Sync>(
         disks,
         &OpenGate,
     );
-    Ok(ended.status == Status::Done)
+    Ok(ended.status)
 }
 
 // What bad line 0 means.
@@ -101,10 +100,13 @@ fn of_names<R: Files<File = File> + AllocGlobal + Threads + Wait + Sync>(
     let Some(version) = words.get(3) else {
         return Ok(Some(format!(in rt.alloc(); "there is no relation {relation}")?));
     };
-    if has_relation(rt, base.as_str(), relation.as_str())? {
-        return Ok(Some(format!(in rt.alloc(); "there is no version {version}")?));
+    match export_ends(rt, base.as_str(), relation.as_str())? {
+        Status::Done => Ok(Some(format!(in rt.alloc(); "there is no version {version}")?)),
+        Status::BadLine { line: 0 } => {
+            Ok(Some(format!(in rt.alloc(); "there is no relation {relation}")?))
+        }
+        _ => Ok(None),
     }
-    Ok(Some(format!(in rt.alloc(); "there is no relation {relation}")?))
 }
 
 /// What to do after a call with these words, if its status is short of that. The files were let go.
