@@ -1,21 +1,21 @@
 //! The rows of a text, inserted in one transaction of session 1.
 ghost use Rattle.std.specs.Prelude.{◌≡◌, ◌≤◌, ◌<◌, [], true, Ok, IfOk, IfErr, IfSome, OnOk, OnErr, length};
 ghost use Rattle.db_value.specs.Text.{is_name};
-ghost use Rattle.db_core.specs.Kept.{Stands};
-ghost use Rattle.csv_port.specs.Lines.{import_lines, insert_row, text_by, ReadsAs};
+ghost use Rattle.db_core.specs.Order.{opening};
+ghost use Rattle.db_core.specs.Cores.{StandsIn, InEach, StaysIn};
+ghost use Rattle.csv_port.specs.Lines.{import_lines, insert_row, ReadsAs};
 ghost use Rattle.csv_port.specs.Import.{count_named, import_told, lines_told, stop_by, told_by, told_of, Tells};
 ghost use Rattle.csv_port.specs.Ran.{RanStmt, RunsToEnd, RunsFirst, StopsAs};
 ghost use Rattle.csv_port.specs.Laws.{CanImport};
 
-use crate::numbers::push_numbers;
 use crate::rows::{MOST_ROWS, read_rows};
 use crate::stop::ImportStop;
 use db_core::Core;
 use db_store::Store;
-use db_value::{LineText, ListOf, Name, Record, Records, Refusal, Reply, Schema};
+use db_value::{Name, Record, Records, Refusal, Reply, Schema};
 use entry_codec::Log;
 use std::alloc::{AllocError, Global};
-use stmt_text::{Line, Stmt, write_line};
+use stmt_text::{Line, Stmt};
 
 /// The session of an import.
 const IMPORTER: u32 = 1;
@@ -29,67 +29,37 @@ pub struct Imported {
 }
 
 // Runs a statement of the import.
-fn run_stmt<St: Store, J: Log<St>>(
-    alloc: Global,
-    core: &mut Core<St, J>,
-    stmt: Stmt,
-) -> Result<Reply, AllocError>
+fn run_stmt<St: Store, J: Log<St>>(core: &mut Core<St, J>, stmt: Stmt) -> Result<Reply, AllocError>
     requires { ReadsAs stmt }
-    ensures ran { IfOk result (λ r. RanStmt J.Log core.old core.new stmt r) }
-    ensures err { OnErr result (core.new ≡ core.old) }
-    ensures stands { Stands core.new.kept }
+    ensures ran { IfOk result (λ r. InEach core.old.kept
+        (λ w. RanStmt J.Log w core.old core.new stmt r)) }
+    ensures err { OnErr result (StaysIn core.old core.new) }
 {
     let line = Line {
         session: IMPORTER,
         stmt,
     };
-    core.stands();
-    let text = write_line(alloc, &line)?;
-    let reply = core.answer(&text, &line)?;
-    core.stands();
+    let reply = core.answer(&line)?;
     Ok(reply)
 }
 
-// Writes the text of the line that inserts a row, in place of another text.
-fn insert_text(mut text: Vec<u8>, relation: &Name, row: &Record) -> Result<LineText, AllocError>
-    ensures { IfOk result (λ t. t ≡ text_by (insert_row relation.now row.now)) }
-{
-    text.clear();
-    text.extend_from_slice(b"1 insert ")?;
-    text.extend_from_slice(relation.as_bytes())?;
-    text.push(b' ')?;
-    push_numbers(&mut text, b' ', row)?;
-    Ok(ListOf::of(text))
-}
-
-// Inserts a row. The text is of no matter but for its memory, which the next row gets again.
+// Inserts a row.
 fn run_insert<St: Store, J: Log<St>>(
-    alloc: Global,
     core: &mut Core<St, J>,
-    text: &mut Vec<u8>,
     relation: &Name,
     row: &Record,
 ) -> Result<Reply, AllocError>
     requires { ReadsAs (insert_row relation.now row.now) }
-    ensures ran { IfOk result
-        (λ r. RanStmt J.Log core.old core.new (insert_row relation.now row.now) r) }
-    ensures err { OnErr result (core.new ≡ core.old) }
-    ensures stands { Stands core.new.kept }
+    ensures ran { IfOk result (λ r. InEach core.old.kept
+        (λ w. RanStmt J.Log w core.old core.new (insert_row relation.now row.now) r)) }
+    ensures err { OnErr result (StaysIn core.old core.new) }
 {
-    core.stands();
-    let line = Line {
-        session: IMPORTER,
-        stmt: Stmt::Insert {
-            relation: *relation,
-            key: row.key,
-            fields: row.fields,
-        },
+    let stmt = Stmt::Insert {
+        relation: *relation,
+        key: row.key,
+        fields: row.fields,
     };
-    let own = std::mem::replace(text, Vec::new(alloc));
-    let spelled = insert_text(own, relation, row)?;
-    let reply = core.answer(&spelled, &line)?;
-    core.stands();
-    *text = spelled.into_vec();
+    let reply = run_stmt(core, stmt)?;
     Ok(reply)
 }
 
@@ -129,34 +99,31 @@ fn told_by(rows: u32, reply: &Reply) -> Result<Imported, ImportStop>
 
 // Inserts rows, of which there is one at least. They are let go before the commit, which takes the most memory.
 fn import_rows<St: Store, J: Log<St>>(
-    alloc: Global,
     core: &mut Core<St, J>,
     relation: &Name,
     rows: Records,
 ) -> Result<Imported, ImportStop>
-    requires can { CanImport core.old.kept.steps relation.now rows }
+    requires can { CanImport core.old.kept relation.now rows }
     requires some { 0 < length rows }
-    ensures told { Tells (told_of core.old.kept.now relation.now rows) result }
-    ensures first { RunsFirst J.Log core.old core.new (import_lines relation.now rows) }
+    ensures told { Tells (told_of core.old.kept.state relation.now rows) result }
+    ensures first { RunsFirst J.Log (opening core.old.kept.state) core.old core.new (import_lines relation.now rows) }
     ensures all { OnOk result
-        (RunsToEnd J.Log core.old core.new (import_lines relation.now rows)) }
+        (RunsToEnd J.Log (opening core.old.kept.state) core.old core.new (import_lines relation.now rows)) }
     ensures stops { IfErr result (StopsAs J.faults core.old core.new) }
 {
-    core.stands();
     let room = MOST_ROWS as u32;
-    run_stmt(alloc, core, Stmt::Begin { room: Some(room) })?;
-    let mut text = Vec::new(alloc);
+    run_stmt(core, Stmt::Begin { room: Some(room) })?;
     let mut number: u64 = 0;
     for row in rows.as_slice() {
         number += 1;
-        let reply = run_insert(alloc, core, &mut text, relation, row)?;
+        let reply = run_insert(core, relation, row)?;
         match stop_by(number, &reply) {
             Some(stop) => return Err(stop),
             None => {}
         }
     }
     drop(rows);
-    let reply = run_stmt(alloc, core, Stmt::Commit)?;
+    let reply = run_stmt(core, Stmt::Commit)?;
     told_by(number as u32, &reply)
 }
 
@@ -171,23 +138,24 @@ fn count_of(schema: &Schema, relation: &Name) -> Option<usize>
     }
 }
 
-// The import of a text, once its lines have room.
-fn import_text<St: Store, J: Log<St>>(
+/// Imports the rows of a text into a relation of master, as session 1 of a core without lines. All rows
+/// are read before the first is inserted. A row that isn't inserted stops the import: the dataset is as
+/// before, and the log wasn't called.
+pub fn import<St: Store, J: Log<St>>(
     alloc: Global,
     core: &mut Core<St, J>,
     relation: &Name,
     text: &[u8],
 ) -> Result<Imported, ImportStop>
-    requires fresh { core.old.kept.steps ≡ [] }
+    requires fresh { StandsIn (opening core.old.kept.state) core.old.kept }
     requires named { is_name relation.now ≡ true }
-    ensures told { Tells (import_told core.old.kept.now relation.now text.now) result }
-    ensures first { RunsFirst J.Log core.old core.new
-        (lines_told core.old.kept.now relation.now text.now) }
-    ensures all { OnOk result (RunsToEnd J.Log core.old core.new
-        (lines_told core.old.kept.now relation.now text.now)) }
+    ensures told { Tells (import_told core.old.kept.state relation.now text.now) result }
+    ensures first { RunsFirst J.Log (opening core.old.kept.state) core.old core.new
+        (lines_told core.old.kept.state relation.now text.now) }
+    ensures all { OnOk result (RunsToEnd J.Log (opening core.old.kept.state) core.old core.new
+        (lines_told core.old.kept.state relation.now text.now)) }
     ensures stops { IfErr result (StopsAs J.faults core.old core.new) }
 {
-    core.stands();
     let Some(columns) = count_of(core.schema(), relation) else {
         return Err(ImportStop::NoRelation);
     };
@@ -200,35 +168,7 @@ fn import_text<St: Store, J: Log<St>>(
                     position: None,
                 });
             }
-            import_rows(alloc, core, relation, rows)
+            import_rows(core, relation, rows)
         }
     }
-}
-
-// How many lines the import of a text has at most: one for each row, of four bytes at least, and two round them.
-fn most_lines(text: &[u8]) -> u32 {
-    ((text.len() / 4 + 1) as u64).min(MOST_ROWS) as u32 + 2
-}
-
-/// Imports the rows of a text into a relation of master, as session 1 of a core without lines. All rows
-/// are read before the first is inserted. A row that isn't inserted stops the import: the dataset is as
-/// before, and the log wasn't called.
-pub fn import<St: Store, J: Log<St>>(
-    alloc: Global,
-    core: &mut Core<St, J>,
-    relation: &Name,
-    text: &[u8],
-) -> Result<Imported, ImportStop>
-    requires fresh { core.old.kept.steps ≡ [] }
-    requires named { is_name relation.now ≡ true }
-    ensures told { Tells (import_told core.old.kept.now relation.now text.now) result }
-    ensures first { RunsFirst J.Log core.old core.new
-        (lines_told core.old.kept.now relation.now text.now) }
-    ensures all { OnOk result (RunsToEnd J.Log core.old core.new
-        (lines_told core.old.kept.now relation.now text.now)) }
-    ensures stops { IfErr result (StopsAs J.faults core.old core.new) }
-{
-    // Without room at once each line takes its own.
-    let _ = core.reserve(most_lines(text));
-    import_text(alloc, core, relation, text)
 }

@@ -9,7 +9,7 @@ use Rattle.db_outside.specs.Count.{counted}
 use Rattle.db_outside.specs.declared.disk.Disk.{Ghosts}
 use Rattle.entry_codec.specs.declared.log.Log.{Ghosts as LogGhosts}
 use Rattle.db_core.specs.Order.{World, opening}
-use Rattle.db_core.specs.Kept.{Kept, Logged, world_of, new_kept}
+use Rattle.db_core.specs.Cores.{WithLog, StandsIn}
 use Rattle.csv_port.specs.declared.imports.Imported.{Imported}
 use Rattle.csv_port.specs.declared.stop.ImportStop.{ImportStop}
 use Rattle.csv_port.specs.declared.stop.ImportStop.TheVariants.{BadRow, NoRelation, KeyThere, Full, DiskFault as LogFailed, Memory as NoMemory}
@@ -132,7 +132,7 @@ not_less a b is = omega (arith, ltb-false a b is)
 
 module _ {L S V P Q : Type 0} (j : LogGhosts L S V P Q) where
   -- a row that is refused spares the log
-  row_spares : (old new : Logged L) (stop : ImportStop) (rose : Bool) (n : ℕ) → stop_status rose stop ≡ BadLine n → StopsAs j.faults old new stop → new.log ≡ old.log
+  row_spares : (old new : WithLog L) (stop : ImportStop) (rose : Bool) (n : ℕ) → stop_status rose stop ≡ BadLine n → StopsAs j.faults old new stop → new.log ≡ old.log
   row_spares old new (BadRow row) rose n is s = s.1
   row_spares old new NoRelation rose n is s = s.1
   row_spares old new (KeyThere row) rose n is s = s.1
@@ -171,16 +171,13 @@ module _ {L S V P Q : Type 0} (j : LogGhosts L S V P Q) where
     count = λ is. absurd (cc is);
   }
 
-  module _ (s : State) (k m : Logged L) (relation input : List ℕ) (rose : Bool) (status : Status) (before after : Option (List ℕ)) (world : world_of k.kept ≡ opening s) where
+  module _ (s : State) (k m : WithLog L) (relation input : List ℕ) (rose : Bool) (status : Status) (before after : Option (List ℕ)) where
     abbrev lines : List (List ℕ)
     lines = lines_told s relation input
 
-    stores_at : (ran : List Marked) (rest : List (List ℕ)) → Runs j k m lines ran rest → StoresAll j (opening s) ran k.log m.log
-    stores_at ran rest r = subst (λ (w : World). StoresAll j w ran k.log m.log) world r.stores
-
     by_result : (imported : Result Imported ImportStop) → Tells (import_told s relation input) imported
-        → RunsFirst j k m lines
-        → OnOk imported (RunsToEnd j k m lines)
+        → RunsFirst j (opening s) k m lines
+        → OnOk imported (RunsToEnd j (opening s) k m lines)
         → IfErr imported (StopsAs j.faults k m)
         → EndedBy imported rose status before after
         → rose ≡ nat_lt (counted (j.faults k.log)) (counted (j.faults m.log))
@@ -189,18 +186,18 @@ module _ {L S V P Q : Type 0} (j : LogGhosts L S V P Q) where
       ran = map unmarked lines;
       rest = [];
       lines = all.0.lines;
-      stores = stores_at (map unmarked lines) [] all.0;
+      stores = all.0.stores;
       ends = ends_made (import_told s relation input) (map unmarked lines) [] before after made rose status (tells, refl, none_marked lines) e;
       others = all.1;
       spared = λ n is. made_row made rose n status before after is e;
-      count = λ is below. none_rose (j.faults k.log) (j.faults m.log) (stores_at (map unmarked lines) [] all.0).later
+      count = λ is below. none_rose (j.faults k.log) (j.faults m.log) all.0.stores.later
           (not_less _ _ (sym is_rose ∙ not_rose (Ok made) rose before after (subst (λ (t : Status). EndedBy (Ok made) rose t before after) is e))) below;
     }
     by_result (Err stop) tells first all stops e is_rose = record {
       ran = first.0;
       rest = first.1;
       lines = first.2.lines;
-      stores = stores_at first.0 first.1 first.2;
+      stores = first.2.stores;
       ends = subst (λ (t : Status). EndsImport t (import_told s relation input) first.0 first.1 before after) (sym e.0) (ends_stop (import_told s relation input) first.0 first.1 before after stop rose tells e.1);
       others = first.3;
       spared = λ n is. row_spares k m stop rose n (sym e.0 ∙ is) stops;
@@ -208,21 +205,21 @@ module _ {L S V P Q : Type 0} (j : LogGhosts L S V P Q) where
     }
 
   -- an import into a core on which nothing was run before
-  pub imports_told : (k m : Logged L) (s : State) (n : ℕ) (log log' : L) (relation input : List ℕ) (rose : Bool) (status : Status) (before after : Option (List ℕ)) (imported : Result Imported ImportStop) (x y : ℕ)
-      → k.kept ≡ new_kept s n → k.log ≡ log → log' ≡ m.log → x ≡ counted (j.faults log) → y ≡ counted (j.faults log') → rose ≡ nat_lt x y
-      → Tells (import_told k.kept.now relation input) imported
-      → RunsFirst j k m (lines_told k.kept.now relation input)
-      → OnOk imported (RunsToEnd j k m (lines_told k.kept.now relation input))
+  pub imports_told : (k m : WithLog L) (s : State) (log log' : L) (relation input : List ℕ) (rose : Bool) (status : Status) (before after : Option (List ℕ)) (imported : Result Imported ImportStop) (x y : ℕ)
+      → StandsIn (opening s) k.kept → k.log ≡ log → log' ≡ m.log → x ≡ counted (j.faults log) → y ≡ counted (j.faults log') → rose ≡ nat_lt x y
+      → Tells (import_told k.kept.state relation input) imported
+      → RunsFirst j (opening k.kept.state) k m (lines_told k.kept.state relation input)
+      → OnOk imported (RunsToEnd j (opening k.kept.state) k m (lines_told k.kept.state relation input))
       → IfErr imported (StopsAs j.faults k m)
       → EndedBy imported rose status before after
       → Log s log log' relation input status before after
-  imports_told k m s n log log' relation input rose status before after imported x y kept same after_is is_x is_y is_rose tells first all stops e =
-      let now : k.kept.now ≡ s = ap (λ (x : Kept). x.now) kept in
+  imports_told k m s log log' relation input rose status before after imported x y stands same after_is is_x is_y is_rose tells first all stops e =
+      let now : k.kept.state ≡ s = sym stands.state in
       subst (λ (p : L × L). Log s p.0 p.1 relation input status before after) (λ i. (same i, sym after_is i))
-      (by_result s k m relation input rose status before after (ap (λ (x : Kept). world_of x) kept) imported
+      (by_result s k m relation input rose status before after imported
       (subst (λ (x : State). Tells (import_told x relation input) imported) now tells)
-      (subst (λ (x : State). RunsFirst j k m (lines_told x relation input)) now first)
-      (subst (λ (x : State). OnOk imported (RunsToEnd j k m (lines_told x relation input))) now all)
+      (subst (λ (x : State). RunsFirst j (opening x) k m (lines_told x relation input)) now first)
+      (subst (λ (x : State). OnOk imported (RunsToEnd j (opening x) k m (lines_told x relation input))) now all)
       stops e
       (is_rose ∙ (λ i. nat_lt ((is_x ∙ ap (λ (l : L). counted (j.faults l)) (sym same)) i) ((is_y ∙ ap (λ (l : L). counted (j.faults l)) after_is) i))))
 

@@ -2,6 +2,7 @@
 use Rattle.std.proofs.Common.{◌≡◌, ◌⊎◌, inl, inr, map, ⊎_elim, ◌∙◌, ◌+◌, ◌-◌, ◌^◌, ◌<◌, ◌≤◌, ◌++◌, ◌∷◌, [], List, ℕ, Bool, true, false, cond, nat_lt, refl, sym, ap, subst, arith, Option, Some, None}
 use Rattle.std.specs.Prelude.{Result, Ok, Err, OnOk, IsErrOf}
 use Rattle.std.proofs.lemmas.List.{append-nil}
+use Rattle.std.proofs.lemmas.Result.{on_ok_weaker}
 use Rattle.db_value.specs.declared.entry.Entry.{Entry}
 use Rattle.db_store.specs.State.{State}
 use Rattle.db_outside.specs.Count.{counted}
@@ -10,7 +11,7 @@ use Rattle.entry_codec.specs.declared.log.Log.{Ghosts as LogGhosts}
 use Rattle.entry_codec.specs.Logs.{Opening, gives, MayGive}
 use Rattle.store_tx.specs.Stored.{Has, GivesOwed}
 use Rattle.db_core.specs.Order.{World, opening}
-use Rattle.db_core.specs.Kept.{Logged, world_of, new_kept}
+use Rattle.db_core.specs.Cores.{WithLog, StandsIn, InEach}
 use Rattle.generations.specs.declared.dataset.Dataset.{Dataset}
 use Rattle.generations.specs.declared.pair.Pair.{Pair}
 use Rattle.generations.specs.Datasets.{pair_in, generation_in, counted_in, place_in, KeepsIn, OwesIn, moment_in, OpensNowIn, OpensSinceIn, QuietIn}
@@ -73,18 +74,18 @@ module _ {L S V P Q : Type 0} (j : LogGhosts L S V P Q) where
     count = λ is. absurd (cc is);
   }
 
-  module _ (k m : Logged L) (all : List (List ℕ)) (before written : Option (List ℕ)) where
+  module _ (w : World) (k m : WithLog L) (all : List (List ℕ)) (before written : Option (List ℕ)) where
     abbrev All : Type 0
-    All = RunsAll j k m all before written
+    All = RunsAll j w k m all before written
 
     abbrev Cut : Type 0
-    Cut = RunsCut j k m all before written
+    Cut = RunsCut j w k m all before written
 
     abbrev Whole : Type 0
-    Whole = RunsWhole j k m all before written
+    Whole = RunsWhole j w k m all before written
 
     abbrev Of : Status → Type 0
-    Of status = Log (world_of k.kept) k.log m.log all status before written
+    Of status = Log w k.log m.log all status before written
 
     of_done : All → counted (j.faults m.log) ≤ counted (j.faults k.log) → Of Done
     of_done a le = record {
@@ -93,7 +94,7 @@ module _ {L S V P Q : Type 0} (j : LogGhosts L S V P Q) where
       lines = a.runs.lines;
       stores = a.runs.stores;
       answers = (refl, a.answers);
-      unfailed = λ is below. none_failed (failures a.ran) (j.faults k.log) (j.faults m.log) (few_alone j (world_of k.kept) a.ran k.log m.log a.runs.stores) a.runs.stores.later le below;
+      unfailed = λ is below. none_failed (failures a.ran) (j.faults k.log) (j.faults m.log) (few_alone j w a.ran k.log m.log a.runs.stores) a.runs.stores.later le below;
       count = λ is below. none_rose (j.faults k.log) (j.faults m.log) a.runs.stores.later le below;
     }
 
@@ -120,16 +121,16 @@ module _ {L S V P Q : Type 0} (j : LogGhosts L S V P Q) where
       runs_by AlreadyThere end = absurd end
       runs_by (BadLine n) end = absurd end
 
-  -- a run of a core on which nothing was run before
-  pub run_told : (k m : Logged L) (s : State) (n : ℕ) (log log' : L) (all : List (List ℕ)) (before written : Option (List ℕ)) (ran : Result (Unit {0}) RunStop) (status : Status) (x y : ℕ)
-      → k.kept ≡ new_kept s n → k.log ≡ log → log' ≡ m.log → x ≡ counted (j.faults log) → y ≡ counted (j.faults log')
-      → OnOk ran (RunsAll j k m all before written)
-      → (IsErrOf ran Fault → RunsCut j k m all before written)
-      → (IsErrOf ran NoMemory → RunsWhole j k m all before written)
-      → IsEndOf status ran x y → Log (opening s) log log' all status before written
-  run_told k m s n log log' all before written ran status x y kept same after is_x is_y all_of cut_of whole_of end =
-      subst (λ (p : World × L × L). Log p.0 p.1 p.2 all status before written) (λ i. (world_of (kept i), same i, sym after i))
-      (runs_by k m all before written ran all_of cut_of whole_of status
+  -- a run of a core in a world in which it stood
+  pub run_told : (w : World) (k m : WithLog L) (log log' : L) (all : List (List ℕ)) (before written : Option (List ℕ)) (ran : Result (Unit {0}) RunStop) (status : Status) (x y : ℕ)
+      → StandsIn w k.kept → k.log ≡ log → log' ≡ m.log → x ≡ counted (j.faults log) → y ≡ counted (j.faults log')
+      → OnOk ran (InEach k.kept (λ v. RunsAll j v k m all before written))
+      → (IsErrOf ran Fault → InEach k.kept (λ v. RunsCut j v k m all before written))
+      → (IsErrOf ran NoMemory → InEach k.kept (λ v. RunsWhole j v k m all before written))
+      → IsEndOf status ran x y → Log w log log' all status before written
+  run_told w k m log log' all before written ran status x y stands same after is_x is_y all_of cut_of whole_of end =
+      subst (λ (p : L × L). Log w p.0 p.1 all status before written) (λ i. (same i, sym after i))
+      (runs_by w k m all before written ran (on_ok_weaker ran (λ each. each w stands) all_of) (λ f. cut_of f w stands) (λ f. whole_of f w stands) status
       (subst (λ (p : ℕ × ℕ). IsEndOf status ran p.0 p.1) (λ i. ((is_x ∙ ap (λ (l : L). counted (j.faults l)) (sym same)) i, (is_y ∙ ap (λ (l : L). counted (j.faults l)) after) i)) end))
 
 -- lines that were run don't end by bytes

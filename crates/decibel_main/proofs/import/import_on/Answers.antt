@@ -14,8 +14,8 @@ returns-in-Err-clause-imports g c =
 
 pub returns-clause-imports : goal.returns-clause-imports
 returns-clause-imports g c =
-    imports_told g.J.Log c.in-Ok.core c.import-imported.new.core (g.St.Store.state c.args.store) _ c.args.log _ c.args.relation.now c.args.input.now _ c.ended-status.result _ _ c.import-imported.result _ _
-    c.in-Ok.ensures.kept c.in-Ok.ensures.log c.into_log-log.ensures.log c.fault_count-before.ensures c.fault_count.ensures refl c.import-imported.ensures.told c.import-imported.ensures.first c.import-imported.ensures.all c.import-imported.ensures.stops c.ended-status.ensures.told
+    imports_told g.J.Log c.in-Ok.core c.import-imported.new.core (g.St.Store.state c.args.store) c.args.log _ c.args.relation.now c.args.input.now _ c.ended-status.result _ _ c.import-imported.result _ _
+    c.in-Ok.ensures.stands c.in-Ok.ensures.log c.into_log-log.ensures.log c.fault_count-before.ensures c.fault_count.ensures refl c.import-imported.ensures.told c.import-imported.ensures.first c.import-imported.ensures.all c.import-imported.ensures.stops c.ended-status.ensures.told
 
 pub returns-clause-disk : goal.returns-clause-disk
 returns-clause-disk g c = λ is.
