@@ -30,7 +30,7 @@ use stmt_text::Stmt;
 #[derive(Drop)]
 pub struct Whole<St: Store, J: Log<St>, T: LogTag<J>> {
     pub alloc: Global,
-    pub board: Board<St, J>,
+    pub board: Board<St, J, T>,
     pub note: Note<St>,
     pub pen: Pen<St>,
     pub out: Vec<(u32, u32)>,

@@ -6,7 +6,11 @@ use Rattle.db_store.specs.State.{State}
 use Rattle.stmt_text.specs.declared.sections.Section.{Section}
 use Rattle.history_note.specs.Places.{places}
 use Rattle.history_note.specs.Shown.{AtNote, AtPen, AtPass, is_carrying, FitsPen}
+use Rattle.entry_codec.specs.declared.log.Log.{Ghosts}
+use Rattle.db_core.specs.Order.{opening}
 use Rattle.db_core.specs.Kept.{Kept, Stands, said_step}
+use Rattle.db_core.specs.Heard.{Marked, marked_steps}
+use Rattle.db_core.specs.Accounts.{StoresGroups}
 use Rattle.db_hub.specs.Entered.{is_open_after}
 use Rattle.db_hub.specs.Rooms.{AtRoom}
 use Rattle.db_hub.specs.Seats.{AtSeat}
@@ -88,6 +92,21 @@ pub record HasRun (old new : Kept) : Type 0 where
   pub opening : new.opening ≡ old.opening
   pub first_count : new.first_count ≡ old.first_count
   pub stands : Stands new
+
+-- how sections end: all whole, or some begun
+abbrev pub EndsWith : Option Unfinished → State → List Section → List Step → Type 0
+EndsWith None o sections steps = IsInterleaving o sections steps
+EndsWith (Some why) o sections steps = IsBeginning why o sections steps
+
+-- Sections were run on this state, and left this log and these steps: an interleaving of the sections, or beginnings of them. Each step has the reply of its whole transaction, and since the
+-- first log the log did for the steps' lines what a log does.
+pub record Ends {L S V P Q : Type 0} (g : Ghosts L S V P Q) (o : State) (first : L) (sections : List Section) (why : Option Unfinished) (last : L) (steps : List Step) : Type 0 where
+  pub list : EndsWith why o sections steps
+  pub kept : Kept
+  pub stands : Stands kept
+  pub opening_is : kept.opening ≡ o
+  pub steps_are : kept.steps ≡ steps
+  pub stores : (groups : List (List Marked)) × StoresGroups g (opening o) (marked_steps steps) groups first last
 
 -- nothing was run on the board of the room, and no seat was given
 pub record IsUnused {J : Type 0} (r : AtRoom J) : Type 0 where

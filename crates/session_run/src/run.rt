@@ -2,9 +2,10 @@
 ghost use Rattle.std.specs.Prelude.{◌≡◌, ◌≤◌, ℕ, [], length, Some, IfOk, IfErr, MatchResult};
 ghost use Rattle.stmt_text.specs.Sections.{AllOwn, Above};
 ghost use Rattle.history_note.specs.Shown.{new_pen};
-ghost use Rattle.db_core.specs.Kept.{Stands};
+ghost use Rattle.db_outside.specs.Count.{counted};
+ghost use Rattle.db_core.specs.Kept.{Stands, new_kept};
 ghost use Rattle.db_core.specs.Runs.{StoresSteps};
-ghost use Rattle.session_run.specs.Runs.{HasRun, IsNew, IsInterleaving, IsBeginning, IsNamed};
+ghost use Rattle.session_run.specs.Runs.{HasRun, IsNew, IsInterleaving, IsBeginning, IsNamed, EndsWith, Ends};
 
 use crate::jobs::{run_jobs, seated};
 use crate::tie::tie_all;
@@ -12,6 +13,7 @@ use db_core::{Board, Waiting};
 use db_hub::{Hub, LogTag, Patience, Room, Whole};
 use db_outside::Gate;
 use db_store::Store;
+use db_value::Step;
 use entry_codec::Log;
 use flush_queue::FlushQueue;
 use history_note::{Note, Pen};
@@ -49,11 +51,11 @@ fn run_named<
     rt: &R,
     alloc: Global,
     sections: &[Section],
-    board: Board<St, J>,
+    board: Board<St, J, T>,
     note: Note<St>,
     pen: Pen<St>,
     gate: &G,
-) -> Result<Board<St, J>, (Unfinished, Board<St, J>)>
+) -> Result<Board<St, J, T>, (Unfinished, Board<St, J, T>)>
 where
     St::View: Send + Sync,
     St::Prepared: Send + Sync,
@@ -123,11 +125,97 @@ where
     }
 }
 
-/// Runs each section on a thread of its own, on a board on which nothing was run. The board's list is then an interleaving of the
-/// sections, in which each line has the reply of its whole transaction. A section whose thread can't be started runs on the thread
-/// that would have started it. The gate is called before each line of a section. After want of memory the list, with its replies, has a
-/// beginning of each section, unless a pass was lost. In either case the log did for the lines of the list, as if they had been run
-/// one after another, what a log does.
+// Runs sections on a board, and tells why not all were run to their ends, if so.
+fn run_to_end<
+    St: Store + Send + Sync,
+    J: Log<St> + Send,
+    T: LogTag<J> + Send + Sync,
+    R: Threads + Wait + Sync,
+    G: Gate + Sync,
+>(
+    rt: &R,
+    alloc: Global,
+    sections: &[Section],
+    board: Board<St, J, T>,
+    note: Note<St>,
+    pen: Pen<St>,
+    gate: &G,
+) -> (Option<Unfinished>, Board<St, J, T>)
+where
+    St::View: Send + Sync,
+    St::Prepared: Send + Sync,
+    St::PreparedBranch: Send + Sync,
+    requires sections { (length sections.now ≤ 65) × AllOwn sections.now × Above 0 sections.now }
+    requires board { IsNew board.kept }
+    requires named { (note.opening ≡ board.kept.opening) × (pen ≡ new_pen note)
+        × IsNamed T.note T.opened T.first T.numbers T.since T.stays note board.kept
+        sections.now
+        × (T.log ≡ Some board.log) }
+    ensures list { EndsWith result.0 board.kept.opening sections.now result.1.kept.steps }
+    ensures ran { HasRun board.kept result.1.kept }
+    ensures stored { StoresSteps J.Log board.log result.1 }
+{
+    match run_named(rt, alloc, sections, board, note, pen, gate) {
+        Ok(board) => (None, board),
+        Err((why, board)) => (Some(why), board),
+    }
+}
+
+// It does nothing. A board on the state of a store stands before its first line.
+fn new_stands<St: Store>(_store: &St)
+    ensures { Stands (new_kept (St.state _store.now) 0) }
+{}
+
+// Runs sections on a new board under the names of a tag, with memory for so many lines if there is.
+fn run_new<
+    St: Store + Send + Sync,
+    J: Log<St> + Send,
+    T: LogTag<J> + Send + Sync,
+    R: Threads + Wait + Sync,
+    G: Gate + Sync,
+>(
+    rt: &R,
+    alloc: Global,
+    sections: &[Section],
+    lines: u32,
+    store: St,
+    log: J,
+    note: Note<St>,
+    pen: Pen<St>,
+    gate: &G,
+) -> (Option<Unfinished>, J, Vec<Step>)
+where
+    St::View: Send + Sync,
+    St::Prepared: Send + Sync,
+    St::PreparedBranch: Send + Sync,
+    requires sections { (length sections.now ≤ 65) × AllOwn sections.now × Above 0 sections.now }
+    requires named { (note.opening ≡ St.state store) × (pen ≡ new_pen note)
+        × IsNamed T.note T.opened T.first T.numbers T.since T.stays note
+        (new_kept (St.state store) (counted (J.faults log))) sections.now
+        × (T.log ≡ Some log) }
+    ensures { Ends J.Log (St.state store) log sections.now result.0 result.1 result.2.items }
+{
+    new_stands(&store);
+    match Board::<St, J, T>::new(alloc, store, log) {
+        Err((AllocError, _, log)) => (Some(Unfinished::Memory), log, Vec::new(alloc)),
+        Ok(board) => {
+            let mut board = board;
+            // Without room at once each line takes its own.
+            let _ = board.reserve(lines);
+            let (why, board) = run_to_end(rt, alloc, sections, board, note, pen, gate);
+            let (log, steps) = board.into_steps();
+            (why, log, steps)
+        }
+    }
+}
+
+/// Runs each section on a thread of its own, on a dataset with its log, with memory for so many lines
+/// if there is. It gives the log back, and the list of lines with their replies: an interleaving of the
+/// sections, in which each line has the reply of its whole transaction. A section whose thread can't be
+/// started runs on the thread that would have started it. The gate is called before each line of a
+/// section. After want of memory the list has a beginning of each section, unless a pass was lost. In
+/// either case the log did for the lines of the list, as if they had been run one after another, what a
+/// log does.
 pub fn run_sessions<
     St: Store + Send + Sync,
     J: Log<St> + Send,
@@ -137,25 +225,30 @@ pub fn run_sessions<
     rt: &R,
     alloc: Global,
     sections: &Sections,
-    board: Board<St, J>,
+    lines: u32,
+    store: St,
+    log: J,
     gate: &G,
-) -> Result<Board<St, J>, (Unfinished, Board<St, J>)>
+) -> (Option<Unfinished>, J, Vec<Step>)
 where
     St::View: Send + Sync,
     St::Prepared: Send + Sync,
     St::PreparedBranch: Send + Sync,
-    requires board { IsNew board.kept }
-    ensures ok { IfOk result (λ b. HasRun board.kept b.kept
-        × IsInterleaving board.kept.opening sections.now b.kept.steps) }
-    ensures err { IfErr result (λ e. HasRun board.kept e.1.kept
-        × IsBeginning e.0 board.kept.opening sections.now e.1.kept.steps) }
-    ensures stored { MatchResult result
-        (λ b. StoresSteps J.Log board.log b) (λ e. StoresSteps J.Log board.log e.1) }
+    ensures { Ends J.Log (St.state store) log sections.now result.0 result.1 result.2.items }
 {
-    match Note::new(alloc, board.store()) {
-        Err(AllocError) => Err((Unfinished::Memory, board)),
-        Ok((note, pen)) => {
-            run_named::<St, J, Brand, R, G>(rt, alloc, sections.as_slice(), board, note, pen, gate)
-        }
+    new_stands(&store);
+    match Note::new(alloc, &store) {
+        Err(AllocError) => (Some(Unfinished::Memory), log, Vec::new(alloc)),
+        Ok((note, pen)) => run_new::<St, J, Brand, R, G>(
+            rt,
+            alloc,
+            sections.as_slice(),
+            lines,
+            store,
+            log,
+            note,
+            pen,
+            gate,
+        ),
     }
 }
