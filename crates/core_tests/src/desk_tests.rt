@@ -9,12 +9,13 @@ ghost use Rattle.core_tests.specs.Desks.{IsBare, KeepsOthers};
 
 use crate::asserts::{are_steps, holds, is_told, line_of};
 use db_core::laws::{new_desk_law, other_lines_law};
-use db_core::{Board, Desk};
+use db_core::{Board, Desk, Opened};
 use db_store::Store;
 use db_value::{LineText, ListOf, Schema};
 use entry_codec::{Log, NoLog};
 use plain_store::PlainStore;
 use std::alloc::Global;
+use std::marker::Brand;
 use std::process::Abort;
 use std::test::Fail;
 use stmt_text::{LineStop, Stmt, read_line};
@@ -87,37 +88,43 @@ pub fn stmt_of(alloc: Global, text: &LineText, session: u32) -> Result<Stmt, Fai
     }
 }
 
-fn new_board<St: Store, J: Log<St>>(alloc: Global, store: St, log: J) -> Result<Board<St, J>, Fail>
+fn new_board<St: Store, J: Log<St>, T: Opened>(
+    alloc: Global,
+    store: St,
+    log: J,
+) -> Result<Board<St, J, T>, Fail>
+    requires { (T.opened ≡ St.state store) × (T.first ≡ counted (J.faults log)) }
     ensures { IfOk result
         (λ b. b.kept ≡ new_kept (St.state store) (counted (J.faults log))) }
 {
-    match Board::new(alloc, store, log) {
+    match Board::<St, J, T>::new(alloc, store, log) {
         Err(_) => Err("no board".into()),
         Ok(board) => Ok(board),
     }
 }
 
 // A board, and desks of the sessions 1 and 2.
-fn two_desks<St: Store, J: Log<St>>(
+fn two_desks<St: Store, J: Log<St>, T: Opened>(
     alloc: Global,
     store: St,
     log: J,
-) -> Result<(Board<St, J>, Desk<St>, Desk<St>), Fail>
+) -> Result<(Board<St, J, T>, Desk<St>, Desk<St>), Fail>
+    requires { (T.opened ≡ St.state store) × (T.first ≡ counted (J.faults log)) }
     ensures first { IfOk result (λ p. IsBare 1 p.0.kept p.1) }
     ensures second { IfOk result (λ p. IsBare 2 p.0.kept p.2) }
 {
     new_desk_law();
     let first = Desk::new(alloc, 1, store.schema())?;
     let second = Desk::new(alloc, 2, store.schema())?;
-    let board = new_board(alloc, store, log)?;
+    let board = new_board::<St, J, T>(alloc, store, log)?;
     Ok((board, first, second))
 }
 
 // The board answers a statement. A desk of another session agrees with it after that.
-fn visit_alone<St: Store, J: Log<St>>(
+fn visit_alone<St: Store, J: Log<St>, T: Opened>(
     rt: &impl Abort,
     alloc: Global,
-    board: &mut Board<St, J>,
+    board: &mut Board<St, J, T>,
     desk: &mut Desk<St>,
     text: &LineText,
     stmt: &Stmt,
@@ -136,10 +143,10 @@ fn visit_alone<St: Store, J: Log<St>>(
 }
 
 // The board answers a line of session 2.
-fn hold<St: Store, J: Log<St>>(
+fn hold<St: Store, J: Log<St>, T: Opened>(
     rt: &impl Abort,
     alloc: Global,
-    board: &mut Board<St, J>,
+    board: &mut Board<St, J, T>,
     desk: &mut Desk<St>,
     row: &str,
 ) -> Result<(), Fail>
@@ -154,10 +161,10 @@ fn hold<St: Store, J: Log<St>>(
 }
 
 // Session 2 begins dev, and changes it in a transaction.
-fn change_dev<St: Store, J: Log<St>>(
+fn change_dev<St: Store, J: Log<St>, T: Opened>(
     rt: &impl Abort,
     alloc: Global,
-    board: &mut Board<St, J>,
+    board: &mut Board<St, J, T>,
     desk: &mut Desk<St>,
 ) -> Result<(), Fail>
     requires { IsBare 2 board.old.kept desk.old }
@@ -178,26 +185,27 @@ fn change_dev<St: Store, J: Log<St>>(
 }
 
 /// A board, and desks of the sessions 1 and 2, of which the second one has changed dev in an open
-/// transaction. No line waits at them.
-pub fn with_open<St: Store, J: Log<St>>(
+/// transaction. No line waits at them. The board's names are given.
+pub fn with_open<St: Store, J: Log<St>, T: Opened>(
     rt: &impl Abort,
     alloc: Global,
     store: St,
     log: J,
-) -> Result<(Board<St, J>, Desk<St>, Desk<St>), Fail>
+) -> Result<(Board<St, J, T>, Desk<St>, Desk<St>), Fail>
+    requires { (T.opened ≡ St.state store) × (T.first ≡ counted (J.faults log)) }
     ensures first { IfOk result (λ p. IsBare 1 p.0.kept p.1) }
     ensures second { IfOk result (λ p. IsBare 2 p.0.kept p.2) }
 {
-    let (mut board, first, mut second) = two_desks(alloc, store, log)?;
+    let (mut board, first, mut second) = two_desks::<St, J, T>(alloc, store, log)?;
     change_dev(rt, alloc, &mut board, &mut second)?;
     Ok((board, first, second))
 }
 
 // The desk answers a statement, or the board does.
-fn tell_stmt<St: Store, J: Log<St>>(
+fn tell_stmt<St: Store, J: Log<St>, T: Opened>(
     rt: &impl Abort,
     alloc: Global,
-    board: &mut Board<St, J>,
+    board: &mut Board<St, J, T>,
     desk: &mut Desk<St>,
     text: &LineText,
     stmt: &Stmt,
@@ -218,10 +226,10 @@ fn tell_stmt<St: Store, J: Log<St>>(
 }
 
 // A line of session 1: its desk answers it, or the board does.
-fn tell_text<St: Store, J: Log<St>>(
+fn tell_text<St: Store, J: Log<St>, T: Opened>(
     rt: &impl Abort,
     alloc: Global,
-    board: &mut Board<St, J>,
+    board: &mut Board<St, J, T>,
     desk: &mut Desk<St>,
     text: &LineText,
     row: &str,
@@ -252,10 +260,10 @@ fn tell_text<St: Store, J: Log<St>>(
 }
 
 // The line of a row.
-fn tell_row<St: Store, J: Log<St>>(
+fn tell_row<St: Store, J: Log<St>, T: Opened>(
     rt: &impl Abort,
     alloc: Global,
-    board: &mut Board<St, J>,
+    board: &mut Board<St, J, T>,
     desk: &mut Desk<St>,
     row: &str,
 ) -> Result<(), Fail>
@@ -268,10 +276,10 @@ fn tell_row<St: Store, J: Log<St>>(
     tell_text(rt, alloc, board, desk, &text, row)
 }
 
-fn tell_all<St: Store, J: Log<St>>(
+fn tell_all<St: Store, J: Log<St>, T: Opened>(
     rt: &impl Abort,
     alloc: Global,
-    board: &mut Board<St, J>,
+    board: &mut Board<St, J, T>,
     desk: &mut Desk<St>,
     rows: &[&str],
 ) -> Result<(), Fail>
@@ -287,10 +295,10 @@ fn tell_all<St: Store, J: Log<St>>(
 }
 
 // The board has all lines in the end, behind the four of session 2.
-fn enters_all<St: Store>(
+fn enters_all<St: Store, T: Opened>(
     rt: &impl Abort,
     alloc: Global,
-    board: &mut Board<St, NoLog>,
+    board: &mut Board<St, NoLog, T>,
     desk: &mut Desk<St>,
 ) -> Result<(), Fail>
     requires agree { Agrees board.old.kept desk.old }
@@ -303,9 +311,16 @@ fn enters_all<St: Store>(
     are_steps(rt, board.steps().get(4..).unwrap_or(&[]), &ROWS)
 }
 
-fn run<St: Store>(rt: &impl Abort, alloc: Global, store: St) -> Result<(), Fail> {
-    let (mut board, mut desk, _second) = with_open(rt, alloc, store, NoLog)?;
+fn run_on<St: Store, T: Opened>(rt: &impl Abort, alloc: Global, store: St) -> Result<(), Fail>
+    requires { (T.opened ≡ St.state store) × (T.first ≡ 0) }
+{
+    let (mut board, mut desk, _second) = with_open::<St, NoLog, T>(rt, alloc, store, NoLog)?;
     enters_all(rt, alloc, &mut board, &mut desk)
+}
+
+// On a board under names that are picked for it.
+fn run<St: Store>(rt: &impl Abort, alloc: Global, store: St) -> Result<(), Fail> {
+    run_on::<St, Brand>(rt, alloc, store)
 }
 
 #[test]
