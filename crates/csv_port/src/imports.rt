@@ -106,9 +106,10 @@ fn import_rows<St: Store, J: Log<St>>(
     requires can { CanImport core.old.kept relation.now rows }
     requires some { 0 < length rows }
     ensures told { Tells (told_of core.old.kept.state relation.now rows) result }
-    ensures first { RunsFirst J.Log (opening core.old.kept.state) core.old core.new (import_lines relation.now rows) }
-    ensures all { OnOk result
-        (RunsToEnd J.Log (opening core.old.kept.state) core.old core.new (import_lines relation.now rows)) }
+    ensures first { RunsFirst J.Log (opening core.old.kept.state) core.old core.new
+        (import_lines relation.now rows) }
+    ensures all { OnOk result (RunsToEnd J.Log (opening core.old.kept.state) core.old core.new
+        (import_lines relation.now rows)) }
     ensures stops { IfErr result (StopsAs J.faults core.old core.new) }
 {
     let room = MOST_ROWS as u32;
