@@ -1,6 +1,6 @@
 //! A room on one thread. What is told was worked out by hand.
 ghost use Rattle.std.specs.Prelude.{◌≡◌, ◌∷◌, [], false, Some, IfOk, OnOk};
-ghost use Rattle.db_outside.specs.Count.{counted};
+ghost use Rattle.plain_store.specs.PlainStore.{state_of};
 ghost use Rattle.history_note.specs.Shown.{new_pen};
 ghost use Rattle.db_core.specs.Order.{said_of};
 ghost use Rattle.db_core.specs.Sits.{heard};
@@ -10,10 +10,10 @@ ghost use Rattle.thread_tests.specs.Said.{IsUnused, HasSaid, MayLeave, HasLeft};
 use crate::asserts::holds;
 use crate::boards::{new_board, new_store};
 use db_hub::{LogTag, Room, Seat, Tag};
-use db_store::Store;
 use db_value::{LineText, ListOf, Reply, Step};
-use entry_codec::{Log, NoLog};
+use entry_codec::NoLog;
 use history_note::{Note, Pen};
+use plain_store::PlainStore;
 use std::alloc::Global;
 use std::marker::Brand;
 use std::process::Abort;
@@ -36,10 +36,10 @@ fn line_from(alloc: Global, text: &str) -> Result<(LineText, Stmt), Fail>
 }
 
 // Session 1 says a line at the room.
-fn say<St: Store, J: Log<St>, T: LogTag<J>>(
+fn say<T: LogTag<NoLog>>(
     alloc: Global,
-    room: &mut Room<St, J, T>,
-    seat: &mut Seat<St, T>,
+    room: &mut Room<PlainStore, NoLog, T>,
+    seat: &mut Seat<PlainStore, T>,
     text: &str,
 ) -> Result<Reply, Fail>
     requires out { IsOut room.old.out seat.old }
@@ -53,10 +53,10 @@ fn say<St: Store, J: Log<St>, T: LogTag<J>>(
 }
 
 // Session 1 goes to another branch.
-fn say_aside<St: Store, J: Log<St>, T: LogTag<J>>(
+fn say_aside<T: LogTag<NoLog>>(
     alloc: Global,
-    room: &mut Room<St, J, T>,
-    seat: &mut Seat<St, T>,
+    room: &mut Room<PlainStore, NoLog, T>,
+    seat: &mut Seat<PlainStore, T>,
 ) -> Result<(), Fail>
     requires out { IsOut room.old.out seat.old }
     requires session { seat.old.desk.session ≡ 1 }
@@ -69,9 +69,9 @@ fn say_aside<St: Store, J: Log<St>, T: LogTag<J>>(
 }
 
 // The seat is closed.
-fn leave<St: Store, J: Log<St>, T: LogTag<J>>(
-    room: &mut Room<St, J, T>,
-    seat: Seat<St, T>,
+fn leave<T: LogTag<NoLog>>(
+    room: &mut Room<PlainStore, NoLog, T>,
+    seat: Seat<PlainStore, T>,
 ) -> Result<(), Fail>
     requires leaves { T.stays ≡ false }
     requires may { MayLeave room.old seat }
@@ -87,9 +87,9 @@ fn leave<St: Store, J: Log<St>, T: LogTag<J>>(
 }
 
 // Session 1 goes to another branch, and its seat is closed.
-fn go_aside<St: Store, J: Log<St>, T: LogTag<J>>(
+fn go_aside<T: LogTag<NoLog>>(
     alloc: Global,
-    room: &mut Room<St, J, T>,
+    room: &mut Room<PlainStore, NoLog, T>,
 ) -> Result<(), Fail>
     requires numbers { T.numbers ≡ (0, 1) ∷ (1, 1) ∷ [] }
     requires since { T.since 0 ≡ 0 }
@@ -103,7 +103,7 @@ fn go_aside<St: Store, J: Log<St>, T: LogTag<J>>(
 }
 
 // Are the seats of these sessions out, and no other?
-fn are_out<St: Store, J: Log<St>, T: LogTag<J>>(room: &Room<St, J, T>, sessions: &[u32]) -> bool {
+fn are_out<T: LogTag<NoLog>>(room: &Room<PlainStore, NoLog, T>, sessions: &[u32]) -> bool {
     match room.out() {
         Ok(out) => out.as_slice() == sessions,
         Err(_) => false,
@@ -119,9 +119,9 @@ fn is_made(reply: &Reply, name: &[u8], at: u32) -> bool {
 }
 
 // Session 1 has its seat again. Is it where it was?
-fn come_back<St: Store, J: Log<St>, T: LogTag<J>>(
+fn come_back<T: LogTag<NoLog>>(
     alloc: Global,
-    room: &mut Room<St, J, T>,
+    room: &mut Room<PlainStore, NoLog, T>,
 ) -> Result<bool, Fail>
     requires numbers { T.numbers ≡ (0, 1) ∷ (1, 1) ∷ [] }
     requires since { T.since 1 ≡ 2 }
@@ -135,9 +135,9 @@ fn come_back<St: Store, J: Log<St>, T: LogTag<J>>(
     Ok(was_gone && is_there && is_aside && is_made(&reply, b"side", 1))
 }
 
-fn go_on<St: Store, J: Log<St>, T: LogTag<J>>(
+fn go_on<T: LogTag<NoLog>>(
     alloc: Global,
-    room: &mut Room<St, J, T>,
+    room: &mut Room<PlainStore, NoLog, T>,
 ) -> Result<bool, Fail>
     requires numbers { T.numbers ≡ (0, 1) ∷ (1, 1) ∷ [] }
     requires since { (T.since 0 ≡ 0) × (T.since 1 ≡ 2) }
@@ -149,36 +149,26 @@ fn go_on<St: Store, J: Log<St>, T: LogTag<J>>(
 }
 
 // That in a room of a new board, and the lines that it leaves.
-fn go_on_named<St: Store, J: Log<St>, T: LogTag<J>>(
+fn go_on_named<T: LogTag<NoLog>>(
     alloc: Global,
-    store: St,
-    log: J,
-    note: Note<St>,
-    pen: Pen<St>,
-) -> Result<(bool, Vec<Step>), Fail>
+    store: PlainStore,
+    log: NoLog,
+    note: Note<PlainStore>,
+    pen: Pen<PlainStore>,
+) -> Result<(Result<bool, Fail>, Vec<Step>), Fail>
     requires numbers { T.numbers ≡ (0, 1) ∷ (1, 1) ∷ [] }
     requires since { (T.since 0 ≡ 0) × (T.since 1 ≡ 2) }
     requires leaves { T.stays ≡ false }
-    requires opened { (T.opened ≡ St.state store) × (T.first ≡ counted (J.faults log)) }
+    requires opened { (T.opened ≡ state_of store) × (T.first ≡ 0) }
     requires log { T.log ≡ Some log }
     requires note { (note ≡ record { note = T.note; opening = T.opened }) × (pen ≡ new_pen note) }
 {
-    let board = new_board::<St, J, T>(alloc, store, log)?;
-    let mut room = Room::<St, J, T>::new(alloc, board, note, pen);
-    let told = go_on(alloc, &mut room)?;
+    let board = new_board::<PlainStore, NoLog, T>(alloc, store, log)?;
+    let mut room = Room::<PlainStore, NoLog, T>::new(alloc, board, note, pen);
+    let told = go_on(alloc, &mut room);
     let Room { board, .. } = room;
     let (_log, steps) = board.into_steps();
     Ok((told, steps))
-}
-
-// That under names that are picked for it.
-fn go_on_anew<St: Store, J: Log<St>>(
-    alloc: Global,
-    store: St,
-    log: J,
-) -> Result<(bool, Vec<Step>), Fail> {
-    let (note, pen) = Note::new(alloc, &store)?;
-    go_on_named::<St, J, Brand>(alloc, store, log, note, pen)
 }
 
 // Are these the three lines with their replies?
@@ -198,8 +188,10 @@ fn are_said(steps: &[Step]) -> bool {
 
 #[test]
 fn a_session_goes_on_where_its_seat_was_closed(rt: HostRuntime) -> Result<(), Fail> {
-    let (told, steps) = go_on_anew(rt.alloc(), new_store(rt.alloc())?, NoLog)?;
-    holds(&rt, "the session is where it was", told);
+    let store = new_store(rt.alloc())?;
+    let (note, pen) = Note::new(rt.alloc(), &store)?;
+    let (told, steps) = go_on_named::<Brand>(rt.alloc(), store, NoLog, note, pen)?;
+    holds(&rt, "the session is where it was", told?);
     holds(&rt, "the lines of the board", are_said(&steps));
     Ok(())
 }
