@@ -23,6 +23,8 @@ pub struct Faulty {
 impl<St: Store> Log<St> for Faulty {
     ghost faults = { λ log. log.count };
 
+    ghost counts = { λ _. (0, 0) };
+
     ghost Keeps = { λ _ _ _ _. ⊥ };
 
     ghost Owes = { λ _ _ _ _. ⊥ };

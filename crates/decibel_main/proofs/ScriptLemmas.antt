@@ -8,13 +8,13 @@ use Rattle.db_store.specs.State.{State}
 use Rattle.db_outside.specs.Count.{counted}
 use Rattle.db_outside.specs.declared.disk.Disk.{Ghosts}
 use Rattle.entry_codec.specs.declared.log.Log.{Ghosts as LogGhosts}
-use Rattle.entry_codec.specs.Logs.{Opening, gives, MayGive}
+use Rattle.entry_codec.specs.Logs.{Opening, gives, MayGive, IsNoLater}
 use Rattle.store_tx.specs.Stored.{Has, GivesOwed}
 use Rattle.db_core.specs.Order.{World, opening}
 use Rattle.db_core.specs.Cores.{WithLog, StandsIn, InEach}
 use Rattle.generations.specs.declared.dataset.Dataset.{Dataset}
 use Rattle.generations.specs.declared.pair.Pair.{Pair}
-use Rattle.generations.specs.Datasets.{pair_in, generation_in, counted_in, place_in, KeepsIn, OwesIn, moment_in, OpensNowIn, OpensSinceIn, QuietIn}
+use Rattle.generations.specs.Datasets.{pair_in, generation_in, counted_in, counts_in, place_in, KeepsIn, OwesIn, moment_in, OpensNowIn, OpensSinceIn, QuietIn}
 use Rattle.generations.specs.Files.{opened, counts, reads}
 use Rattle.generations.specs.Given.{opening_of}
 use Rattle.generations.specs.Pairs.{moments_of, AreAllOnDisk, NoneRose, BothOnlyRead}
@@ -221,10 +221,11 @@ module _ {D : Type 0} (g : Ghosts D) where
 
   -- what the status of a run says of the disks
   pub run_tells : (disks : Pair D) (a b : Dataset D g) (status : Status) → BothOnlyRead g disks (pair_in a) → NoneRose g disks (pair_in a) → (EndsByBytes status → NoneRose g disks (pair_in b))
-      → (status ≡ DiskFault → faults_l a < faults_l b) → (status ≡ Done → faults_l b < 2 ^ 64 - 1 → faults_l b ≡ faults_l a) → TellsDisks g disks (pair_in b) status
-  run_tells disks a b status only none by_bytes less same = record {
+      → (status ≡ DiskFault → faults_l a < faults_l b) → (status ≡ Done → faults_l b < 2 ^ 64 - 1 → faults_l b ≡ faults_l a) → IsNoLater (counts_in a) (counts_in b) → TellsDisks g disks (pair_in b) status
+  run_tells disks a b status only none by_bytes less same each = record {
     fault = λ is. one_rose g disks (pair_in b) (omega (arith, less is, faults_are g a, faults_are g b, only.first.later, only.second.later));
-    done = λ is below. omega (arith, same is (omega (arith, below, faults_are g b)), faults_are g a, faults_are g b, none.0, none.1);
+    done = λ is below. let all = same is (omega (arith, below, faults_are g b)) in
+        (omega (arith, all, faults_are g a, faults_are g b, none.0, each.0, each.1), omega (arith, all, faults_are g a, faults_are g b, none.1, each.0, each.1));
     by_bytes = by_bytes;
   }
 

@@ -15,8 +15,8 @@ EndsByBytes AlreadyThere = Unit {0}
 EndsByBytes (BadLine n) = Unit {0}
 EndsByBytes _ = ⊥
 
--- A disk fault is told only if a count of faults rose. With status Done how often both have failed stays, below the greatest number of 64 bits; and with the status of bytes neither count rose.
+-- A disk fault is told only if a count of faults rose. With status Done neither rose, if both together stand below the greatest number of 64 bits; and with the status of bytes neither rose.
 pub record TellsDisks {D : Type 0} (g : Ghosts D) (old new : Pair D) (status : Status) : Type 0 where
   pub fault : status ≡ DiskFault → RoseInOne g old new
-  pub done : status ≡ Done → faults_in g new < 2 ^ 64 - 1 → faults_in g new ≡ faults_in g old
+  pub done : status ≡ Done → faults_in g new < 2 ^ 64 - 1 → NoneRose g old new
   pub by_bytes : EndsByBytes status → NoneRose g old new

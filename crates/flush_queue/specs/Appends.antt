@@ -11,5 +11,5 @@ pub record Appends {L S V P Q T E : Type 0} (g : Ghosts L S V P Q) (batch : List
   pub done : OnOk result (WhereKept g.Keeps old batch (λ s es f follows. g.Keeps new follows.state (es ++ follows.entries) None))
   pub failed : OnErr result (WhereKept g.Keeps old batch (λ s es f follows. KeepsOneOf g.Keeps new s es f batch))
   pub owed : WhereKept g.Owes old batch (λ s es f follows. StoresOwing g.Keeps g.Owes g.generation g.moment g.opens_since old new result s es f batch follows)
-  pub goes_on : GoesOn g.generation g.moment old new
+  pub goes_on : GoesOn g.generation g.moment g.counts old new
   pub counts : CountsFaults g.faults old new result

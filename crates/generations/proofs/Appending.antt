@@ -13,13 +13,14 @@ use Rattle.generations.specs.Fronts.{IsFront, IsBeside}
 use Rattle.generations.specs.Given.{opening_of, Opens}
 use Rattle.generations.specs.LogLaws.{gives_one}
 
-module _ {D : Type 0} (g : Ghosts D) (old new aside_old aside_new : D) where
-  -- no moment of either is earlier
-  pub none_earlier : (second : Bool) → g.moment old ≤ g.moment new → g.moment aside_old ≤ g.moment aside_new
-      → IsNoLater (g.moment (cond second aside_old old), g.moment (cond second old aside_old)) (g.moment (cond second aside_new new), g.moment (cond second new aside_new))
+module _ {D : Type 0} (f : D → ℕ) (old new aside_old aside_new : D) where
+  -- a number of each disk that doesn't fall, such as its moment, is no earlier
+  pub none_earlier : (second : Bool) → f old ≤ f new → f aside_old ≤ f aside_new
+      → IsNoLater (f (cond second aside_old old), f (cond second old aside_old)) (f (cond second aside_new new), f (cond second new aside_new))
   none_earlier false le aside = (le, aside)
   none_earlier true le aside = (aside, le)
 
+module _ {D : Type 0} (g : Ghosts D) (old new aside_old aside_new : D) where
   -- since the first call, by what calls of each leave
   pub any_of_both : (P Q : List ℕ → Type 0) (R : Opening → Type 0) → LeavesOnly g.moment g.since old new P → LeavesOnly g.moment g.since aside_old aside_new Q
       → (second : Bool) → ((c d : List ℕ) (o : Opening) → P c → Q d → opening_of (reads_by second c d) ≡ o → R o)

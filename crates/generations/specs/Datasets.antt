@@ -50,6 +50,10 @@ OwesIn d s es pending = KeepsByIn true d s es pending
 abbrev pub faults_of : {D : Type 0} {g : Ghosts D} → Dataset D g → ℕ
 faults_of {D} {g} d = g.faults d.file.disk + g.faults d.beside.disk
 
+-- the counts of their faults, in the files' order
+abbrev pub counts_in : {D : Type 0} {g : Ghosts D} → Dataset D g → ℕ × ℕ
+counts_in {D} {g} d = (g.faults (pair_in d).first, g.faults (pair_in d).second)
+
 -- the moments of its two files, in their order
 abbrev pub moment_in : {D : Type 0} {g : Ghosts D} → Dataset D g → ℕ × ℕ
 moment_in {D} {g} d = moments_of g (pair_in d)

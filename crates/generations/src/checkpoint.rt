@@ -9,7 +9,7 @@ ghost use Rattle.gate_journal.specs.Gate.{IsShut};
 ghost use Rattle.entry_codec.specs.Logs.{Checkpoints, KeepsOrOwes, Renews, CountsStops, last_generation};
 ghost use Rattle.generations.specs.declared.other_gate.OtherGate.TheVariants.{Low};
 ghost use Rattle.generations.specs.Asides.{IsNextFile};
-ghost use Rattle.generations.specs.Datasets.{KeepsIn, OwesIn, generation_in, faults_of, moment_in, OpensSinceIn, Turns};
+ghost use Rattle.generations.specs.Datasets.{KeepsIn, OwesIn, generation_in, faults_of, counts_in, moment_in, OpensSinceIn, Turns};
 
 use crate::beside::Beside;
 use crate::bytes::next_bytes;
@@ -59,7 +59,7 @@ impl<D: Disk> Dataset<D> {
             KeepsOrOwes KeepsIn OwesIn self.old s es f →
             Checkpoints KeepsIn OwesIn generation_in moment_in OpensSinceIn self.old self.new result
             s es f }
-        ensures renewed { Renews generation_in moment_in self.old self.new result }
+        ensures renewed { Renews generation_in moment_in counts_in self.old self.new result }
         ensures faults { CountsFaults faults_of self.old self.new result }
     {
         self.beside.write_next(bytes)?;
@@ -74,7 +74,7 @@ impl<D: Disk> Dataset<D> {
             KeepsOrOwes KeepsIn OwesIn self.old s es f →
             Checkpoints KeepsIn OwesIn generation_in moment_in OpensSinceIn self.old self.new result
             s es f }
-        ensures renewed { Renews generation_in moment_in self.old self.new result }
+        ensures renewed { Renews generation_in moment_in counts_in self.old self.new result }
         ensures faults { CountsFaults faults_of self.old self.new result }
     {
         self.file.make_clean()?;
@@ -89,7 +89,7 @@ impl<D: Disk> Dataset<D> {
             KeepsOrOwes KeepsIn OwesIn self.old s es f →
             Checkpoints KeepsIn OwesIn generation_in moment_in OpensSinceIn self.old self.new result
             s es f }
-        ensures renewed { Renews generation_in moment_in self.old self.new result }
+        ensures renewed { Renews generation_in moment_in counts_in self.old self.new result }
         ensures faults { CountsStops faults_of self.old self.new result }
     {
         if self.generation >= MOST_GENERATION {

@@ -85,10 +85,12 @@ impl<D: Disk> Dataset<D> {
 impl<D: Disk + Drop> Log<DatasetStore> for Dataset<D> {
     ghost use Rattle.std.specs.Prelude.{◌≡◌, ◌+◌, true, false};
     ghost use Rattle.db_outside.specs.Count.{counted};
-    ghost use Rattle.generations.specs.Datasets.{pair_in, generation_in, KeepsIn, OwesIn, faults_of, moment_in, OpensNowIn, OpensSinceIn, QuietIn};
+    ghost use Rattle.generations.specs.Datasets.{pair_in, generation_in, KeepsIn, OwesIn, faults_of, counts_in, moment_in, OpensNowIn, OpensSinceIn, QuietIn};
     ghost use Rattle.generations.specs.LogLaws.{kept_gives, owed_gives, counts_both};
 
     ghost faults = { λ l. faults_of l };
+
+    ghost counts = { λ l. counts_in l };
 
     ghost Keeps = { λ l s es f. KeepsIn l s es f };
 

@@ -104,7 +104,7 @@ module _
     {L S V P Q T E : Type 0} (g : Ghosts L S V P Q) (s : State) (added : List Entry) (b : List ℕ) (is : IsBatch s added b) (old new : L) (result : Result T E)
     (gives : WhereKept g.Keeps old b (λ t es f h. GivesOnly g.moment g.Quiet g.opens_since old new (GivesOneOf (g.generation old) t es f b)))
     (owed : WhereKept g.Owes old b (λ t es f h. StoresOwing g.Keeps g.Owes g.generation g.moment g.opens_since old new result t es f b h))
-    (goes_on : GoesOn g.generation g.moment old new) (later : g.faults old ≤ g.faults new) where
+    (goes_on : GoesOn g.generation g.moment g.counts old new) (later : g.faults old ≤ g.faults new) where
   abbrev follows : Follows s b
   follows = follows_all s added b is
 
@@ -137,6 +137,7 @@ module _
       generation = goes_on.generation_stays;
       time = goes_on.time;
       later = later;
+      each = goes_on.each;
     }
 
   -- it failed
@@ -162,6 +163,7 @@ module _
       generation = goes_on.generation_stays;
       time = goes_on.time;
       later = later;
+      each = goes_on.each;
     }
 
 -- ---- what it does for an image
@@ -169,7 +171,7 @@ module _
 module _
     {L S V P Q T : Type 0} (g : Ghosts L S V P Q) (s : State) (old new : L) (result : Result T CheckpointStop)
     (kept : WhereKeptOrOwed g.Keeps g.Owes old s (λ es f. Checkpoints g.Keeps g.Owes g.generation g.moment g.opens_since old new result s es f))
-    (renewed : Renews g.generation g.moment old new result) (counts : CountsStops g.faults old new result) where
+    (renewed : Renews g.generation g.moment g.counts old new result) (counts : CountsStops g.faults old new result) where
   has_either : (owing : Bool) (es : List Entry) (f : Option (List ℕ)) → Has g owing old s es f → KeepsOrOwes g.Keeps g.Owes old s es f
   has_either false es f keeps = inl keeps
   has_either true es f has = has
@@ -188,6 +190,7 @@ module _
     generation = subst (λ (r : Result T CheckpointStop). OnOk r (g.generation new ≡ next_generation (g.generation old))) ok renewed.done;
     time = renewed.time;
     later = counts.later;
+    each = renewed.each;
   }
 
   pub saves_failed : result ≡ Err DiskFault → Stores g s true Save old new
@@ -201,6 +204,7 @@ module _
     generation = subst (λ (r : Result T CheckpointStop). OnErr r (g.generation new ≡ g.generation old)) err renewed.failed;
     time = renewed.time;
     later = counts.later;
+    each = renewed.each;
   }
 
 -- ---- a log that isn't called
@@ -226,6 +230,7 @@ module _
     generation = refl;
     time = (omega arith, omega arith);
     later = omega arith;
+    each = (omega arith, omega arith);
   }
 
   -- it keeps any state, so that the entry is as good as stored
@@ -240,4 +245,5 @@ module _
     generation = refl;
     time = (omega arith, omega arith);
     later = omega arith;
+    each = (omega arith, omega arith);
   }

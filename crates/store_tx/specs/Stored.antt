@@ -169,6 +169,7 @@ pub record StoresAsked {L S V P Q : Type 0} (g : Ghosts L S V P Q) (s : State) (
   pub generation : g.generation new ≡ generation_after failed ask (g.generation old)
   pub time : IsNoLater (g.moment old) (g.moment new)
   pub later : g.faults old ≤ g.faults new
+  pub each : IsNoLater (g.counts old) (g.counts new)
 
 -- what a log does for a line that asks for this
 abbrev pub Stores : {L S V P Q : Type 0} → Ghosts L S V P Q → (s : State) → (failed : Bool) → (call : LogCall) → (old new : L) → Type 0

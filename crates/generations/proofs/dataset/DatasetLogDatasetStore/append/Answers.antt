@@ -18,7 +18,7 @@ returns-in_err-close_owed-clause-failed g c = on_err c.from_residual.result (λ 
 pub returns-in_err-close_owed-clause-goes_on : goal.returns-in_err-close_owed-clause-goes_on
 returns-in_err-close_owed-clause-goes_on g c =
     let l = c.args.self.now in
-    record { generation_stays = refl; time = none_earlier g.D.Disk l.file.disk l.file.disk l.beside.disk c.close_owed.new.self.disk l.second (omega arith) c.close_owed.ensures.time }
+    record { generation_stays = refl; time = none_earlier g.D.Disk.moment l.file.disk l.file.disk l.beside.disk c.close_owed.new.self.disk l.second (omega arith) c.close_owed.ensures.time; each = none_earlier g.D.Disk.faults l.file.disk l.file.disk l.beside.disk c.close_owed.new.self.disk l.second (omega arith) c.close_owed.ensures.faults.later }
 
 pub returns-in_err-close_owed-clause-owed : goal.returns-in_err-close_owed-clause-owed
 returns-in_err-close_owed-clause-owed g c s es f follows owes =
@@ -75,12 +75,12 @@ returns-clause-any_moment g c s es f follows keeps =
 pub returns-in_err-append-clause-goes_on : goal.returns-in_err-append-clause-goes_on
 returns-in_err-append-clause-goes_on g c =
     let l = c.args.self.now in
-    record { generation_stays = refl; time = none_earlier g.D.Disk l.file.disk c.append.new.self.disk l.beside.disk c.close_owed.new.self.disk l.second c.append.ensures.time c.close_owed.ensures.time }
+    record { generation_stays = refl; time = none_earlier g.D.Disk.moment l.file.disk c.append.new.self.disk l.beside.disk c.close_owed.new.self.disk l.second c.append.ensures.time c.close_owed.ensures.time; each = none_earlier g.D.Disk.faults l.file.disk c.append.new.self.disk l.beside.disk c.close_owed.new.self.disk l.second c.append.ensures.faults.later c.close_owed.ensures.faults.later }
 
 pub returns-clause-goes_on : goal.returns-clause-goes_on
 returns-clause-goes_on g c =
     let l = c.args.self.now in
-    record { generation_stays = refl; time = none_earlier g.D.Disk l.file.disk c.append.new.self.disk l.beside.disk c.close_owed.new.self.disk l.second c.append.ensures.time c.close_owed.ensures.time }
+    record { generation_stays = refl; time = none_earlier g.D.Disk.moment l.file.disk c.append.new.self.disk l.beside.disk c.close_owed.new.self.disk l.second c.append.ensures.time c.close_owed.ensures.time; each = none_earlier g.D.Disk.faults l.file.disk c.append.new.self.disk l.beside.disk c.close_owed.new.self.disk l.second c.append.ensures.faults.later c.close_owed.ensures.faults.later }
 
 pub returns-clause-done : goal.returns-clause-done
 returns-clause-done g c s es f follows keeps =
