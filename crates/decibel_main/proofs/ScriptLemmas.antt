@@ -157,6 +157,7 @@ module _ {D : Type 0} (g : Ghosts D) where
   abbrev pub log_of : {S V P Q : Type 0} → LogGhosts (Dataset D g) S V P Q
   log_of = record {
     faults = λ l. faults_l l;
+    counts = λ l. counts_in l;
     Keeps = λ l s es f. KeepsIn l s es f;
     Owes = λ l s es f. OwesIn l s es f;
     generation = λ l. generation_in l;
