@@ -77,6 +77,14 @@ pub fn is_answered(
     is_told(rt, alloc, row, word, text, reply)
 }
 
+/// The last step is that of the row, with its reply, which tells no rows.
+pub fn is_last(rt: &impl Abort, alloc: Global, steps: &[Step], row: &str) -> Result<(), Fail> {
+    match steps.last() {
+        None => Err("no step".into()),
+        Some(step) => is_answered(rt, alloc, row, "", &step.line, &step.reply),
+    }
+}
+
 // The step is the line of a row. It has the mark exactly if the row's word is `marked`.
 fn is_step(rt: &impl Abort, step: &Step, row: &str) -> Result<(), Fail> {
     holds(rt, row, step.failed == row.starts_with("marked"));

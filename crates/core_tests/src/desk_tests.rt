@@ -2,13 +2,13 @@
 ghost use Rattle.std.specs.Prelude.{◌≡◌, false, IfOk, OnOk};
 ghost use Rattle.db_outside.specs.Count.{counted};
 ghost use Rattle.db_core.specs.Order.{said_of};
-ghost use Rattle.db_core.specs.Kept.{new_kept};
+ghost use Rattle.db_core.specs.Kept.{Stands, new_kept};
 ghost use Rattle.db_core.specs.Desk.{Agrees};
 ghost use Rattle.db_core.specs.Sits.{heard};
 ghost use Rattle.core_tests.specs.Desks.{IsBare, KeepsOthers};
 
-use crate::asserts::{are_steps, holds, is_told, line_of};
-use db_core::laws::{new_desk_law, other_lines_law};
+use crate::asserts::{are_steps, holds, is_last, is_told, line_of};
+use db_core::laws::{new_desk_law, other_lines_law, step_law};
 use db_core::{Board, Desk, Opened};
 use db_store::Store;
 use db_value::{LineText, ListOf, Schema};
@@ -137,8 +137,8 @@ fn visit_alone<St: Store, J: Log<St>, T: Opened>(
         (KeepsOthers desk.old.session board.old.kept board.new.kept) }
 {
     other_lines_law();
-    let reply = board.visit(desk, text, stmt)?;
-    is_told(rt, alloc, row, "", text, &reply)?;
+    board.visit(desk, text, stmt)?;
+    is_last(rt, alloc, board.steps(), row)?;
     Ok(())
 }
 
@@ -204,7 +204,6 @@ pub fn with_open<St: Store, J: Log<St>, T: Opened>(
 // The desk answers a statement, or the board does.
 fn tell_stmt<St: Store, J: Log<St>, T: Opened>(
     rt: &impl Abort,
-    alloc: Global,
     board: &mut Board<St, J, T>,
     desk: &mut Desk<St>,
     text: &LineText,
@@ -216,13 +215,13 @@ fn tell_stmt<St: Store, J: Log<St>, T: Opened>(
     ensures agree { OnOk result (Agrees board.new.kept desk.new) }
     ensures session { OnOk result (desk.new.session ≡ desk.old.session) }
 {
-    match desk.local(text, Some(stmt))? {
-        Some(reply) => is_told(rt, alloc, row, "desk", text, &reply),
-        None => {
-            let reply = board.visit(desk, text, stmt)?;
-            is_told(rt, alloc, row, "board", text, &reply)
-        }
+    if desk.local(text, Some(stmt))? {
+        holds(rt, row, row.starts_with("desk"));
+        return Ok(());
     }
+    holds(rt, row, row.starts_with("board"));
+    board.visit(desk, text, stmt)?;
+    Ok(())
 }
 
 // A line of session 1: its desk answers it, or the board does.
@@ -244,16 +243,17 @@ fn tell_text<St: Store, J: Log<St>, T: Opened>(
             if read.session != 1 {
                 return Err("another session".into());
             }
-            tell_stmt(rt, alloc, board, desk, text, &read.stmt, row)
+            tell_stmt(rt, board, desk, text, &read.stmt, row)
         }
         Err(LineStop::BadLine { session }) => {
             if session != 1 {
                 return Err("a bad line of another session".into());
             }
-            match desk.local(text, None)? {
-                None => Err("a bad line that doesn't wait".into()),
-                Some(reply) => is_told(rt, alloc, row, "desk", text, &reply),
+            if !desk.local(text, None)? {
+                return Err("a bad line that doesn't wait".into());
             }
+            holds(rt, row, row.starts_with("desk"));
+            Ok(())
         }
         Err(LineStop::Memory) => Err("no memory".into()),
     }
@@ -294,7 +294,39 @@ fn tell_all<St: Store, J: Log<St>, T: Opened>(
     Ok(())
 }
 
-// The board has all lines in the end, behind the four of session 2.
+// The step at a place of the list is the line of a row, and has its reply.
+fn is_step_of<St: Store, T: Opened>(
+    rt: &impl Abort,
+    alloc: Global,
+    board: &Board<St, NoLog, T>,
+    place: usize,
+    row: &str,
+) -> Result<(), Fail>
+    requires { Stands board.now.kept }
+{
+    step_law();
+    let Some(step) = board.steps().get(place) else {
+        return Err("a row without a step".into());
+    };
+    let (word, _) = row.split_once("> ").ok_or("a row without an echo")?;
+    is_told(rt, alloc, row, word, &step.line, &step.reply)
+}
+
+// The list has the lines and replies of all rows, behind the four of session 2.
+fn has_rows<St: Store, T: Opened>(
+    rt: &impl Abort,
+    alloc: Global,
+    board: &Board<St, NoLog, T>,
+) -> Result<(), Fail>
+    requires { Stands board.now.kept }
+{
+    for (i, row) in ROWS.iter().enumerate() {
+        is_step_of(rt, alloc, board, i.saturating_add(4), row)?;
+    }
+    Ok(())
+}
+
+// The board has all lines in the end.
 fn enters_all<St: Store, T: Opened>(
     rt: &impl Abort,
     alloc: Global,
@@ -308,7 +340,8 @@ fn enters_all<St: Store, T: Opened>(
     holds(rt, "on dev", desk.current().as_bytes() == b"dev".as_slice());
     holds(rt, "no open transaction", !desk.is_open());
     board.enter(desk)?;
-    are_steps(rt, board.steps().get(4..).unwrap_or(&[]), &ROWS)
+    are_steps(rt, board.steps().get(4..).unwrap_or(&[]), &ROWS)?;
+    has_rows(rt, alloc, board)
 }
 
 fn run_on<St: Store, T: Opened>(rt: &impl Abort, alloc: Global, store: St) -> Result<(), Fail>

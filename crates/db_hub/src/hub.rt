@@ -1,5 +1,5 @@
 //! What threads share: a board and its note under a lock.
-ghost use Rattle.std.specs.Prelude.{◌≡◌, true, false, Some, is_some, IfOk, IfErr, OnErr};
+ghost use Rattle.std.specs.Prelude.{◌≡◌, true, false, Some, is_some, IfOk, IfErr, OnOk, OnErr};
 ghost use Rattle.db_core.specs.Desk.{waits};
 ghost use Rattle.db_core.specs.Order.{said_of};
 ghost use Rattle.db_core.specs.Sits.{heard};
@@ -10,7 +10,7 @@ use crate::seat::Seat;
 use crate::tag::LogTag;
 use crate::whole::{Visit, Whole};
 use db_store::Store;
-use db_value::{LineText, Reply};
+use db_value::LineText;
 use entry_codec::Log;
 use history_note::Pass;
 use std::alloc::AllocError;
@@ -27,7 +27,7 @@ const YIELDS: u32 = 8;
 /// How often a thread whose line waits comes to the lock at most without sleeping, where others have it.
 const TURNS: u32 = 400;
 
-/// A hub is what a room has, and the lines that wait for the log together, under a lock, which threads
+/// A hub is a room with the lines that wait there for the log together, under a lock, which threads
 /// share. All seats of the room stay out: one that was given up goes on to be listed. Whoever runs
 /// threads makes it of a room, on which the seats were made before, and takes it apart when they returned.
 #[derive(Drop)]
@@ -77,7 +77,7 @@ impl<St: Store, J: Log<St>, T: LogTag<J>> Hub<St, J, T> {
     }
 
     /// Enters the lines that wait at the seat's desk, and then answers one more and enters it, for a
-    /// line to which `local` answered None. A line that ends its transaction with a commit waits for
+    /// line to which `local` answered no. A line that ends its transaction with a commit waits for
     /// its batch in between, and other sessions may go on: their lines may then stand before it and
     /// behind it.
     pub fn line<R: Wait>(
@@ -86,20 +86,19 @@ impl<St: Store, J: Log<St>, T: LogTag<J>> Hub<St, J, T> {
         seat: &mut Seat<St, T>,
         text: &LineText,
         stmt: &Stmt,
-    ) -> Result<Reply, AllocError>
+    ) -> Result<(), AllocError>
         requires line { said_of text.now false ≡ heard seat.old.desk.session stmt.now }
         requires local { waits seat.old.desk (Some stmt.now) ≡ false }
-        ensures seat { IfOk result (SeatServed T.opened seat.old seat.new text.now) }
+        ensures seat { OnOk result (SeatServed T.opened seat.old seat.new text.now) }
         ensures failed { OnErr result (SeatFailed seat.old seat.new) }
     {
         let mut guard = self.enter(rt);
         let visit = guard.first_visit(seat, text, stmt)?;
         match visit {
-            Visit::Served { reply } => Ok(reply),
+            Visit::Served => Ok(()),
             Visit::Left { pass, looks } => {
                 let mut guard = self.leave_to_others(rt, guard, seat.number, looks);
-                let reply = guard.second_visit(seat, pass, text)?;
-                Ok(reply)
+                guard.second_visit(seat, pass)
             }
         }
     }

@@ -9,16 +9,15 @@ ghost use Rattle.session_run.specs.Runs.{HasRun, IsNew, IsInterleaving, IsBeginn
 
 use crate::jobs::{run_jobs, seated};
 use crate::tie::tie_all;
-use db_core::{Board, Waiting};
-use db_hub::{Hub, LogTag, Patience, Room, Whole};
+use db_core::Board;
+use db_hub::{Hub, LineBatch, LogTag, Patience, Room, Shell, Whole};
 use db_outside::Gate;
 use db_store::Store;
 use db_value::Step;
 use entry_codec::Log;
-use flush_queue::FlushQueue;
 use history_note::{Note, Pen};
 use std::alloc::{AllocError, Global};
-use std::marker::{Brand, PhantomData};
+use std::marker::Brand;
 use std::sync::{Mutex, Wait};
 use std::thread::Threads;
 use stmt_text::{Section, Sections};
@@ -30,15 +29,6 @@ pub enum Unfinished {
     Memory,
     /// There was no memory for a pass, so it isn't known how far its section came.
     PassLost,
-}
-
-// A queue and members, of which none waits.
-fn no_batch<St: Store>(alloc: Global) -> Result<(FlushQueue, Waiting<St>), AllocError>
-    ensures { IfOk result (λ p. (p.0.waiting ≡ []) × (p.1.members.items ≡ [])) }
-{
-    let queue = FlushQueue::new(alloc)?;
-    let waiting = Waiting::new(alloc)?;
-    Ok((queue, waiting))
 }
 
 fn run_named<
@@ -73,7 +63,7 @@ where
     ensures stored { MatchResult result
         (λ b. StoresSteps J.Log board.log b) (λ e. StoresSteps J.Log board.log e.1) }
 {
-    let Ok((queue, waiting)) = no_batch::<St>(alloc) else {
+    let Ok(batch) = LineBatch::<St>::new(alloc) else {
         return Err((Unfinished::Memory, board));
     };
     let mut room = Room::<St, J, T>::new(alloc, board, note, pen);
@@ -83,27 +73,10 @@ where
             Err((Unfinished::Memory, board))
         }
         Ok(mut jobs) => {
-            let Room {
-                board,
-                note,
-                pen,
-                out,
-                issued,
-                ..
-            } = room;
             let whole = Whole {
-                alloc,
-                board,
-                note,
-                pen,
-                out,
-                issued,
-                queue,
-                waiting,
-                waits: Vec::new(alloc),
-                told: Vec::new(alloc),
+                room: Shell { inner: room },
+                batch,
                 patience: Patience::new(),
-                of: PhantomData,
             };
             let hub = Hub {
                 lock: Mutex::new(whole),
@@ -111,12 +84,14 @@ where
             run_jobs(rt, alloc, &hub, sections, &mut jobs, gate);
             let Hub { lock } = hub;
             let whole = lock.into_inner();
-            let Whole {
+            let Whole { room: shell, .. } = whole;
+            let Shell { inner: left } = shell;
+            let Room {
                 board,
                 note,
                 mut pen,
                 ..
-            } = whole;
+            } = left;
             match tie_all(&note, &mut pen, jobs) {
                 Err(why) => Err((why, board)),
                 Ok(()) => Ok(board),

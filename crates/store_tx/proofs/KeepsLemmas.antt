@@ -7,7 +7,6 @@ use Rattle.std.proofs.lemmas.Bool.{and_parts, and_from, eqb-true, eqb-false, fal
 use Rattle.std.proofs.lemmas.List.{drop_all, drop_more}
 use Rattle.std.proofs.lemmas.List.Folds.{list_all-map}
 use Rattle.std.proofs.Math.Seq.{take-append_seam}
-use Rattle.db_value.specs.Long.{IsLong}
 use Rattle.db_value.specs.declared.schema.Relation.{Relation}
 use Rattle.db_value.specs.declared.version.VersionName.{VersionName}
 use Rattle.db_value.specs.Relations.{columns_at}
@@ -370,16 +369,6 @@ module _ (g h : Granted) (m : IsMore g h) where
   versions_stay (v ∷ vs) e =
       let parts = and_parts (has_version g v) (list_all (has_version g) vs) e in
       and_from (has_version h v) (list_all (has_version h) vs) (version_stays v parts.0) (versions_stay vs parts.1)
-
--- a statement with a long reply changes nothing
-long_leaves : (g : Granted) (x : Stmt) → IsLong (acted g x).reply → (acted g x).tx ≡ tx_in g
-long_leaves g x = act_does (over_table g.head) (length g.schema) (tx_in g) (λ o. IsLong o.reply → o.tx ≡ tx_in g) (λ why l. refl) (λ reply e l. refl) (λ r key state h l. absurd l) (ground_in g) (source_in g) (names_or_none g.heads) x refl
-
-pub left_long : (g : Granted) (x : Stmt) → IsLong (acted g x).reply → left g x ≡ g
-left_long g x l = ap (λ (tx : Tx (List Overlay)). record g { overlays = tx.work }) (long_leaves g x l)
-
-pub more_left : (g h : Granted) (x : Stmt) → IsMore g h → IsLong (acted h x).reply → IsMore g (left h x)
-more_left g h x m l = record { schema = m.schema; name = m.name; held = m.held; head = m.head; overlays = ap (λ (tx : Tx (List Overlay)). tx.work) (long_leaves h x l) ∙ m.overlays; room = m.room; second = m.second; lent = m.lent; heads = m.heads }
 
 pub more_tx : (g h : Granted) → IsMore g h → tx_in h ≡ tx_in g
 more_tx g h m = λ i. record { begun = true; room = m.room i; work = m.overlays i; second = m.second i; made = None; moved = None }

@@ -5,3 +5,4 @@ pub mod Storing
 pub mod OwnLines
 pub mod Merges
 pub mod Shows
+pub mod Telling

@@ -13,6 +13,7 @@ use Rattle.store_tx.specs.Keeps.{Keeps, HasNeeds, KeepsWith, needs_in}
 use Rattle.db_store.specs.Dataset.{Dataset, branch_named, head_of}
 use Rattle.db_store.specs.Found.{branch_names, found, plain}
 use Rattle.db_store.specs.Overlay.{Overlay, untouched}
+use Rattle.db_store.specs.Report.{lines_of}
 use Rattle.db_store.specs.State.{State, dataset_of}
 use Rattle.db_value.specs.declared.condition.Prefer.{Prefer}
 use Rattle.lock_table.specs.declared.need.Need.{Need}
@@ -22,6 +23,7 @@ use Rattle.db_value.specs.declared.entry.Entry.{Entry}
 use Rattle.db_value.specs.declared.entry.Entry.TheVariants.{Branch as BranchEntry}
 use Rattle.db_value.specs.declared.reply.Refusal.{Refusal}
 use Rattle.db_value.specs.declared.reply.Reply.{Reply}
+use Rattle.db_value.specs.declared.reply.Reply.TheVariants.{Layout}
 use Rattle.db_value.specs.declared.version.VersionName.{VersionName}
 use Rattle.db_value.specs.declared.version.VersionPlace.{VersionPlace}
 use Rattle.lock_table.specs.Rows.{Row}
@@ -105,6 +107,11 @@ abbrev pub lacking_over : Dataset → ℕ → ScanOver → Option Refusal
 lacking_over d b Current = None
 lacking_over d b (Named names) = lacking_of d b names
 lacking_over d b Heads = lacking_of d b (map plain (branch_names d))
+
+-- what a line is told on a state whose dataset gives r: `segments` is told the layout, and every other line r
+abbrev pub told_on : State → Stmt → Reply → Reply
+told_on s Segments r = Layout (lines_of s)
+told_on s _ r = r
 
 -- what a statement that reads or changes records, or merges, does in a transaction on a state
 abbrev pub acted_over : State → ℕ → Granted → Stmt → Outcome (List Overlay)

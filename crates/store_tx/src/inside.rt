@@ -1,15 +1,13 @@
 //! Statements that are answered in an open transaction.
 ghost use Rattle.std.specs.Prelude.{◌≡◌, ◌∷◌, [], false, IfOk, OnOk, OnErr};
-ghost use Rattle.db_value.specs.Long.{IsLong};
 ghost use Rattle.db_store.specs.State.{dataset_of};
 ghost use Rattle.store_tx.specs.Ends.{is_end};
-ghost use Rattle.store_tx.specs.Statements.{MayAct, MayActOrMerge, MayMergeHead, MayWork, GoesOn, acted_over, merged_over, step_in};
+ghost use Rattle.store_tx.specs.Statements.{MayAct, MayActOrMerge, MayMergeHead, MayWork, GoesOn, acted_over, merged_over, step_in, told_on};
 ghost use Rattle.branch_tx.specs.Granted.{AreAllOf};
 ghost use Rattle.line_needs.specs.Needs.{lock_of, exclusive};
 ghost use Rattle.store_tx.specs.Keeps.{IsBack, IsMore, needs_in};
 
 use crate::granting::{grant, grant_head, head_place};
-use crate::twice::{Twice, copied, done, refusal, refused};
 use branch_tx::Tx;
 use db_store::Store;
 use db_value::{Name, Prefer, Refusal, Reply};
@@ -31,7 +29,6 @@ fn merge_head<St: Store>(
     ensures tx { OnOk result (GoesOn (St.state store.now) branch
         (exclusive (lock_of branch) ∷ [])
         (merged_over (St.state store.now) branch tx.old prefer other) tx.old tx.new) }
-    ensures short { IfOk result (λ r. IsLong r → ⊥) }
     ensures shown { AreAllOf (St.state store.now) tx.new }
     ensures err { OnErr result (IsMore tx.old tx.new) }
 {
@@ -60,15 +57,18 @@ fn merge<St: Store>(
         (needs_in (St.state store.now) branch tx.old (Stmt.Merge name.now prefer))
         (acted_over (St.state store.now) branch tx.old (Stmt.Merge name.now prefer)) tx.old
         tx.new) }
-    ensures short { IfOk result (λ r. IsLong r → ⊥) }
     ensures shown { AreAllOf (St.state store.now) tx.new }
     ensures err { OnErr result (IsMore tx.old tx.new) }
 {
     if tx.has_done() {
-        return Ok(refusal(&Refusal::NotFirst));
+        return Ok(Reply::Refused {
+            why: Refusal::NotFirst,
+        });
     }
     match store.branch(name) {
-        None => Ok(refusal(&Refusal::NoBranch { branch: *name })),
+        None => Ok(Reply::Refused {
+            why: Refusal::NoBranch { branch: *name },
+        }),
         Some(other) => {
             let reply = merge_head(store, tx, branch, other, prefer)?;
             Ok(reply)
@@ -90,7 +90,6 @@ fn act<St: Store>(
     ensures tx { OnOk result (GoesOn (St.state store.now) branch
         (needs_in (St.state store.now) branch tx.old stmt.now)
         (acted_over (St.state store.now) branch tx.old stmt.now) tx.old tx.new) }
-    ensures long { IfOk result (λ r. IsLong r → IsMore tx.old tx.new) }
     ensures shown { AreAllOf (St.state store.now) tx.new }
     ensures err { OnErr result (IsMore tx.old tx.new) }
 {
@@ -107,8 +106,9 @@ fn act<St: Store>(
     }
 }
 
-// Answers a statement that reads or changes records, or merges.
-fn work<St: Store>(
+/// Answers a statement that reads or changes records, or merges. Where it finds no memory, the
+/// transaction was granted more and changed nothing.
+pub fn act_or_merge<St: Store>(
     store: &St,
     tx: &mut Tx<St>,
     branch: u32,
@@ -120,7 +120,6 @@ fn work<St: Store>(
     ensures tx { OnOk result (GoesOn (St.state store.now) branch
         (needs_in (St.state store.now) branch tx.old stmt.now)
         (acted_over (St.state store.now) branch tx.old stmt.now) tx.old tx.new) }
-    ensures long { IfOk result (λ r. IsLong r → IsMore tx.old tx.new) }
     ensures shown { AreAllOf (St.state store.now) tx.new }
     ensures err { OnErr result (IsMore tx.old tx.new) }
 {
@@ -139,26 +138,6 @@ fn work<St: Store>(
     }
 }
 
-/// Answers a statement that reads or changes records, or merges, with a copy of the reply.
-pub fn work_twice<St: Store>(
-    store: &St,
-    tx: &mut Tx<St>,
-    branch: u32,
-    stmt: &Stmt,
-) -> Result<Twice, AllocError>
-    requires may { MayActOrMerge (St.state store.now) branch stmt.now tx.old }
-    ensures reply { IfOk result (λ t.
-        t ≡ (acted_over (St.state store.now) branch tx.old stmt.now).reply) }
-    ensures tx { OnOk result (GoesOn (St.state store.now) branch
-        (needs_in (St.state store.now) branch tx.old stmt.now)
-        (acted_over (St.state store.now) branch tx.old stmt.now) tx.old tx.new) }
-    ensures shown { AreAllOf (St.state store.now) tx.new }
-    ensures err { OnErr result (IsMore tx.old tx.new) }
-{
-    let reply = work(store, tx, branch, stmt)?;
-    copied(reply)
-}
-
 // Answers a statement that reads or changes records, or merges. Want of memory takes back what was
 // granted.
 fn work_or_back<St: Store>(
@@ -166,10 +145,10 @@ fn work_or_back<St: Store>(
     tx: &mut Tx<St>,
     branch: u32,
     stmt: &Stmt,
-) -> Result<Twice, AllocError>
+) -> Result<Reply, AllocError>
     requires may { MayActOrMerge (St.state store.now) branch stmt.now tx.old }
-    ensures reply { IfOk result (λ t.
-        t ≡ (acted_over (St.state store.now) branch tx.old stmt.now).reply) }
+    ensures reply { IfOk result (λ r.
+        r ≡ (acted_over (St.state store.now) branch tx.old stmt.now).reply) }
     ensures tx { OnOk result (GoesOn (St.state store.now) branch
         (needs_in (St.state store.now) branch tx.old stmt.now)
         (acted_over (St.state store.now) branch tx.old stmt.now) tx.old tx.new) }
@@ -177,7 +156,7 @@ fn work_or_back<St: Store>(
     ensures err { OnErr result (IsBack branch tx.old tx.new) }
 {
     let mark = tx.mark();
-    match work_twice(store, tx, branch, stmt) {
+    match act_or_merge(store, tx, branch, stmt) {
         Ok(answer) => Ok(answer),
         Err(stop) => {
             tx.back_to(mark);
@@ -187,18 +166,17 @@ fn work_or_back<St: Store>(
 }
 
 /// Answers a statement in an open transaction, which goes on. Want of memory leaves the transaction.
-/// `segments` is told of the layout by the caller.
 pub fn go_on<St: Store>(
     alloc: Global,
     store: &St,
     tx: &mut Tx<St>,
     branch: u32,
     stmt: &Stmt,
-) -> Result<Twice, AllocError>
+) -> Result<Reply, AllocError>
     requires goes_on { is_end stmt.now ≡ false }
     requires may { MayWork (St.state store.now) branch stmt.now tx.old }
-    ensures reply { IfOk result (λ t.
-        t ≡ (step_in (dataset_of (St.state store.now)) branch tx.old stmt.now).reply) }
+    ensures reply { IfOk result (λ r. r ≡ told_on (St.state store.now) stmt.now
+        (step_in (dataset_of (St.state store.now)) branch tx.old stmt.now).reply) }
     ensures tx { OnOk result (GoesOn (St.state store.now) branch
         (needs_in (St.state store.now) branch tx.old stmt.now)
         (step_in (dataset_of (St.state store.now)) branch tx.old stmt.now) tx.old tx.new) }
@@ -206,19 +184,30 @@ pub fn go_on<St: Store>(
     ensures err { OnErr result (IsBack branch tx.old tx.new) }
 {
     match stmt {
-        Stmt::Begin { .. } => Ok(refused(Refusal::InTransaction)),
-        Stmt::On { .. } => Ok(refused(Refusal::InTransaction)),
-        Stmt::Checkpoint => Ok(refused(Refusal::InTransaction)),
-        Stmt::Branch { .. } => Ok(refused(Refusal::InTransaction)),
+        Stmt::Begin { .. } => Ok(Reply::Refused {
+            why: Refusal::InTransaction,
+        }),
+        Stmt::On { .. } => Ok(Reply::Refused {
+            why: Refusal::InTransaction,
+        }),
+        Stmt::Checkpoint => Ok(Reply::Refused {
+            why: Refusal::InTransaction,
+        }),
+        Stmt::Branch { .. } => Ok(Reply::Refused {
+            why: Refusal::InTransaction,
+        }),
         Stmt::LogOf { branch } => {
             let reply = log_branch(alloc, store, branch)?;
-            copied(reply)
+            Ok(reply)
         }
         Stmt::Graph => {
             let reply = graph(alloc, store)?;
-            copied(reply)
+            Ok(reply)
         }
-        Stmt::Segments => Ok(done()),
+        Stmt::Segments => {
+            let lines = store.layout_report()?;
+            Ok(Reply::Layout { lines })
+        }
         _ => {
             let answer = work_or_back(store, tx, branch, stmt)?;
             Ok(answer)

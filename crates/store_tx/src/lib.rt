@@ -13,17 +13,14 @@
 //! | `specs/Stored.antt`, `src/stored.rt` | what a line asks of the log, and what the log does for it |
 //! | `src/granting.rt` | what a transaction is granted from the store |
 //! | `src/inside.rt`, `src/outside.rt` | statements in an open transaction, and those on their own |
-//! | `src/twice.rt` | replies that are given and kept |
 #![tactic(auto)]
 
 mod granting;
 mod inside;
 mod outside;
 mod stored;
-mod twice;
 
 pub use granting::{grant_or_back, open_tx};
 pub use inside::go_on;
 pub use outside::{USUAL_ROOM, branch_of, end, own};
-pub use stored::{Answer, LogCall, Plan, carry_out, save, unmarked};
-pub use twice::{Twice, copied, done, refusal, refused};
+pub use stored::{Answer, LogCall, Plan, carry_out, save, told_if, unmarked};

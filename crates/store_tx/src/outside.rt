@@ -6,13 +6,12 @@ ghost use Rattle.db_store.specs.State.{dataset_of};
 ghost use Rattle.branch_tx.specs.Granted.{tx_in};
 ghost use Rattle.branch_tx.proofs.Acts.{is_done};
 ghost use Rattle.store_tx.specs.Ends.{is_begin, is_end};
-ghost use Rattle.store_tx.specs.Statements.{HasName, IsWork, step_in, step_out, entry_out, entry_over, commit_over, told_over, branched, branch_out, branch_entry, moved_out};
+ghost use Rattle.store_tx.specs.Statements.{HasName, IsWork, step_in, step_out, entry_out, entry_over, commit_over, told_over, branched, branch_out, branch_entry, moved_out, told_on};
 ghost use Rattle.store_tx.specs.Stored.{FitsIf, IsNamedIf, call_if, call_of, entry_called};
 
 use crate::granting::open_tx;
-use crate::inside::work_twice;
+use crate::inside::act_or_merge;
 use crate::stored::{LogCall, Plan, plain};
-use crate::twice::{copied, done, made, refused};
 use branch_tx::Tx;
 use db_store::Store;
 use db_value::{Entry, Name, Refusal, Reply, VersionName, VersionPlace};
@@ -39,9 +38,12 @@ pub fn commit<St: Store>(store: &St, tx: &Tx<St>, branch: u32) -> Result<Plan, A
     let name = store.branch_name(branch);
     let position = store.last(branch) + 1;
     match tx.entry(branch)? {
-        None => Ok(plain(done())),
+        None => Ok(plain(Reply::Done)),
         Some(entry) => Ok(Plan {
-            told: made(name, position),
+            told: Reply::Made {
+                branch: name,
+                position,
+            },
             call: LogCall::Append { entry },
             moved: None,
         }),
@@ -60,7 +62,7 @@ pub fn end<St: Store>(store: &St, tx: &Tx<St>, branch: u32, stmt: &Stmt) -> Resu
 {
     match stmt {
         Stmt::Commit => commit(store, tx, branch),
-        _ => Ok(plain(done())),
+        _ => Ok(plain(Reply::Done)),
     }
 }
 
@@ -85,8 +87,8 @@ fn alone<St: Store>(alloc: Global, store: &St, branch: u32, stmt: &Stmt) -> Resu
     ensures stays { IfOk result (λ p. p.moved ≡ None) }
 {
     let mut tx = open_tx(alloc, store, branch, USUAL_ROOM)?;
-    let told = work_twice(store, &mut tx, branch, stmt)?;
-    if is_done(told.reply()) {
+    let told = act_or_merge(store, &mut tx, branch, stmt)?;
+    if is_done(&told) {
         let committed = commit(store, &tx, branch)?;
         return Ok(committed);
     }
@@ -105,13 +107,20 @@ fn branch_at<St: Store>(store: &St, name: &Name, origin: VersionPlace) -> Plan
     ensures stays { result.moved ≡ None }
 {
     if store.branch(name).is_some() {
-        return plain(refused(Refusal::BranchThere { branch: *name }));
+        return plain(Reply::Refused {
+            why: Refusal::BranchThere { branch: *name },
+        });
     }
     if store.branches() >= MOST_BRANCHES {
-        return plain(refused(Refusal::BranchesFull));
+        return plain(Reply::Refused {
+            why: Refusal::BranchesFull,
+        });
     }
     Plan {
-        told: made(*name, 0),
+        told: Reply::Made {
+            branch: *name,
+            position: 0,
+        },
         call: LogCall::Append {
             entry: Entry::Branch {
                 name: *name,
@@ -133,7 +142,7 @@ pub fn branch_of<St: Store>(store: &St, name: &Name, origin: &VersionName) -> Pl
     ensures stays { result.moved ≡ None }
 {
     match find_version(store, origin) {
-        Err(why) => plain(refused(why)),
+        Err(why) => plain(Reply::Refused { why }),
         Ok(at) => branch_at(store, name, at),
     }
 }
@@ -145,9 +154,11 @@ fn move_to<St: Store>(store: &St, name: &Name) -> Plan
     ensures moved { result.moved ≡ (moved_out (dataset_of (St.state store.now)) name.now).tx.moved }
 {
     match store.branch(name) {
-        None => plain(refused(Refusal::NoBranch { branch: *name })),
+        None => plain(Reply::Refused {
+            why: Refusal::NoBranch { branch: *name },
+        }),
         Some(branch) => Plan {
-            told: done(),
+            told: Reply::Done,
             call: LogCall::Nothing,
             moved: Some(branch),
         },
@@ -161,14 +172,13 @@ fn saved() -> Plan
     ensures moved { result.moved ≡ None }
 {
     Plan {
-        told: done(),
+        told: Reply::Done,
         call: LogCall::Save,
         moved: None,
     }
 }
 
-/// What a statement is to do outside of a transaction, if it doesn't begin one. `segments` is told of
-/// the layout by the caller.
+/// What a statement is to do outside of a transaction, if it doesn't begin one.
 pub fn own<St: Store>(
     alloc: Global,
     store: &St,
@@ -177,7 +187,7 @@ pub fn own<St: Store>(
 ) -> Result<Plan, AllocError>
     requires branch { current < length (dataset_of (St.state store.now)).branches }
     requires ends { is_begin stmt.now ≡ false }
-    ensures told { IfOk result (λ p. p.told ≡
+    ensures told { IfOk result (λ p. p.told ≡ told_on (St.state store.now) stmt.now
         (step_out (dataset_of (St.state store.now)) current stmt.now).reply) }
     ensures call { IfOk result (λ p. p.call ≡
         call_of stmt.now (entry_out (dataset_of (St.state store.now)) current stmt.now)) }
@@ -186,18 +196,25 @@ pub fn own<St: Store>(
         (step_out (dataset_of (St.state store.now)) current stmt.now).tx.moved) }
 {
     match stmt {
-        Stmt::Commit => Ok(plain(refused(Refusal::NoTransaction))),
-        Stmt::Abort => Ok(plain(refused(Refusal::NoTransaction))),
+        Stmt::Commit => Ok(plain(Reply::Refused {
+            why: Refusal::NoTransaction,
+        })),
+        Stmt::Abort => Ok(plain(Reply::Refused {
+            why: Refusal::NoTransaction,
+        })),
         Stmt::On { branch } => Ok(move_to(store, branch)),
         Stmt::LogOf { branch } => {
-            let told = copied(log_branch(alloc, store, branch)?)?;
+            let told = log_branch(alloc, store, branch)?;
             Ok(plain(told))
         }
         Stmt::Graph => {
-            let told = copied(graph(alloc, store)?)?;
+            let told = graph(alloc, store)?;
             Ok(plain(told))
         }
-        Stmt::Segments => Ok(plain(done())),
+        Stmt::Segments => {
+            let lines = store.layout_report()?;
+            Ok(plain(Reply::Layout { lines }))
+        }
         Stmt::Checkpoint => Ok(saved()),
         Stmt::Branch { name, origin } => Ok(branch_of(store, name, origin)),
         _ => {

@@ -8,10 +8,9 @@ ghost use Rattle.entry_codec.specs.Laws.{IsNamed, IsEntry};
 ghost use Rattle.store_tx.specs.Ends.{grown};
 ghost use Rattle.store_tx.specs.Stored.{Stores, entry_called, told_if, stored_if, FitsIf, IsNamedIf, SparesIf};
 
-use crate::twice::{Twice, refused};
 use db_outside::{Batch, BatchStop};
 use db_store::Store;
-use db_value::{Entry, Refusal};
+use db_value::{Entry, Refusal, Reply};
 use entry_codec::{CheckpointStop, Log, encode, fitting_law};
 use std::alloc::{AllocError, Global};
 
@@ -30,7 +29,7 @@ pub enum LogCall {
 /// the branch to which its session moves.
 #[derive(Drop)]
 pub struct Plan {
-    pub told: Twice,
+    pub told: Reply,
     pub call: LogCall,
     pub moved: Option<u32>,
 }
@@ -38,12 +37,12 @@ pub struct Plan {
 /// What a line was told, and whether the log failed to do what it was asked for.
 #[derive(Drop)]
 pub struct Answer {
-    pub told: Twice,
+    pub told: Reply,
     pub failed: bool,
 }
 
 /// A plan that asks nothing of the log and moves nobody.
-pub fn plain(told: Twice) -> Plan
+pub fn plain(told: Reply) -> Plan
     ensures told { result.told ≡ told }
     ensures call { result.call ≡ LogCall.Nothing }
     ensures moved { result.moved ≡ None }
@@ -56,7 +55,7 @@ pub fn plain(told: Twice) -> Plan
 }
 
 /// An answer for which no log is called. It does nothing to store and log.
-pub fn unmarked<St: Store, J: Log<St>>(_store: &St, _log: &J, told: Twice) -> Answer
+pub fn unmarked<St: Store, J: Log<St>>(_store: &St, _log: &J, told: Reply) -> Answer
     ensures told { result.told ≡ told }
     ensures failed { result.failed ≡ false }
     ensures stores { Stores J.Log (St.state _store.now) false LogCall.Nothing _log.now _log.now }
@@ -167,18 +166,26 @@ pub fn save<St: Store, J: Log<St>>(store: &St, log: &mut J) -> Result<bool, Allo
     }
 }
 
-// What a line was told, or that the log failed.
-fn answered(told: Twice, failed: bool) -> Answer
+/// What a line is told, or that the log failed.
+pub fn told_if(failed: bool, told: Reply) -> Reply
+    ensures { result ≡ told_if failed told }
+{
+    if failed {
+        return Reply::Refused {
+            why: Refusal::FaultDisk,
+        };
+    }
+    told
+}
+
+fn answered(told: Reply, failed: bool) -> Answer
     ensures told { result.told ≡ told_if failed told }
     ensures failed { result.failed ≡ failed }
 {
-    if failed {
-        return Answer {
-            told: refused(Refusal::FaultDisk),
-            failed,
-        };
+    Answer {
+        told: told_if(failed, told),
+        failed,
     }
-    Answer { told, failed }
 }
 
 /// Carries a plan out: its entry, if it has one, is stored in the log and then added to the store; or

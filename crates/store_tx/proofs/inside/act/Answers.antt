@@ -1,12 +1,11 @@
 use Rattle.std.proofs.Common.{◌∙◌, ap, sym, subst, List}
-use Rattle.db_value.specs.Long.{IsLong}
 use Rattle.db_store.specs.Overlay.{Overlay}
 use Rattle.db_store.specs.State.{dataset_of}
 use Rattle.branch_tx.specs.Act.{Outcome, Tx}
-use Rattle.branch_tx.specs.Granted.{Granted, tx_in}
-use Rattle.store_tx.specs.Keeps.{Keeps, IsMore}
+use Rattle.branch_tx.specs.Granted.{tx_in}
+use Rattle.store_tx.specs.Keeps.{Keeps}
 use Rattle.store_tx.specs.Statements.{act_over}
-use Rattle.store_tx.proofs.KeepsLemmas.{covered_acts, left_is, left_keeps, more_none, more_left, more_tx}
+use Rattle.store_tx.proofs.KeepsLemmas.{covered_acts, left_is, left_keeps, more_tx}
 use Rattle.store_tx.proofs.inside.act.Goals as goal
 
 pub returns-then-covers-clause-reply : goal.returns-then-covers-clause-reply
@@ -28,11 +27,6 @@ returns-then-covers-clause-tx g c =
           let d = dataset_of (g.St.Store.state c.args.store.now) in
           subst (Keeps d rows s c.args.branch) (sym c.in_ok-reply.ensures.left) (left_keeps d rows s c.args.branch c.args.tx.now c.args.stmt.now c.requires.may.acts (sym c.covers.ensures ∙ c.if-covers.true) k);
     }
-
-pub returns-then-covers-clause-long : goal.returns-then-covers-clause-long
-returns-then-covers-clause-long g c = λ l.
-    let tx : Granted = c.args.tx.now in
-    subst (IsMore tx) (sym c.in_ok-reply.ensures.left) (more_left tx tx c.args.stmt.now (more_none tx) (subst IsLong c.in_ok-reply.ensures.reply l))
 
 pub returns-in_ok-reply-in-None-clause-reply : goal.returns-in_ok-reply-in-None-clause-reply
 returns-in_ok-reply-in-None-clause-reply g c =
@@ -62,8 +56,3 @@ returns-in_ok-reply-in-None-clause-tx g c =
           let d = dataset_of (g.St.Store.state c.args.store.now) in
           subst (Keeps d rows s c.args.branch) (sym c.in_ok-reply-in-None.ensures.left) (left_keeps d rows s c.args.branch c.grant.new.tx c.args.stmt.now c.requires.may.acts (c.in_ok-why.ensures.covered c.in-None.is) (c.in_ok-why.ensures.keeps rows s k n));
     }
-
-pub returns-in_ok-reply-in-None-clause-long : goal.returns-in_ok-reply-in-None-clause-long
-returns-in_ok-reply-in-None-clause-long g c = λ l.
-    let tx : Granted = c.args.tx.now in
-    subst (IsMore tx) (sym c.in_ok-reply-in-None.ensures.left) (more_left tx c.grant.new.tx c.args.stmt.now c.in_ok-why.ensures.more.more (subst IsLong c.in_ok-reply-in-None.ensures.reply l))

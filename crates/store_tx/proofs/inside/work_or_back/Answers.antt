@@ -6,4 +6,4 @@ use Rattle.store_tx.proofs.inside.work_or_back.Goals as goal
 pub returns-in-Err-clause-shown : goal.returns-in-Err-clause-shown
 returns-in-Err-clause-shown g c =
     let st = g.St.Store.state c.args.store.now in
-    subst (AreAllOf st) (sym c.back_to.ensures) (back_of st c.work_twice.new.tx c.mark-mark.result c.in-Err.ensures.shown)
+    subst (AreAllOf st) (sym c.back_to.ensures) (back_of st c.act_or_merge.new.tx c.mark-mark.result c.in-Err.ensures.shown)

@@ -3,7 +3,6 @@ use Rattle.db_store.specs.Overlay.{Overlay}
 use Rattle.db_store.specs.State.{dataset_of}
 use Rattle.branch_tx.specs.Act.{Tx}
 use Rattle.branch_tx.specs.Granted.{tx_in, has_done}
-use Rattle.branch_tx.proofs.Acts.{is_done}
 use Rattle.line_needs.specs.Needs.{needs}
 use Rattle.store_tx.specs.Keeps.{tagged}
 use Rattle.store_tx.specs.Statements.{act_over}
@@ -13,8 +12,8 @@ use Rattle.store_tx.proofs.Tagged.{tagged_new}
 use Rattle.store_tx.proofs.OwnLines.{own_told, own_stored, own_answered, own_none, done_is, not_done}
 use Rattle.store_tx.proofs.outside.alone.Goals as goal
 
-pub work_twice-requires : goal.work_twice-requires
-work_twice-requires g c =
+pub act_or_merge-requires : goal.act_or_merge-requires
+act_or_merge-requires g c =
     let d = dataset_of (g.St.Store.state c.args.store.now) in
     let ns = needs d c.args.branch true (has_done c.in_ok-tx.tx) c.args.stmt.now in
     record {
@@ -33,7 +32,7 @@ returns g c =
     let b = c.args.branch in
     let x = c.args.stmt.now in
     let reply = c.in_ok-told.ensures.reply ∙ ap (λ (t : Tx (List Overlay)). (act_over d b t x).reply) c.in_ok-tx.ensures.tx in
-    let other = not_done c.in_ok-told.told (ap is_done (sym c.reply.ensures) ∙ sym c.is_done.ensures ∙ c.if-is_done.false) in
+    let other = not_done c.in_ok-told.told (sym c.is_done.ensures ∙ c.if-is_done.false) in
     record {
       told = c.plain.ensures.told ∙ own_answered d b x c.in_ok-told.told c.requires.works reply other;
       call = c.plain.ensures.call ∙ ap call_if (own_none d b x c.in_ok-told.told c.requires.works reply other);
@@ -49,7 +48,7 @@ returns-then-is_done-clause-told g c =
     let x = c.args.stmt.now in
     let now = c.in_ok-told.ensures.tx.tx ∙ ap (λ (t : Tx (List Overlay)). (act_over d b t x).tx) c.in_ok-tx.ensures.tx in
     let reply = c.in_ok-told.ensures.reply ∙ ap (λ (t : Tx (List Overlay)). (act_over d b t x).reply) c.in_ok-tx.ensures.tx in
-    c.in_ok-committed.ensures.told ∙ own_told d b x (tx_in c.work_twice.new.tx) c.in_ok-told.told (g.met.St.Store.counted s) c.requires.works now reply (done_is c.in_ok-told.told (ap is_done (sym c.reply.ensures) ∙ sym c.is_done.ensures ∙ c.if-is_done.true))
+    c.in_ok-committed.ensures.told ∙ own_told d b x (tx_in c.act_or_merge.new.tx) c.in_ok-told.told (g.met.St.Store.counted s) c.requires.works now reply (done_is c.in_ok-told.told (sym c.is_done.ensures ∙ c.if-is_done.true))
 
 pub returns-then-is_done-clause-call : goal.returns-then-is_done-clause-call
 returns-then-is_done-clause-call g c =
@@ -57,4 +56,4 @@ returns-then-is_done-clause-call g c =
     let b = c.args.branch in
     let x = c.args.stmt.now in
     let now = c.in_ok-told.ensures.tx.tx ∙ ap (λ (t : Tx (List Overlay)). (act_over d b t x).tx) c.in_ok-tx.ensures.tx in
-    c.in_ok-committed.ensures.call ∙ ap call_if (own_stored d b x (tx_in c.work_twice.new.tx) c.requires.works now)
+    c.in_ok-committed.ensures.call ∙ ap call_if (own_stored d b x (tx_in c.act_or_merge.new.tx) c.requires.works now)
