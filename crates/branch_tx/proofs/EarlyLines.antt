@@ -1,5 +1,5 @@
 -- A line that is refused early: its reply depends on the schema and on whether a transaction is open and has changed something, and it leaves the transaction.
-use Rattle.std.proofs.Common.{◌≡◌, ℕ, ◌==◌, is_some, Bool, true, false, cond, List, [], ◌∷◌, length, map, refl, ap, ◌∙◌, Option, Some, None}
+use Rattle.std.proofs.Common.{◌≡◌, ℕ, ◌==◌, is_some, Bool, true, false, cond, List, [], ◌∷◌, length, map, refl, ap, sym, ◌∙◌, Option, Some, None}
 use Rattle.std.specs.Prelude.{Result, Ok, Err}
 use Rattle.db_value.specs.Value.{Value}
 use Rattle.db_value.specs.Relations.{columns_at}
@@ -23,7 +23,10 @@ use Rattle.branch_tx.specs.Keeping.{Keeping}
 use Rattle.db_store.specs.Found.{plain}
 use Rattle.branch_tx.specs.Found.{Source, first_lacking}
 use Rattle.branch_tx.specs.Act.{Tx, Outcome, Ground, refused, unless, insert_of, update_in, update_of, delete_of, get_of, scan_over, scan_of, join_of, minus_of, act}
+use Rattle.line_needs.specs.declared.known.Known.TheVariants.{Refused as KnownRefused}
 use Rattle.line_needs.specs.Columns.{relation_named, resolved}
+use Rattle.line_needs.specs.Known.{known_of, refusal_in}
+use Rattle.line_needs.proofs.Knowing.{known_why}
 use Rattle.line_needs.specs.Early.{column_refusal}
 use Rattle.branch_tx.specs.Alone.{ground_of, told, told_of, has_changed, step}
 use Rattle.line_needs.specs.Early.{outside_refusal, inside_refusal, first_refusal, relation_refusal, count_refusal, unresolved_refusal, set_refusal, ask_refusal, join_refusal, early_refusal, is_early}
@@ -187,3 +190,9 @@ module _ {W : Type 0} (k : Keeping W) where
   act_early g sources heads tx changed (Scan name over terms) e = scan_early g.schema sources heads tx name over terms (relation_named g.schema name) e
   act_early g sources heads tx changed (Join left right v w terms) e = join_early g.schema tx left right (sources v) (sources w) terms (relation_named g.schema left) (relation_named g.schema right) e
   act_early g sources heads tx changed (Minus name v w) e = minus_early tx name (sources v) (sources w) (relation_named g.schema name) e
+
+  -- and of one that is known to be refused
+  pub act_known : (g : Ground) (sources : VersionName → Source) (heads : List (List ℕ)) (tx : Tx W) (changed : Bool) (x : Stmt) (why : Refusal) → known_of g.schema true changed x ≡ KnownRefused why → act k g sources heads tx x ≡ refused tx why
+  act_known g sources heads tx changed x why e =
+      let early : early_refusal g.schema true changed x ≡ Some why = sym (known_why g.schema true changed x) ∙ ap refusal_in e in
+      act_early g sources heads tx changed x (ap is_some early) ∙ ap (λ (o : Option Refusal). refused tx (why_of o)) early

@@ -16,6 +16,7 @@ pub mod Ends
 pub mod Acts
 pub mod Entries
 pub mod EarlyLines
+pub mod KnownLines
 pub mod LogsStay
 pub mod ReadsStay
 pub mod AsksStay

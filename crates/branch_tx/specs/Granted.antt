@@ -1,13 +1,11 @@
 -- A granted transaction by itself: what it holds of its branch, what it has changed, and which versions were lent to it.
-use Rattle.std.specs.Prelude.{ℕ, ◌==◌, ◌&&◌, not, is_some, cond, Bool, true, false, List, [], ◌∷◌, length, take, Option, Some, None, Result, refl}
+use Rattle.std.specs.Prelude.{ℕ, ◌==◌, ◌&&◌, not, is_some, cond, Bool, true, false, List, [], ◌∷◌, length, take, Option, Some, None, refl}
 use Rattle.std.specs.FinMap as finite
 use Rattle.std.specs.Coded.{Coded, code_by, coded×, coded_ℕ, coded_bool, coded_list, coded_option}
 use Rattle.db_value.specs.Text.{same}
 use Rattle.db_value.specs.declared.schema.Relation.{Relation}
 use Rattle.db_value.specs.declared.record.Record.{Record}
-use Rattle.db_value.specs.declared.condition.Set.{Set}
 use Rattle.db_value.specs.declared.entry.Change.{Change}
-use Rattle.db_value.specs.Value.{Value}
 use Rattle.db_value.specs.declared.version.VersionName.{VersionName}
 use Rattle.db_value.specs.declared.version.VersionPlace.{VersionPlace}
 use Rattle.db_value.specs.declared.condition.Prefer.{Prefer}
@@ -18,9 +16,11 @@ use Rattle.db_store.specs.Overlay.{Overlay, overlay_code, laid}
 use Rattle.stmt_text.specs.declared.stmt.Stmt.{Stmt}
 use Rattle.stmt_text.specs.declared.stmt.Stmt.TheVariants.{Scan, Join, Minus}
 use Rattle.stmt_text.specs.declared.stmt.ScanOver.{ScanOver}
+use Rattle.line_needs.specs.declared.known.Known.{Known}
+use Rattle.line_needs.specs.Known.{known_of}
 use Rattle.branch_tx.specs.Keeping.{over_table}
 use Rattle.branch_tx.specs.Found.{Source, Own, Other, Lacking}
-use Rattle.branch_tx.specs.Act.{Tx, Outcome, Ground, act, insert_free, update_free, delete_free, insert_in, update_in, get_from, scan_over, join_in, minus_in, record_with}
+use Rattle.branch_tx.specs.Act.{Tx, Outcome, Ground, act, get_from, scan_over, join_in, minus_in, record_with}
 use Rattle.branch_tx.specs.Merging.{merge_in, merged_to, merge_refusal}
 use Rattle.branch_tx.specs.Frame.{is_changed}
 use Rattle.branch_tx.specs.Shown.{Shown, shown_code, ViewsOf}
@@ -131,6 +131,10 @@ tx_in g = record { begun = true; room = g.room; work = g.overlays; second = g.se
 abbrev pub has_done : Granted → Bool
 has_done g = is_changed (tx_in g)
 
+-- what it knows of a statement, before any lock is looked at
+abbrev pub known_in : Granted → Stmt → Known
+known_in g x = known_of g.schema true (has_done g) x
+
 -- what a statement does in it
 abbrev pub acted : Granted → Stmt → Outcome (List Overlay)
 acted g x = act (over_table g.head) (ground_in g) (source_in g) (names_or_none g.heads) (tx_in g) x
@@ -162,14 +166,6 @@ with_merge g o = record g { overlays = o.tx.work; second = o.tx.second }
 abbrev pub adopted : Granted → VersionPlace → List Change → Outcome (List Overlay)
 adopted g from cs = merged_to (over_table g.head) (tx_in g) from cs (merge_refusal g.schema g.room (length cs) None (full_from 0 (with_changes g.head cs)))
 
--- what an insertion and an update of a relation do
-abbrev pub inserted : Granted → ℕ → List ℕ → ℕ → List Value → Outcome (List Overlay)
-inserted g r name key fields = insert_in (over_table g.head) (ground_in g) (tx_in g) r name key fields
-
--- the end of an update with these new values, or with an unknown column
-abbrev pub updated_by : Granted → ℕ → List ℕ → ℕ → Result (List Set) (List ℕ) → Outcome (List Overlay)
-updated_by g r name key sets = update_in (over_table g.head) (ground_in g) (tx_in g) r name key sets
-
 -- what a look-up in a relation, a scan, a join and a difference do
 abbrev pub looked_up : Granted → ℕ → ℕ → Source → Outcome (List Overlay)
 looked_up g r key source = get_from (over_table g.head) (tx_in g) r key source
@@ -189,18 +185,6 @@ told_apart g r v w = minus_in (over_table g.head) (tx_in g) r (source_in g v) (s
 -- it after what it was granted since a mark is taken back
 abbrev pub back_at : Granted → Option (Bool × Bool) × (ℕ × Bool) → Granted
 back_at g mark = record g { held = mark.0; lent = take mark.1.0 g.lent; shown = take mark.1.0 g.shown; heads = cond mark.1.1 g.heads None }
-
--- what an insertion does where the branch isn't full
-abbrev pub placed : Granted → ℕ → List ℕ → Record → Outcome (List Overlay)
-placed g r name row = insert_free (over_table g.head) (tx_in g) r name row.key row.fields
-
--- an update and a deletion likewise
-abbrev pub renewed : Granted → ℕ → List ℕ → ℕ → List Set → Outcome (List Overlay)
-renewed g r name key sets = update_free (over_table g.head) (tx_in g) r name key sets
-
--- the end of a delete
-abbrev pub removed : Granted → ℕ → List ℕ → ℕ → Outcome (List Overlay)
-removed g r name key = delete_free (over_table g.head) (tx_in g) r name key
 
 -- the table that it sees from a source
 abbrev pub table_from : Granted → Source → Table

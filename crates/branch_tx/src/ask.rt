@@ -1,5 +1,5 @@
 //! Questions to views, where nobody counts the steps.
-ghost use Rattle.std.specs.Prelude.{◌≡◌, ◌<◌, None, Some, length, map, IfOk, OnOk, IfErr, IfNone, IfSome};
+ghost use Rattle.std.specs.Prelude.{◌≡◌, ◌<◌, None, length, map, IfOk};
 ghost use Rattle.std.specs.List.{All};
 ghost use Rattle.db_value.specs.Relations.{columns_at};
 ghost use Rattle.db_value.specs.Condition.{holds};
@@ -21,38 +21,21 @@ use std::marker::Brand;
 use std::sync::ledger::{Blank, Ledger};
 use version_join::{join, minus};
 
-// The first column that the relation hasn't; none is want of memory.
-fn column_of(stop: &PredStop) -> Option<Name>
-    ensures some { IfSome result (λ column. stop.now ≡ PredStop.NoColumn column) }
-    ensures memory { IfNone result (stop.now ≡ PredStop.Memory) }
-{
-    match stop {
-        PredStop::NoColumn { column } => Some(*column),
-        PredStop::Memory => None,
-    }
-}
-
-/// A condition on a relation, or the first column that the relation hasn't.
+/// A condition on a relation that has its columns.
 pub fn condition(
     alloc: Global,
     schema: &Schema,
     relation: u8,
     terms: &Terms,
-) -> Result<Result<Pred, Name>, AllocError>
-    requires { relation < length schema.now }
-    ensures holds { IfOk result (λ r.
-        IfOk r (λ p. pred_holds p ≡ holds (columns_at schema.now relation) terms.now)) }
-    ensures known { IfOk result (λ r.
-        OnOk r (first_unknown (columns_at schema.now relation) terms.now ≡ None)) }
-    ensures unknown { IfOk result (λ r. IfErr r (λ column.
-        first_unknown (columns_at schema.now relation) terms.now ≡ Some column)) }
+) -> Result<Pred, AllocError>
+    requires relation { relation < length schema.now }
+    requires known { first_unknown (columns_at schema.now relation) terms.now ≡ None }
+    ensures { IfOk result (λ p. pred_holds p ≡ holds (columns_at schema.now relation) terms.now) }
 {
     match Pred::resolve(alloc, schema, relation, terms) {
-        Ok(pred) => Ok(Ok(pred)),
-        Err(stop) => match column_of(&stop) {
-            None => Err(AllocError),
-            Some(column) => Ok(Err(column)),
-        },
+        Ok(pred) => Ok(pred),
+        Err(PredStop::NoColumn { .. }) => unreachable!(),
+        Err(PredStop::Memory) => Err(AllocError),
     }
 }
 

@@ -4,7 +4,7 @@ ghost use Rattle.std.specs.Prelude.{◌≡◌};
 use crate::Tx;
 use db_store::Store;
 use db_value::{Name, VersionName};
-use line_needs::is_early;
+use line_needs::{Known, know};
 use stmt_text::{ScanOver, Stmt};
 
 impl<St: Store> Tx<St> {
@@ -13,6 +13,14 @@ impl<St: Store> Tx<St> {
     ghost use Rattle.std.specs.List.{list_all};
     ghost use Rattle.db_store.specs.Found.{plain};
     ghost use Rattle.branch_tx.specs.Covers.{holds_alone, has_version, has_at, has_heads, has_over, is_granted, covers};
+    ghost use Rattle.branch_tx.specs.Granted.{known_in};
+
+    /// What it knows of a statement, before any lock is looked at. It takes no memory.
+    pub fn knows(&self, stmt: &Stmt) -> Known
+        ensures { result ≡ known_in self.now stmt.now }
+    {
+        know(&self.schema, true, self.has_done(), stmt)
+    }
 
     /// Is its branch granted?
     pub fn is_held(&self) -> bool
@@ -113,12 +121,14 @@ impl<St: Store> Tx<St> {
         }
     }
 
-    /// Does it answer a statement by itself? It does exactly where the statement is refused early, or
-    /// where the branch and each version that the statement needs are granted. It takes no memory.
-    pub fn covers(&self, stmt: &Stmt) -> bool
+    /// Does it answer a statement by itself, of which it knows this? It does exactly where the statement
+    /// is refused early, or where the branch and each version that the statement needs are granted. It
+    /// takes no memory.
+    pub fn covers(&self, stmt: &Stmt, known: &Known) -> bool
+        requires known { known.now ≡ known_in self.now stmt.now }
         ensures { result ≡ covers self.now stmt.now }
     {
-        if is_early(&self.schema, true, self.has_done(), stmt) {
+        if known.is_refused() {
             return true;
         }
         self.is_granted(stmt)

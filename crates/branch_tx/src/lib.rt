@@ -17,7 +17,8 @@
 //! | `specs/Covers.antt` | which statements a granted transaction answers by itself |
 //! | `specs/Frame.antt` | a transaction's replies and needs, which entries of others leave |
 //! | `specs/Laws.antt`, `src/laws.rt` | laws, each the contract of a function that does nothing |
-//! | `src/tx.rt`, `src/questions.rt` | the granted transaction, and its questions to versions |
+//! | `src/tx.rt` | the granted transaction |
+//! | `src/act.rt`, `src/questions.rt` | the statements that it answers, and its questions to versions |
 //! | `src/lent.rt`, `src/key.rt` | the versions that were lent to it, and names of versions in an order |
 //! | `src/covers.rt` | which statements it answers by itself |
 //! | `src/look.rt`, `src/ask.rt` | reading in a view, and questions to views |
@@ -25,6 +26,7 @@
 //! | `src/refuse.rt` | refusals |
 #![tactic(auto)]
 
+mod act;
 mod apart;
 mod ask;
 mod covers;

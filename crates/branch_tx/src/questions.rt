@@ -1,19 +1,20 @@
 //! Questions of a granted transaction to versions.
-ghost use Rattle.std.specs.Prelude.{◌≡◌, [], None, Some, length, map, IfOk, OnOk};
+ghost use Rattle.std.specs.Prelude.{◌≡◌, [], ℕ, List, None, Some, length, map, IfOk};
 ghost use Rattle.branch_tx.specs.Keeping.{over_table};
-ghost use Rattle.branch_tx.specs.Granted.{tx_in, acted};
+ghost use Rattle.branch_tx.specs.Granted.{tx_in, acted, known_in};
 
 use crate::Tx;
 use crate::apart::are_apart;
 use crate::ask::{condition, join_rows, list_rows, minus_rows, plain_names, scan_rows};
-use crate::refuse::{no_column, no_relation, refused};
+use crate::refuse::{refused, refused_by};
 use db_store::{Seen, Store, Work};
-use db_value::{Name, Pred, Refusal, Reply, SharedList, Terms, VersionName, VersionNames};
+use db_value::{Pred, Refusal, Reply, SharedList, Terms, VersionName, VersionNames};
+use line_needs::Known;
 use std::alloc::AllocError;
 use stmt_text::{ScanOver, Stmt};
 
 impl<St: Store> Tx<St> {
-    ghost use Rattle.std.specs.Prelude.{◌<◌, Ok, Err, IfNone, IfSome, IfErr};
+    ghost use Rattle.std.specs.Prelude.{◌<◌, IfNone, IfSome};
     ghost use Rattle.std.specs.List.{All};
     ghost use Rattle.db_value.specs.Pred.{pred_holds, first_unknown};
     ghost use Rattle.db_value.specs.Condition.{holds};
@@ -83,15 +84,12 @@ impl<St: Store> Tx<St> {
         Ok(Some(all))
     }
 
-    // A condition on a relation, or the first column that the relation hasn't.
-    fn condition(&self, relation: u8, terms: &Terms) -> Result<Result<Pred, Name>, AllocError>
-        requires { relation < length self.now.schema }
-        ensures holds { IfOk result (λ r.
-            IfOk r (λ p. pred_holds p ≡ holds (columns_at self.now.schema relation) terms.now)) }
-        ensures known { IfOk result (λ r.
-            OnOk r (first_unknown (columns_at self.now.schema relation) terms.now ≡ None)) }
-        ensures unknown { IfOk result (λ r. IfErr r (λ column.
-            first_unknown (columns_at self.now.schema relation) terms.now ≡ Some column)) }
+    // A condition on a relation that has its columns.
+    fn condition(&self, relation: u8, terms: &Terms) -> Result<Pred, AllocError>
+        requires relation { relation < length self.now.schema }
+        requires known { first_unknown (columns_at self.now.schema relation) terms.now ≡ None }
+        ensures { IfOk result
+            (λ p. pred_holds p ≡ holds (columns_at self.now.schema relation) terms.now) }
     {
         condition(*self.lent.allocator(), &self.schema, relation, terms)
     }
@@ -169,22 +167,25 @@ impl<St: Store> Tx<St> {
         }
     }
 
+    // The rows of whichever relation is known.
     pub(crate) fn scan(
         &self,
-        name: &Name,
+        known: &Known,
         over: &ScanOver,
         terms: &Terms,
     ) -> Result<Reply, AllocError>
-        ensures { IfOk result (λ r.
-            r ≡ (acted self.now (Stmt.Scan name.now over.now terms.now)).reply) }
+        requires { (name : List ℕ)
+            × (known.now ≡ known_in self.now (Stmt.Scan name over.now terms.now)) }
+        ensures { IfOk result (λ r. (name : List ℕ)
+            → known.now ≡ known_in self.now (Stmt.Scan name over.now terms.now)
+            → r ≡ (acted self.now (Stmt.Scan name over.now terms.now)).reply) }
     {
-        let Some(relation) = self.relation_of(name) else {
-            return Ok(no_relation(*name));
+        let Known::Of { relation } = known else {
+            return Ok(refused_by(known));
         };
-        match self.condition(relation, terms)? {
-            Err(column) => Ok(no_column(column)),
-            Ok(pred) => self.scan_over(relation, &pred, over),
-        }
+        let pred = self.condition(*relation, terms)?;
+        let reply = self.scan_over(*relation, &pred, over)?;
+        Ok(reply)
     }
 
     // The rows of relation r of one version beside those with their keys of relation s of another.
@@ -211,27 +212,26 @@ impl<St: Store> Tx<St> {
         Ok(Reply::Paired { pairs })
     }
 
+    // The rows of whichever relations are known.
     pub(crate) fn join(
         &self,
-        left: &Name,
-        right: &Name,
+        known: &Known,
         first: &VersionName,
         second: &VersionName,
         terms: &Terms,
     ) -> Result<Reply, AllocError>
-        ensures { IfOk result (λ r. r ≡ (acted self.now
-            (Stmt.Join left.now right.now first.now second.now terms.now)).reply) }
+        requires { (left : List ℕ) × (right : List ℕ) × (known.now
+            ≡ known_in self.now (Stmt.Join left right first.now second.now terms.now)) }
+        ensures { IfOk result (λ r. (left right : List ℕ)
+            → known.now ≡ known_in self.now (Stmt.Join left right first.now second.now terms.now)
+            → r ≡ (acted self.now (Stmt.Join left right first.now second.now terms.now)).reply) }
     {
-        let Some(r) = self.relation_of(left) else {
-            return Ok(no_relation(*left));
+        let Known::Both { left, right } = known else {
+            return Ok(refused_by(known));
         };
-        let Some(s) = self.relation_of(right) else {
-            return Ok(no_relation(*right));
-        };
-        match self.condition(r, terms)? {
-            Err(column) => Ok(no_column(column)),
-            Ok(pred) => self.join_in(r, s, first, second, &pred),
-        }
+        let pred = self.condition(*left, terms)?;
+        let reply = self.join_in(*left, *right, first, second, &pred)?;
+        Ok(reply)
     }
 
     // The rows of a version that another one lacks or has changed.
@@ -255,18 +255,23 @@ impl<St: Store> Tx<St> {
         Ok(Reply::Listed { names, rows })
     }
 
+    // The same of whichever relation is known.
     pub(crate) fn minus(
         &self,
-        name: &Name,
+        known: &Known,
         first: &VersionName,
         second: &VersionName,
     ) -> Result<Reply, AllocError>
-        ensures { IfOk result (λ r.
-            r ≡ (acted self.now (Stmt.Minus name.now first.now second.now)).reply) }
+        requires { (name : List ℕ)
+            × (known.now ≡ known_in self.now (Stmt.Minus name first.now second.now)) }
+        ensures { IfOk result (λ r. (name : List ℕ)
+            → known.now ≡ known_in self.now (Stmt.Minus name first.now second.now)
+            → r ≡ (acted self.now (Stmt.Minus name first.now second.now)).reply) }
     {
-        match self.relation_of(name) {
-            None => Ok(no_relation(*name)),
-            Some(relation) => self.minus_in(relation, first, second),
-        }
+        let Known::Of { relation } = known else {
+            return Ok(refused_by(known));
+        };
+        let reply = self.minus_in(*relation, first, second)?;
+        Ok(reply)
     }
 }

@@ -4,6 +4,7 @@ ghost use Rattle.branch_tx.specs.Stops.{refusal_of};
 
 use db_store::WorkStop;
 use db_value::{Name, Refusal, Reply};
+use line_needs::Known;
 
 /// The reply that refuses a statement.
 pub fn refused(why: Refusal) -> Reply
@@ -12,18 +13,14 @@ pub fn refused(why: Refusal) -> Reply
     Reply::Refused { why }
 }
 
-/// 2: a relation that isn't in the schema.
-pub fn no_relation(relation: Name) -> Reply
-    ensures { result ≡ Reply.Refused (Refusal.NoRelation relation) }
+/// The reply to a statement that is known to be refused.
+pub fn refused_by(known: &Known) -> Reply
+    ensures { (why : Refusal) → known.now ≡ Known.Refused why → result ≡ Reply.Refused why }
 {
-    refused(Refusal::NoRelation { relation })
-}
-
-/// 3: a column that the relation hasn't.
-pub fn no_column(column: Name) -> Reply
-    ensures { result ≡ Reply.Refused (Refusal.NoColumn column) }
-{
-    refused(Refusal::NoColumn { column })
+    match known {
+        Known::Refused { why } => refused(*why),
+        _ => refused(Refusal::Line),
+    }
 }
 
 /// 16: the branch has as many versions as it can have.
@@ -31,13 +28,6 @@ pub fn versions_full(branch: Name) -> Reply
     ensures { result ≡ Reply.Refused (Refusal.VersionsFull branch) }
 {
     refused(Refusal::VersionsFull { branch })
-}
-
-/// 21: another number of values than columns.
-pub fn value_count(relation: Name, columns: u32) -> Reply
-    ensures { result ≡ Reply.Refused (Refusal.ValueCount relation columns) }
-{
-    refused(Refusal::ValueCount { relation, columns })
 }
 
 /// Why a working table didn't take a change of a key, with room for so many touched keys.

@@ -1,24 +1,18 @@
 //! A granted transaction.
-ghost use Rattle.std.specs.Prelude.{◌≡◌, ◌++◌, ◌∷◌, [], true, None, Some, length, IfOk, OnOk, OnErr, map};
+ghost use Rattle.std.specs.Prelude.{◌≡◌, ◌++◌, ◌∷◌, [], None, Some, length, IfOk, OnOk, OnErr};
 ghost use Rattle.db_store.specs.Overlay.{untouched};
 ghost use Rattle.db_store.specs.Parts.{IsViewable};
 ghost use Rattle.db_store.specs.WorkState.{under_of, overlays_of, room_of};
 ghost use Rattle.branch_tx.specs.Keeping.{over_table};
 ghost use Rattle.branch_tx.specs.Alone.{commit_entry};
-ghost use Rattle.branch_tx.specs.Granted.{ungranted, tx_in, has_done, acted, left, lent_table, lists_rows, views_of};
+ghost use Rattle.branch_tx.specs.Granted.{ungranted, tx_in, has_done, lent_table, views_of};
 ghost use Rattle.branch_tx.specs.Shown.{parts_by, ViewsAgree};
 
 use crate::lent::Lending;
-use crate::look::find_record;
-use crate::refuse::{no_column, no_relation, refusal_of, refused, value_count, versions_full};
 use db_store::{Store, View, Work};
-use db_value::{
-    Entry, Fields, Name, Names, Record, Refusal, Reply, Schema, Sets, VersionName, VersionPlace,
-};
-use line_needs::{column_count, resolve};
+use db_value::{Entry, Name, Names, Schema, VersionName, VersionPlace};
 use std::alloc::{AllocError, Global};
 use std::marker::Model;
-use stmt_text::{NamedSets, Stmt};
 
 /// How the branch that a transaction works on was granted.
 #[derive(Clone, Copy)]
@@ -86,16 +80,8 @@ impl<St: Store> Model for Tx<St> {
 }
 
 impl<St: Store> Tx<St> {
-    ghost use Rattle.std.specs.Prelude.{◌<◌, ◌≤◌, Ok, Err, IfSome, is_some, cond};
-    ghost use Rattle.branch_tx.specs.Act.{source_at};
-    ghost use Rattle.branch_tx.specs.Granted.{ground_in, source_in, with_work, inserted, updated_by, looked_up, back_at, placed, renewed, removed, is_current, record_in};
-    ghost use Rattle.std.specs.FinMap as finite;
-    ghost use Rattle.db_store.specs.Table.{relation_at};
-    ghost use Rattle.db_store.specs.Overlay.{laid};
-    ghost use Rattle.branch_tx.specs.Act.{record_with};
-    ghost use Rattle.line_needs.specs.Columns.{resolved};
-    ghost use Rattle.db_value.specs.Relations.{columns_at};
-    ghost use Rattle.line_needs.specs.Columns.{relation_named};
+    ghost use Rattle.std.specs.Prelude.{is_some, cond};
+    ghost use Rattle.branch_tx.specs.Granted.{ground_in, back_at, is_current};
 
     /// A transaction on the branch of this name, to which nothing is granted yet.
     pub fn over(
@@ -240,154 +226,6 @@ impl<St: Store> Tx<St> {
         }
     }
 
-    // The number of a relation.
-    pub(crate) fn relation_of(&self, name: &Name) -> Option<u8>
-        ensures place { result ≡ relation_named self.now.schema name.now }
-        ensures within { IfSome result (λ r. r < length self.now.schema) }
-    {
-        self.schema.relation(name)
-    }
-
-    // Puts a record whose key isn't there, on a branch that isn't full.
-    fn place(&mut self, relation: u8, name: Name, row: &Record) -> Reply
-        requires { relation < length self.old.schema }
-        ensures reply { result ≡ (placed self.old relation name row.now).reply }
-        ensures left { self.new ≡ with_work self.old
-            (placed self.old relation name row.now) }
-    {
-        match self.work.insert(relation, row) {
-            Ok(()) => Reply::Done,
-            Err(stop) => {
-                let why = refusal_of(stop, name, row.key, self.work.room());
-                refused(why)
-            }
-        }
-    }
-
-    // Inserts into a relation with as many columns as there are values.
-    fn insert_in(&mut self, relation: u8, name: Name, key: u64, fields: &Fields) -> Reply
-        requires { relation < length self.old.schema }
-        ensures reply { result ≡ (inserted self.old relation name key fields.now).reply }
-        ensures left { self.new ≡ with_work self.old
-            (inserted self.old relation name key fields.now) }
-    {
-        if self.is_full() {
-            return versions_full(self.current);
-        }
-        let fields = *fields;
-        self.place(relation, name, &Record { key, fields })
-    }
-
-    fn insert(&mut self, name: &Name, key: u64, fields: &Fields) -> Reply
-        ensures reply { result ≡ (acted self.old (Stmt.Insert name.now key fields.now)).reply }
-        ensures left { self.new ≡ left self.old
-            (Stmt.Insert name.now key fields.now) }
-    {
-        let Some(relation) = self.relation_of(name) else {
-            return no_relation(*name);
-        };
-        let columns = column_count(&self.schema, relation);
-        if fields.count() != columns {
-            return value_count(*name, columns as u32);
-        }
-        self.insert_in(relation, *name, key, fields)
-    }
-
-    // Gives a record new values, on a branch that isn't full.
-    fn renew(&mut self, relation: u8, name: Name, key: u64, sets: &Sets) -> Reply
-        requires { relation < length self.old.schema }
-        ensures reply { result ≡ (renewed self.old relation name key sets.now).reply }
-        ensures left { self.new ≡ with_work self.old
-            (renewed self.old relation name key sets.now) }
-    {
-        match self.work.update(relation, key, sets) {
-            Ok(()) => Reply::Done,
-            Err(stop) => {
-                let why = refusal_of(stop, name, key, self.work.room());
-                refused(why)
-            }
-        }
-    }
-
-    // Updates a record with these new values, or tells the column that isn't there.
-    fn update_in(&mut self, relation: u8, name: Name, key: u64, sets: &Result<Sets, Name>) -> Reply
-        requires { relation < length self.old.schema }
-        ensures reply { result ≡ (updated_by self.old relation name key sets.now).reply }
-        ensures left { self.new ≡ with_work self.old
-            (updated_by self.old relation name key sets.now) }
-    {
-        match sets {
-            Err(column) => no_column(*column),
-            Ok(sets) => {
-                if self.is_full() {
-                    return versions_full(self.current);
-                }
-                self.renew(relation, name, key, sets)
-            }
-        }
-    }
-
-    fn update(&mut self, name: &Name, key: u64, sets: &NamedSets) -> Reply
-        ensures reply { result ≡ (acted self.old (Stmt.Update name.now key sets.now)).reply }
-        ensures left { self.new ≡ left self.old (Stmt.Update name.now key sets.now) }
-    {
-        let Some(relation) = self.relation_of(name) else {
-            return no_relation(*name);
-        };
-        let sets = resolve(&self.schema, relation, sets);
-        self.update_in(relation, *name, key, &sets)
-    }
-
-    // Takes a record away, on a branch that isn't full.
-    fn remove(&mut self, relation: u8, name: Name, key: u64) -> Reply
-        requires { relation < length self.old.schema }
-        ensures reply { result ≡ (removed self.old relation name key).reply }
-        ensures left { self.new ≡ with_work self.old
-            (removed self.old relation name key) }
-    {
-        match self.work.delete(relation, key) {
-            Ok(()) => Reply::Done,
-            Err(stop) => {
-                let why = refusal_of(stop, name, key, self.work.room());
-                refused(why)
-            }
-        }
-    }
-
-    fn delete(&mut self, name: &Name, key: u64) -> Reply
-        ensures reply { result ≡ (acted self.old (Stmt.Delete name.now key)).reply }
-        ensures left { self.new ≡ left self.old (Stmt.Delete name.now key) }
-    {
-        let Some(relation) = self.relation_of(name) else {
-            return no_relation(*name);
-        };
-        if self.is_full() {
-            return versions_full(self.current);
-        }
-        self.remove(relation, *name, key)
-    }
-
-    // The record with a key in the working table.
-    #[tactic(auto, using(db_store::proofs::OverlayLemmas::length_laid))]
-    fn get_own(&self, relation: u8, key: u64) -> Option<Record>
-        requires { relation < length self.now.schema }
-        ensures { result ≡ record_with key (finite.get
-            (relation_at (laid self.now.head self.now.overlays) relation) key) }
-    {
-        find_record(&self.work, relation, key)
-    }
-
-    // The record with a key in a version that was lent; none if it wasn't.
-    fn get_lent(&self, relation: u8, key: u64, version: &VersionName) -> Option<Option<Record>>
-        requires { relation < length self.now.schema }
-        ensures { result ≡ record_in relation key (lent_table self.now.lent version.now) }
-    {
-        match self.lent.find(version) {
-            None => None,
-            Some(view) => Some(find_record(view, relation, key)),
-        }
-    }
-
     /// Is it the plain name of its branch?
     pub fn is_current(&self, version: &VersionName) -> bool
         ensures { result ≡ is_current self.now version.now }
@@ -400,93 +238,5 @@ impl<St: Store> Tx<St> {
         ensures { result ≡ is_some (lent_table self.now.lent version.now) }
     {
         self.lent.has(version)
-    }
-
-    // The record with a key in a version that is named.
-    fn get_named(&self, relation: u8, key: u64, version: &VersionName) -> Reply
-        requires { relation < length self.now.schema }
-        ensures { result ≡ (looked_up self.now relation key
-            (source_in self.now version.now)).reply }
-    {
-        if self.is_current(version) {
-            let row = self.get_own(relation, key);
-            return Reply::One { row };
-        }
-        match self.get_lent(relation, key, version) {
-            None => refused(Refusal::Line),
-            Some(row) => Reply::One { row },
-        }
-    }
-
-    // The record with a key, in a version where one is named.
-    fn get_at(&self, relation: u8, key: u64, at: &Option<VersionName>) -> Reply
-        requires { relation < length self.now.schema }
-        ensures { result ≡ (looked_up self.now relation key
-            (source_at (over_table self.now.head) (source_in self.now) at.now)).reply }
-    {
-        match at {
-            None => {
-                let row = self.get_own(relation, key);
-                Reply::One { row }
-            }
-            Some(version) => self.get_named(relation, key, version),
-        }
-    }
-
-    fn get(&self, name: &Name, key: u64, at: &Option<VersionName>) -> Reply
-        ensures { result ≡ (acted self.now (Stmt.Get name.now key at.now)).reply }
-    {
-        match self.relation_of(name) {
-            None => no_relation(*name),
-            Some(relation) => self.get_at(relation, key, at),
-        }
-    }
-
-    /// Answers a statement that it covers. A refused statement leaves everything as before, and so does
-    /// want of memory, which only a statement that lists rows has.
-    #[tactic(auto, using(crate::proofs::SeenLemmas::scan_left, crate::proofs::SeenLemmas::join_left, crate::proofs::SeenLemmas::minus_left))]
-    pub fn act(&mut self, stmt: &Stmt) -> Result<Reply, AllocError>
-        ensures reply { IfOk result (λ r. r ≡ (acted self.old stmt.now).reply) }
-        ensures left { OnOk result (self.new ≡ left self.old stmt.now) }
-        ensures err { OnErr result (self.new ≡ self.old) }
-        ensures sure { OnErr result (lists_rows stmt.now ≡ true) }
-    {
-        match stmt {
-            Stmt::Insert {
-                relation,
-                key,
-                fields,
-            } => Ok(self.insert(relation, *key, fields)),
-            Stmt::Update {
-                relation,
-                key,
-                sets,
-            } => Ok(self.update(relation, *key, sets)),
-            Stmt::Delete { relation, key } => Ok(self.delete(relation, *key)),
-            Stmt::Get { relation, key, at } => Ok(self.get(relation, *key, at)),
-            Stmt::Scan {
-                relation,
-                over,
-                terms,
-            } => self.scan(relation, over, terms),
-            Stmt::Join {
-                left,
-                right,
-                first,
-                second,
-                terms,
-            } => self.join(left, right, first, second, terms),
-            Stmt::Minus {
-                relation,
-                first,
-                second,
-            } => self.minus(relation, first, second),
-            Stmt::Begin { .. } => Ok(refused(Refusal::InTransaction)),
-            Stmt::On { .. } => Ok(refused(Refusal::InTransaction)),
-            Stmt::Checkpoint => Ok(refused(Refusal::InTransaction)),
-            Stmt::Branch { .. } => Ok(refused(Refusal::InTransaction)),
-            Stmt::Merge { .. } => Ok(refused(Refusal::NotFirst)),
-            _ => Ok(refused(Refusal::Line)),
-        }
     }
 }

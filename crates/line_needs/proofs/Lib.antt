@@ -1,2 +1,3 @@
 pub mod SetLemmas
 pub mod TermLemmas
+pub mod Knowing

@@ -5,8 +5,6 @@ use Rattle.std.specs.Prelude.{Result, Ok, Err}
 use Rattle.db_value.specs.declared.condition.Set.{Set}
 use Rattle.stmt_text.specs.declared.stmt.NamedSet.{NamedSet}
 use Rattle.line_needs.specs.Columns.{set_onto, resolved, column_named}
-use Rattle.db_value.specs.declared.reply.Refusal.TheVariants.{NoColumn}
-use Rattle.line_needs.specs.Early.{unresolved_refusal}
 
 abbrev pub behind : List Set → Result (List Set) (List ℕ) → Result (List Set) (List ℕ)
 behind done (Err name) = Err name
@@ -33,20 +31,3 @@ pub found_stop : (columns : List (List ℕ)) (sets : List NamedSet) (all : Resul
 found_stop columns sets all done i x d h is at inv =
     inv ∙ ap (λ t. behind done (resolved columns t)) (drop_more sets i d h ∙ ap (λ (y : NamedSet). y ∷ drop (i + 1) sets) is)
     ∙ found_none done x (column_named columns x.column) (resolved columns (drop (i + 1) sets)) at
-
--- ---- which of the columns is unknown
-
-known_more : (s : NamedSet) (c : ℕ) (o : Option ℕ) (rest : Result (List Set) (List ℕ)) → o ≡ Some c → unresolved_refusal (set_onto s o rest) ≡ unresolved_refusal rest
-known_more s c o (Err name) e = ap (λ q. unresolved_refusal (set_onto s q (Err name))) e
-known_more s c o (Ok sets) e = ap (λ q. unresolved_refusal (set_onto s q (Ok sets))) e
-
-at_set : (columns : List (List ℕ)) (sets : List NamedSet) (i : ℕ) (x d : NamedSet) → i < length sets → get_or sets i d ≡ x → resolved columns (drop i sets) ≡ set_onto x (column_named columns x.column) (resolved columns (drop (i + 1) sets))
-at_set columns sets i x d h is = ap (resolved columns) (drop_more sets i d h ∙ ap (λ (y : NamedSet). y ∷ drop (i + 1) sets) is)
-
-pub known_step : (columns : List (List ℕ)) (sets : List NamedSet) (i : ℕ) (x d : NamedSet) (c : ℕ) → i < length sets → get_or sets i d ≡ x → column_named columns x.column ≡ Some c
-    → unresolved_refusal (resolved columns (drop i sets)) ≡ unresolved_refusal (resolved columns (drop (i + 1) sets))
-known_step columns sets i x d c h is at = ap unresolved_refusal (at_set columns sets i x d h is) ∙ known_more x c (column_named columns x.column) (resolved columns (drop (i + 1) sets)) at
-
-pub known_stop : (columns : List (List ℕ)) (sets : List NamedSet) (i : ℕ) (x d : NamedSet) → i < length sets → get_or sets i d ≡ x → column_named columns x.column ≡ None
-    → unresolved_refusal (resolved columns (drop i sets)) ≡ Some (NoColumn x.column)
-known_stop columns sets i x d h is at = ap unresolved_refusal (at_set columns sets i x d h is) ∙ ap (λ q. unresolved_refusal (set_onto x q (resolved columns (drop (i + 1) sets)))) at

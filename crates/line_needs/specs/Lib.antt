@@ -1,3 +1,4 @@
 pub mod Columns
 pub mod Early
+pub mod Known
 pub mod Needs

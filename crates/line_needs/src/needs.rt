@@ -1,11 +1,12 @@
 //! What a line needs of the locks.
-ghost use Rattle.std.specs.Prelude.{◌≡◌, ◌<◌, ◌++◌, ◌∷◌, [], Some, length, IfOk, OnOk};
+ghost use Rattle.std.specs.Prelude.{◌≡◌, ◌<◌, ◌++◌, ◌∷◌, [], Bool, Some, length, IfOk, OnOk};
 ghost use Rattle.db_store.specs.Dataset.{branch_named};
 ghost use Rattle.db_store.specs.Found.{found, position_found};
 ghost use Rattle.db_store.specs.State.{dataset_of};
+ghost use Rattle.line_needs.specs.Known.{known_of};
 ghost use Rattle.line_needs.specs.Needs.{shared, exclusive, found_needs, names_needs, branch_needs, all_needs, scan_needs, on_needs, log_needs, merge_needs, source_needs, stmt_needs, needs};
 
-use crate::early::is_early;
+use crate::known::Known;
 use db_store::Store;
 use db_value::{Name, VersionName};
 use lock_table::{Need, Needs};
@@ -240,23 +241,24 @@ fn push_stmt<St: Store>(
     }
 }
 
-/// The needs of a statement of a session on a branch, whose transaction was begun or not, and has
-/// changed something or not. A statement that is refused early has none.
+/// The needs of a statement of a session on a branch, by what is known of the statement, whatever its
+/// transaction was and did. A statement that is refused early has none.
 pub fn needs_of<St: Store>(
     alloc: Global,
     store: &St,
     branch: u32,
-    begun: bool,
-    changed: bool,
+    known: &Known,
     stmt: &Stmt,
 ) -> Result<Needs, AllocError>
     requires { branch < length (dataset_of (St.state store.now)).branches }
-    ensures { IfOk result (λ ns.
-        ns ≡ needs (dataset_of (St.state store.now)) branch begun changed stmt.now) }
+    ensures { IfOk result (λ ns. (begun changed : Bool)
+        → known.now ≡ known_of (dataset_of (St.state store.now)).schema begun changed stmt.now
+        → ns ≡ needs (dataset_of (St.state store.now)) branch begun changed stmt.now) }
 {
     let mut needs = Vec::new(alloc);
-    if !is_early(store.schema(), begun, changed, stmt) {
-        push_stmt(store, branch, stmt, &mut needs)?;
+    if known.is_refused() {
+        return Ok(Needs::of(needs));
     }
+    push_stmt(store, branch, stmt, &mut needs)?;
     Ok(Needs::of(needs))
 }

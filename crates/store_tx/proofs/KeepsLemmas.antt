@@ -33,9 +33,12 @@ use Rattle.db_store.specs.Found.{head_found, plain, found, branch_names}
 use Rattle.branch_tx.specs.Found.{Source, Own, Other, Lacking, lacking, first_lacking, source_of}
 use Rattle.branch_tx.specs.Act.{Tx, Outcome, refused, answered, unless, record_with, get_from, get_of, marked, union_marked, pairs_of, unlike, contents_from, rows_from, scan_versions, scan_over, scan_of, join_of, minus_of, act}
 use Rattle.line_needs.specs.Columns.{relation_named}
+use Rattle.line_needs.specs.Known.{known_of}
+use Rattle.line_needs.specs.declared.known.Known.{Known}
 use Rattle.line_needs.specs.Early.{column_refusal, relation_refusal, join_refusal, is_early}
 use Rattle.branch_tx.specs.Alone.{ground_of}
-use Rattle.branch_tx.specs.Granted.{Granted, has_done, is_current, lent_table, lent_source, source_in, names_or_none, held_full, ground_in, tx_in, acted, left}
+use Rattle.branch_tx.specs.Frame.{is_changed}
+use Rattle.branch_tx.specs.Granted.{Granted, has_done, known_in, is_current, lent_table, lent_source, source_in, names_or_none, held_full, ground_in, tx_in, acted, left}
 use Rattle.branch_tx.specs.Covers.{holds_alone, has_version, has_heads, has_over, is_granted, covers}
 use Rattle.line_needs.specs.Needs.{catalogue, lock_of, shared, found_needs, names_needs, branch_needs, scan_needs, stmt_needs, needs}
 use Rattle.branch_tx.proofs.Acts.{act_does}
@@ -372,6 +375,13 @@ module _ (g h : Granted) (m : IsMore g h) where
 
 pub more_tx : (g h : Granted) → IsMore g h → tx_in h ≡ tx_in g
 more_tx g h m = λ i. record { begun = true; room = m.room i; work = m.overlays i; second = m.second i; made = None; moved = None }
+
+-- what is known of a statement in the transaction is known in one that was granted more
+pub known_more : (d : Dataset) (g h : Granted) (x : Stmt) (k : Known) → k ≡ known_of d.schema true (has_done g) x → g.schema ≡ d.schema → IsMore g h → k ≡ known_in h x
+known_more d g h x k e s m =
+    let schema = m.schema ∙ s in
+    let tx = more_tx g h m in
+    e ∙ sym (λ i. known_of (schema i) true (is_changed (tx i)) x)
 
 -- what was granted more is taken back
 back_held : (d : Dataset) (rows : List Row) (s b : ℕ) (g h : Granted) (o : Option (Bool × Bool)) (ls : List (VersionName × Table)) (ss : List Shown) (hs : Option (List (List ℕ))) → h.overlays ≡ g.overlays → h.second ≡ g.second → (is_some o ≡ true → h.head ≡ g.head) → HeldFor d rows s b g o

@@ -10,6 +10,7 @@ use Rattle.db_value.specs.declared.condition.Prefer.{Prefer}
 use Rattle.db_value.specs.declared.entry.Change.{Change}
 use Rattle.db_value.specs.declared.entry.Entry.{Entry}
 use Rattle.db_value.specs.declared.entry.Entry.TheVariants.{Commit as CommitEntry}
+use Rattle.db_value.specs.declared.schema.Relation.{Relation}
 use Rattle.db_value.specs.declared.version.VersionName.{VersionName}
 use Rattle.db_value.specs.declared.version.VersionPlace.{VersionPlace}
 use Rattle.db_value.specs.declared.reply.Reply.{Reply}
@@ -25,6 +26,8 @@ use Rattle.db_store.proofs.OverlayLemmas.{count_touch, count_untouched}
 use Rattle.db_store.proofs.StateLemmas.{few_relations}
 use Rattle.stmt_text.specs.declared.stmt.Stmt.{Stmt}
 use Rattle.stmt_text.specs.declared.stmt.Stmt.TheVariants.{Begin, Commit, Abort, On, LogOf, Graph, Segments, Checkpoint, Branch, Merge}
+use Rattle.line_needs.specs.declared.known.Known.{Known}
+use Rattle.line_needs.specs.Known.{known_of}
 use Rattle.branch_tx.specs.Keeping.{over_table}
 use Rattle.db_store.specs.Found.{found, lack, branch_names}
 use Rattle.branch_tx.specs.Found.{source_of}
@@ -40,7 +43,7 @@ use Rattle.store_tx.specs.Ends.{is_abort, is_begin}
 use Rattle.store_tx.specs.declared.stored.LogCall.{LogCall}
 use Rattle.store_tx.specs.declared.stored.LogCall.TheVariants.{Nothing, Save}
 use Rattle.store_tx.specs.Stored.{IsNamedIf, call_if, call_of, is_checkpoint, entry_called}
-use Rattle.store_tx.specs.Statements.{IsWork, step_out, act_over, commit_over, entry_over, branch_out, branch_entry}
+use Rattle.store_tx.specs.Statements.{IsWork, begun_tx, step_out, act_over, commit_over, entry_over, branch_out, branch_entry}
 use Rattle.store_tx.proofs.KeepsLemmas.{act_is}
 
 -- a transaction that has done nothing, and what a statement does in it
@@ -62,6 +65,24 @@ own_step d b Segments a = absurd a
 own_step d b Checkpoint a = absurd a
 own_step d b (Branch name origin) a = absurd a
 own_step d b _ a = refl
+
+-- what is known of it on its own is known in a transaction that was opened for it
+known_begun : (schema : List Relation) (x : Stmt) → IsWork x → known_of schema false false x ≡ known_of schema true false x
+known_begun schema (Begin room) a = absurd a
+known_begun schema Commit a = absurd a
+known_begun schema Abort a = absurd a
+known_begun schema (On name) a = absurd a
+known_begun schema (LogOf name) a = absurd a
+known_begun schema Graph a = absurd a
+known_begun schema Segments a = absurd a
+known_begun schema Checkpoint a = absurd a
+known_begun schema (Branch name origin) a = absurd a
+known_begun schema _ a = refl
+
+pub own_known : (schema : List Relation) (x : Stmt) (k : Known) (room : ℕ) (tx : Tx (List Overlay)) → IsWork x → tx ≡ begun_tx room → k ≡ known_of schema false false x → k ≡ known_of schema true (is_changed tx) x
+own_known schema x k room tx a is e =
+    let clean : is_changed tx ≡ false = ap is_changed is ∙ ap (λ (n : ℕ). nat_lt 0 n || false) count_untouched in
+    e ∙ known_begun schema x a ∙ ap (λ (q : Bool). known_of schema true q x) (sym clean)
 
 -- in a transaction that was opened for it, it does the same
 merged_begun : (d : Dataset) (b : ℕ) (from : VersionPlace) (cs : List Change) (o : Option Refusal) → merged_to (over_table (head_of d b)) (begun none_yet) from cs o ≡ done_begun (merged_to (over_table (head_of d b)) none_yet from cs o)

@@ -379,7 +379,8 @@ pub fn grant_or_back<St: Store>(
     ensures shown { AreAllOf (St.state store.now) tx.new }
     ensures err { OnErr result (IsBack branch tx.old tx.new) }
 {
-    if tx.covers(stmt) {
+    let known = tx.knows(stmt);
+    if tx.covers(stmt, &known) {
         return Ok(());
     }
     let before = tx.mark();

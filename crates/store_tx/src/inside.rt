@@ -1,9 +1,10 @@
 //! Statements that are answered in an open transaction.
-ghost use Rattle.std.specs.Prelude.{◌≡◌, ◌∷◌, [], false, IfOk, OnOk, OnErr};
+ghost use Rattle.std.specs.Prelude.{◌≡◌, ◌∷◌, [], true, false, IfOk, OnOk, OnErr};
 ghost use Rattle.db_store.specs.State.{dataset_of};
 ghost use Rattle.store_tx.specs.Ends.{is_end};
 ghost use Rattle.store_tx.specs.Statements.{MayAct, MayActOrMerge, MayMergeHead, MayWork, GoesOn, acted_over, merged_over, step_in, told_on};
-ghost use Rattle.branch_tx.specs.Granted.{AreAllOf};
+ghost use Rattle.branch_tx.specs.Granted.{AreAllOf, has_done};
+ghost use Rattle.line_needs.specs.Known.{known_of};
 ghost use Rattle.line_needs.specs.Needs.{lock_of, exclusive};
 ghost use Rattle.store_tx.specs.Keeps.{IsBack, IsMore, needs_in};
 
@@ -11,6 +12,7 @@ use crate::granting::{grant, grant_head, head_place};
 use branch_tx::Tx;
 use db_store::Store;
 use db_value::{Name, Prefer, Refusal, Reply};
+use line_needs::Known;
 use std::alloc::{AllocError, Global};
 use stmt_text::Stmt;
 use version_log::{graph, log_branch};
@@ -83,8 +85,11 @@ fn act<St: Store>(
     tx: &mut Tx<St>,
     branch: u32,
     stmt: &Stmt,
+    known: &Known,
 ) -> Result<Reply, AllocError>
     requires may { MayAct (St.state store.now) branch stmt.now tx.old }
+    requires known { known.now ≡ known_of (dataset_of (St.state store.now)).schema true
+        (has_done tx.old) stmt.now }
     ensures reply { IfOk result (λ r.
         r ≡ (acted_over (St.state store.now) branch tx.old stmt.now).reply) }
     ensures tx { OnOk result (GoesOn (St.state store.now) branch
@@ -93,14 +98,14 @@ fn act<St: Store>(
     ensures shown { AreAllOf (St.state store.now) tx.new }
     ensures err { OnErr result (IsMore tx.old tx.new) }
 {
-    if tx.covers(stmt) {
-        let reply = tx.act(stmt)?;
+    if tx.covers(stmt, known) {
+        let reply = tx.act(stmt, known)?;
         return Ok(reply);
     }
     match grant(store, tx, branch, stmt)? {
         Some(why) => Ok(Reply::Refused { why }),
         None => {
-            let reply = tx.act(stmt)?;
+            let reply = tx.act(stmt, known)?;
             Ok(reply)
         }
     }
@@ -113,8 +118,11 @@ pub fn act_or_merge<St: Store>(
     tx: &mut Tx<St>,
     branch: u32,
     stmt: &Stmt,
+    known: &Known,
 ) -> Result<Reply, AllocError>
     requires may { MayActOrMerge (St.state store.now) branch stmt.now tx.old }
+    requires known { known.now ≡ known_of (dataset_of (St.state store.now)).schema true
+        (has_done tx.old) stmt.now }
     ensures reply { IfOk result (λ r.
         r ≡ (acted_over (St.state store.now) branch tx.old stmt.now).reply) }
     ensures tx { OnOk result (GoesOn (St.state store.now) branch
@@ -132,7 +140,7 @@ pub fn act_or_merge<St: Store>(
             Ok(reply)
         }
         _ => {
-            let reply = act(store, tx, branch, stmt)?;
+            let reply = act(store, tx, branch, stmt, known)?;
             Ok(reply)
         }
     }
@@ -145,8 +153,11 @@ fn work_or_back<St: Store>(
     tx: &mut Tx<St>,
     branch: u32,
     stmt: &Stmt,
+    known: &Known,
 ) -> Result<Reply, AllocError>
     requires may { MayActOrMerge (St.state store.now) branch stmt.now tx.old }
+    requires known { known.now ≡ known_of (dataset_of (St.state store.now)).schema true
+        (has_done tx.old) stmt.now }
     ensures reply { IfOk result (λ r.
         r ≡ (acted_over (St.state store.now) branch tx.old stmt.now).reply) }
     ensures tx { OnOk result (GoesOn (St.state store.now) branch
@@ -156,7 +167,7 @@ fn work_or_back<St: Store>(
     ensures err { OnErr result (IsBack branch tx.old tx.new) }
 {
     let mark = tx.mark();
-    match act_or_merge(store, tx, branch, stmt) {
+    match act_or_merge(store, tx, branch, stmt, known) {
         Ok(answer) => Ok(answer),
         Err(stop) => {
             tx.back_to(mark);
@@ -165,16 +176,20 @@ fn work_or_back<St: Store>(
     }
 }
 
-/// Answers a statement in an open transaction, which goes on. Want of memory leaves the transaction.
+/// Answers a statement in an open transaction, which goes on, by what is known of the statement. Want of
+/// memory leaves the transaction.
 pub fn go_on<St: Store>(
     alloc: Global,
     store: &St,
     tx: &mut Tx<St>,
     branch: u32,
     stmt: &Stmt,
+    known: &Known,
 ) -> Result<Reply, AllocError>
     requires goes_on { is_end stmt.now ≡ false }
     requires may { MayWork (St.state store.now) branch stmt.now tx.old }
+    requires known { known.now ≡ known_of (dataset_of (St.state store.now)).schema true
+        (has_done tx.old) stmt.now }
     ensures reply { IfOk result (λ r. r ≡ told_on (St.state store.now) stmt.now
         (step_in (dataset_of (St.state store.now)) branch tx.old stmt.now).reply) }
     ensures tx { OnOk result (GoesOn (St.state store.now) branch
@@ -209,7 +224,7 @@ pub fn go_on<St: Store>(
             Ok(Reply::Layout { lines })
         }
         _ => {
-            let answer = work_or_back(store, tx, branch, stmt)?;
+            let answer = work_or_back(store, tx, branch, stmt, known)?;
             Ok(answer)
         }
     }

@@ -3,6 +3,7 @@ ghost use Rattle.std.specs.Prelude.{◌≡◌, ◌<◌, None, true, false, lengt
 ghost use Rattle.db_value.specs.Text.{is_name};
 ghost use Rattle.db_store.specs.Dataset.{IsMade};
 ghost use Rattle.db_store.specs.State.{dataset_of};
+ghost use Rattle.line_needs.specs.Known.{known_of};
 ghost use Rattle.branch_tx.specs.Granted.{tx_in};
 ghost use Rattle.branch_tx.proofs.Acts.{is_done};
 ghost use Rattle.store_tx.specs.Ends.{is_begin, is_end};
@@ -15,6 +16,7 @@ use crate::stored::{LogCall, Plan, plain};
 use branch_tx::Tx;
 use db_store::Store;
 use db_value::{Entry, Name, Refusal, Reply, VersionName, VersionPlace};
+use line_needs::Known;
 use std::alloc::{AllocError, Global};
 use stmt_text::Stmt;
 use version_log::{find_version, graph, log_branch};
@@ -76,9 +78,17 @@ fn is_done(reply: &Reply) -> bool
 }
 
 // Answers a statement that reads or changes records, or merges, and is a transaction of its own.
-fn alone<St: Store>(alloc: Global, store: &St, branch: u32, stmt: &Stmt) -> Result<Plan, AllocError>
+fn alone<St: Store>(
+    alloc: Global,
+    store: &St,
+    branch: u32,
+    stmt: &Stmt,
+    known: &Known,
+) -> Result<Plan, AllocError>
     requires branch { branch < length (dataset_of (St.state store.now)).branches }
     requires works { IsWork stmt.now }
+    requires known { known.now
+        ≡ known_of (dataset_of (St.state store.now)).schema false false stmt.now }
     ensures told { IfOk result (λ p. p.told ≡
         (step_out (dataset_of (St.state store.now)) branch stmt.now).reply) }
     ensures call { IfOk result (λ p. p.call ≡
@@ -87,7 +97,7 @@ fn alone<St: Store>(alloc: Global, store: &St, branch: u32, stmt: &Stmt) -> Resu
     ensures stays { IfOk result (λ p. p.moved ≡ None) }
 {
     let mut tx = open_tx(alloc, store, branch, USUAL_ROOM)?;
-    let told = act_or_merge(store, &mut tx, branch, stmt)?;
+    let told = act_or_merge(store, &mut tx, branch, stmt, known)?;
     if is_done(&told) {
         let committed = commit(store, &tx, branch)?;
         return Ok(committed);
@@ -178,15 +188,19 @@ fn saved() -> Plan
     }
 }
 
-/// What a statement is to do outside of a transaction, if it doesn't begin one.
+/// What a statement is to do outside of a transaction, if it doesn't begin one, by what is known of the
+/// statement.
 pub fn own<St: Store>(
     alloc: Global,
     store: &St,
     current: u32,
     stmt: &Stmt,
+    known: &Known,
 ) -> Result<Plan, AllocError>
     requires branch { current < length (dataset_of (St.state store.now)).branches }
     requires ends { is_begin stmt.now ≡ false }
+    requires known { known.now
+        ≡ known_of (dataset_of (St.state store.now)).schema false false stmt.now }
     ensures told { IfOk result (λ p. p.told ≡ told_on (St.state store.now) stmt.now
         (step_out (dataset_of (St.state store.now)) current stmt.now).reply) }
     ensures call { IfOk result (λ p. p.call ≡
@@ -218,7 +232,7 @@ pub fn own<St: Store>(
         Stmt::Checkpoint => Ok(saved()),
         Stmt::Branch { name, origin } => Ok(branch_of(store, name, origin)),
         _ => {
-            let plan = alone(alloc, store, current, stmt)?;
+            let plan = alone(alloc, store, current, stmt, known)?;
             Ok(plan)
         }
     }

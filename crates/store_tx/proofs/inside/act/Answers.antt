@@ -2,11 +2,28 @@ use Rattle.std.proofs.Common.{◌∙◌, ap, sym, subst, List}
 use Rattle.db_store.specs.Overlay.{Overlay}
 use Rattle.db_store.specs.State.{dataset_of}
 use Rattle.branch_tx.specs.Act.{Outcome, Tx}
-use Rattle.branch_tx.specs.Granted.{tx_in}
+use Rattle.branch_tx.specs.Granted.{Granted, tx_in}
 use Rattle.store_tx.specs.Keeps.{Keeps}
 use Rattle.store_tx.specs.Statements.{act_over}
-use Rattle.store_tx.proofs.KeepsLemmas.{covered_acts, left_is, left_keeps, more_tx}
+use Rattle.store_tx.proofs.KeepsLemmas.{covered_acts, known_more, left_is, left_keeps, more_none, more_tx}
 use Rattle.store_tx.proofs.inside.act.Goals as goal
+
+pub covers-requires : goal.covers-requires
+covers-requires g c =
+    let d = dataset_of (g.St.Store.state c.args.store.now) in
+    let tx : Granted = c.args.tx.now in
+    record { known = known_more d tx tx c.args.stmt.now c.args.known.now c.requires.known c.requires.may.needs.kept.keeps.schema (more_none tx) }
+
+pub act-requires : goal.act-requires
+act-requires g c =
+    let d = dataset_of (g.St.Store.state c.args.store.now) in
+    let tx : Granted = c.args.tx.now in
+    record { known = known_more d tx tx c.args.stmt.now c.args.known.now c.requires.known c.requires.may.needs.kept.keeps.schema (more_none tx) }
+
+pub act-requires-in-None : goal.act-requires-in-None
+act-requires-in-None g c =
+    let d = dataset_of (g.St.Store.state c.args.store.now) in
+    record { known = known_more d c.args.tx.now c.grant.new.tx c.args.stmt.now c.args.known.now c.requires.known c.requires.may.needs.kept.keeps.schema c.in_ok-why.ensures.more.more }
 
 pub returns-then-covers-clause-reply : goal.returns-then-covers-clause-reply
 returns-then-covers-clause-reply g c =

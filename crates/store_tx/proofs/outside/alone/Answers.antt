@@ -9,7 +9,7 @@ use Rattle.store_tx.specs.Statements.{act_over}
 use Rattle.store_tx.specs.declared.stored.LogCall.{LogCall}
 use Rattle.store_tx.specs.Stored.{IsNamedIf, call_if, entry_called}
 use Rattle.store_tx.proofs.Tagged.{tagged_new}
-use Rattle.store_tx.proofs.OwnLines.{own_told, own_stored, own_answered, own_none, done_is, not_done}
+use Rattle.store_tx.proofs.OwnLines.{own_known, own_told, own_stored, own_answered, own_none, done_is, not_done}
 use Rattle.store_tx.proofs.outside.alone.Goals as goal
 
 pub act_or_merge-requires : goal.act_or_merge-requires
@@ -24,6 +24,7 @@ act_or_merge-requires g c =
           clean = λ e. ap (λ (t : Tx (List Overlay)). t.work) c.in_ok-tx.ensures.tx;
         };
       };
+      known = own_known d.schema c.args.stmt.now c.args.known.now _ (tx_in c.in_ok-tx.tx) c.requires.works c.in_ok-tx.ensures.tx c.requires.known;
     }
 
 pub returns : goal.returns

@@ -1,0 +1,18 @@
+use Rattle.std.proofs.Common.{ap, ◌∙◌}
+use Rattle.branch_tx.specs.Granted.{known_in}
+use Rattle.branch_tx.proofs.tx.Tx.act.Goals as goal
+
+pub update-requires : goal.update-requires
+update-requires g c = (c.in-Update.sets, c.requires.known ∙ ap (known_in c.args.self.now) c.in-Update.is)
+
+pub get-requires : goal.get-requires
+get-requires g c = (c.in-Get.relation, c.requires.known ∙ ap (known_in c.args.self.now) c.in-Get.is)
+
+pub scan-requires : goal.scan-requires
+scan-requires g c = (c.in-Scan.relation, c.requires.known ∙ ap (known_in c.args.self.now) c.in-Scan.is)
+
+pub join-requires : goal.join-requires
+join-requires g c = (c.in-Join.left, c.in-Join.right, c.requires.known ∙ ap (known_in c.args.self.now) c.in-Join.is)
+
+pub minus-requires : goal.minus-requires
+minus-requires g c = (c.in-Minus.relation, c.requires.known ∙ ap (known_in c.args.self.now) c.in-Minus.is)

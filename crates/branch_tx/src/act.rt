@@ -1,0 +1,191 @@
+//! Statements that a granted transaction answers by itself, by what is known of them.
+ghost use Rattle.std.specs.Prelude.{◌≡◌, ◌<◌, ℕ, List, true, length, IfOk, OnOk, OnErr};
+ghost use Rattle.std.specs.FinMap as finite;
+ghost use Rattle.db_store.specs.Table.{relation_at};
+ghost use Rattle.db_store.specs.Overlay.{laid};
+ghost use Rattle.branch_tx.specs.Act.{record_with, source_at};
+ghost use Rattle.branch_tx.specs.Granted.{acted, known_in, left, lent_table, lists_rows, looked_up, record_in, source_in};
+ghost use Rattle.branch_tx.specs.Keeping.{over_table};
+
+use crate::Tx;
+use crate::look::find_record;
+use crate::refuse::{refusal_of, refused, refused_by, versions_full};
+use db_store::Store;
+use db_value::{Fields, Name, Record, Refusal, Reply, VersionName};
+use line_needs::Known;
+use std::alloc::AllocError;
+use stmt_text::Stmt;
+
+impl<St: Store> Tx<St> {
+    ghost use Rattle.stmt_text.specs.declared.stmt.NamedSet.{NamedSet};
+
+    // Inserts a record.
+    fn insert(&mut self, known: &Known, name: Name, key: u64, fields: &Fields) -> Reply
+        requires { known.now ≡ known_in self.old (Stmt.Insert name key fields.now) }
+        ensures reply { result ≡ (acted self.old (Stmt.Insert name key fields.now)).reply }
+        ensures left { self.new ≡ left self.old (Stmt.Insert name key fields.now) }
+    {
+        let Known::Of { relation } = known else {
+            return refused_by(known);
+        };
+        if self.is_full() {
+            return versions_full(self.current);
+        }
+        let fields = *fields;
+        match self.work.insert(*relation, &Record { key, fields }) {
+            Ok(()) => Reply::Done,
+            Err(stop) => {
+                let why = refusal_of(stop, name, key, self.work.room());
+                refused(why)
+            }
+        }
+    }
+
+    // Gives a record new values, of which contracts speak by the columns' names.
+    fn update(&mut self, known: &Known, name: Name, key: u64) -> Reply
+        requires { (named : List NamedSet)
+            × (known.now ≡ known_in self.old (Stmt.Update name key named)) }
+        ensures reply { (named : List NamedSet)
+            → known.now ≡ known_in self.old (Stmt.Update name key named)
+            → result ≡ (acted self.old (Stmt.Update name key named)).reply }
+        ensures left { (named : List NamedSet)
+            → known.now ≡ known_in self.old (Stmt.Update name key named)
+            → self.new ≡ left self.old (Stmt.Update name key named) }
+    {
+        let Known::With { relation, sets } = known else {
+            return refused_by(known);
+        };
+        if self.is_full() {
+            return versions_full(self.current);
+        }
+        match self.work.update(*relation, key, sets) {
+            Ok(()) => Reply::Done,
+            Err(stop) => {
+                let why = refusal_of(stop, name, key, self.work.room());
+                refused(why)
+            }
+        }
+    }
+
+    // Takes a record away.
+    fn delete(&mut self, known: &Known, name: Name, key: u64) -> Reply
+        requires { known.now ≡ known_in self.old (Stmt.Delete name key) }
+        ensures reply { result ≡ (acted self.old (Stmt.Delete name key)).reply }
+        ensures left { self.new ≡ left self.old (Stmt.Delete name key) }
+    {
+        let Known::Of { relation } = known else {
+            return refused_by(known);
+        };
+        if self.is_full() {
+            return versions_full(self.current);
+        }
+        match self.work.delete(*relation, key) {
+            Ok(()) => Reply::Done,
+            Err(stop) => {
+                let why = refusal_of(stop, name, key, self.work.room());
+                refused(why)
+            }
+        }
+    }
+
+    // The record with a key in the working table.
+    #[tactic(auto, using(db_store::proofs::OverlayLemmas::length_laid))]
+    fn get_own(&self, relation: u8, key: u64) -> Option<Record>
+        requires { relation < length self.now.schema }
+        ensures { result ≡ record_with key (finite.get
+            (relation_at (laid self.now.head self.now.overlays) relation) key) }
+    {
+        find_record(&self.work, relation, key)
+    }
+
+    // The record with a key in a version that was lent; none if it wasn't.
+    fn get_lent(&self, relation: u8, key: u64, version: &VersionName) -> Option<Option<Record>>
+        requires { relation < length self.now.schema }
+        ensures { result ≡ record_in relation key (lent_table self.now.lent version.now) }
+    {
+        match self.lent.find(version) {
+            None => None,
+            Some(view) => Some(find_record(view, relation, key)),
+        }
+    }
+
+    // The record with a key in a version that is named.
+    fn get_named(&self, relation: u8, key: u64, version: &VersionName) -> Reply
+        requires { relation < length self.now.schema }
+        ensures { result ≡ (looked_up self.now relation key
+            (source_in self.now version.now)).reply }
+    {
+        if self.is_current(version) {
+            let row = self.get_own(relation, key);
+            return Reply::One { row };
+        }
+        match self.get_lent(relation, key, version) {
+            None => refused(Refusal::Line),
+            Some(row) => Reply::One { row },
+        }
+    }
+
+    // The record with a key, in a version where one is named.
+    fn get_at(&self, relation: u8, key: u64, at: &Option<VersionName>) -> Reply
+        requires { relation < length self.now.schema }
+        ensures { result ≡ (looked_up self.now relation key
+            (source_at (over_table self.now.head) (source_in self.now) at.now)).reply }
+    {
+        match at {
+            None => {
+                let row = self.get_own(relation, key);
+                Reply::One { row }
+            }
+            Some(version) => self.get_named(relation, key, version),
+        }
+    }
+
+    // The record with a key, of whichever relation is known.
+    fn get(&self, known: &Known, key: u64, at: &Option<VersionName>) -> Reply
+        requires { (name : List ℕ) × (known.now ≡ known_in self.now (Stmt.Get name key at.now)) }
+        ensures { (name : List ℕ) → known.now ≡ known_in self.now (Stmt.Get name key at.now)
+            → result ≡ (acted self.now (Stmt.Get name key at.now)).reply }
+    {
+        let Known::Of { relation } = known else {
+            return refused_by(known);
+        };
+        self.get_at(*relation, key, at)
+    }
+
+    /// Answers a statement that it covers, by what it knows of the statement. A refused statement
+    /// leaves everything as before, and so does want of memory, which only a statement that lists rows
+    /// has.
+    #[tactic(auto, using(crate::proofs::SeenLemmas::scan_left, crate::proofs::SeenLemmas::join_left, crate::proofs::SeenLemmas::minus_left))]
+    pub fn act(&mut self, stmt: &Stmt, known: &Known) -> Result<Reply, AllocError>
+        requires known { known.now ≡ known_in self.old stmt.now }
+        ensures reply { IfOk result (λ r. r ≡ (acted self.old stmt.now).reply) }
+        ensures left { OnOk result (self.new ≡ left self.old stmt.now) }
+        ensures err { OnErr result (self.new ≡ self.old) }
+        ensures sure { OnErr result (lists_rows stmt.now ≡ true) }
+    {
+        match stmt {
+            Stmt::Insert {
+                relation,
+                key,
+                fields,
+            } => Ok(self.insert(known, *relation, *key, fields)),
+            Stmt::Update { relation, key, .. } => Ok(self.update(known, *relation, *key)),
+            Stmt::Delete { relation, key } => Ok(self.delete(known, *relation, *key)),
+            Stmt::Get { key, at, .. } => Ok(self.get(known, *key, at)),
+            Stmt::Scan { over, terms, .. } => self.scan(known, over, terms),
+            Stmt::Join {
+                first,
+                second,
+                terms,
+                ..
+            } => self.join(known, first, second, terms),
+            Stmt::Minus { first, second, .. } => self.minus(known, first, second),
+            Stmt::Begin { .. } => Ok(refused(Refusal::InTransaction)),
+            Stmt::On { .. } => Ok(refused(Refusal::InTransaction)),
+            Stmt::Checkpoint => Ok(refused(Refusal::InTransaction)),
+            Stmt::Branch { .. } => Ok(refused(Refusal::InTransaction)),
+            Stmt::Merge { .. } => Ok(refused(Refusal::NotFirst)),
+            _ => Ok(refused(Refusal::Line)),
+        }
+    }
+}
