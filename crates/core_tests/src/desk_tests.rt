@@ -126,12 +126,12 @@ fn visit_alone<St: Store, J: Log<St>, T: Opened>(
     alloc: Global,
     board: &mut Board<St, J, T>,
     desk: &mut Desk<St>,
-    text: &LineText,
+    text: LineText,
     stmt: &Stmt,
     row: &str,
 ) -> Result<(), Fail>
     requires bare { IsBare desk.old.session board.old.kept desk.old }
-    requires line { said_of text.now false ≡ heard desk.old.session stmt.now }
+    requires line { said_of text false ≡ heard desk.old.session stmt.now }
     ensures bare { OnOk result (IsBare desk.old.session board.new.kept desk.new) }
     ensures others { OnOk result
         (KeepsOthers desk.old.session board.old.kept board.new.kept) }
@@ -156,7 +156,7 @@ fn hold<St: Store, J: Log<St>, T: Opened>(
 {
     let text = text_of(alloc, line_of(row)?)?;
     let stmt = stmt_of(alloc, &text, 2)?;
-    visit_alone(rt, alloc, board, desk, &text, &stmt, row)?;
+    visit_alone(rt, alloc, board, desk, text, &stmt, row)?;
     Ok(())
 }
 
@@ -206,22 +206,27 @@ fn tell_stmt<St: Store, J: Log<St>, T: Opened>(
     rt: &impl Abort,
     board: &mut Board<St, J, T>,
     desk: &mut Desk<St>,
-    text: &LineText,
+    text: LineText,
     stmt: &Stmt,
     row: &str,
 ) -> Result<(), Fail>
     requires agree { Agrees board.old.kept desk.old }
-    requires line { said_of text.now false ≡ heard desk.old.session stmt.now }
+    requires line { said_of text false ≡ heard desk.old.session stmt.now }
     ensures agree { OnOk result (Agrees board.new.kept desk.new) }
     ensures session { OnOk result (desk.new.session ≡ desk.old.session) }
 {
-    if desk.local(text, Some(stmt))? {
-        holds(rt, row, row.starts_with("desk"));
-        return Ok(());
+    let known = desk.know(Some(stmt));
+    match desk.local(text, Some(stmt), &known)? {
+        None => {
+            holds(rt, row, row.starts_with("desk"));
+            Ok(())
+        }
+        Some(text) => {
+            holds(rt, row, row.starts_with("board"));
+            board.visit(desk, text, stmt)?;
+            Ok(())
+        }
     }
-    holds(rt, row, row.starts_with("board"));
-    board.visit(desk, text, stmt)?;
-    Ok(())
 }
 
 // A line of session 1: its desk answers it, or the board does.
@@ -230,7 +235,7 @@ fn tell_text<St: Store, J: Log<St>, T: Opened>(
     alloc: Global,
     board: &mut Board<St, J, T>,
     desk: &mut Desk<St>,
-    text: &LineText,
+    text: LineText,
     row: &str,
 ) -> Result<(), Fail>
     requires agree { Agrees board.old.kept desk.old }
@@ -249,11 +254,14 @@ fn tell_text<St: Store, J: Log<St>, T: Opened>(
             if session != 1 {
                 return Err("a bad line of another session".into());
             }
-            if !desk.local(text, None)? {
-                return Err("a bad line that doesn't wait".into());
+            let known = desk.know(None);
+            match desk.local(text, None, &known)? {
+                None => {
+                    holds(rt, row, row.starts_with("desk"));
+                    Ok(())
+                }
+                Some(_) => Err("a bad line that doesn't wait".into()),
             }
-            holds(rt, row, row.starts_with("desk"));
-            Ok(())
         }
         Err(LineStop::Memory) => Err("no memory".into()),
     }
@@ -273,7 +281,7 @@ fn tell_row<St: Store, J: Log<St>, T: Opened>(
     ensures session { OnOk result (desk.new.session ≡ 1) }
 {
     let text = text_of(alloc, line_of(row)?)?;
-    tell_text(rt, alloc, board, desk, &text, row)
+    tell_text(rt, alloc, board, desk, text, row)
 }
 
 fn tell_all<St: Store, J: Log<St>, T: Opened>(

@@ -1,8 +1,9 @@
 //! Lines that wait at a room for the log together: a line joins them, or they are settled.
-ghost use Rattle.std.specs.Prelude.{◌≡◌, ◌+◌, ◌≤◌, [], true, false, None, length, drop, IfOk, OnOk, OnErr};
+ghost use Rattle.std.specs.Prelude.{◌≡◌, ◌<◌, ◌+◌, ◌≤◌, ◌++◌, ◌∷◌, List, [], true, false, None, length, drop, IfOk, OnOk, OnErr};
 ghost use Rattle.history_note.specs.Shown.{is_carrying, carried_line};
+ghost use Rattle.db_core.specs.Members.{AtMember};
 ghost use Rattle.db_core.specs.Waiting.{members_of};
-ghost use Rattle.db_core.specs.Offers.{IfFirst, IfAnswered, IfWaits};
+ghost use Rattle.db_core.specs.Offers.{IfFirst, GivesBack, IfAnswered, IfWaits};
 ghost use Rattle.db_hub.specs.Seats.{AtSeat, seat_at, SeatVisited, SeatStays};
 ghost use Rattle.db_hub.specs.Left.{BatchFits, MayWriteAll, written_for};
 ghost use Rattle.db_hub.specs.Served.{CarriesFor, IsReady, IsHere, MayAsk, IsTaken, UnlessWaits, SettlesFirst, AnswersNow, LeavesLine, LeavesNone, OnceGiven, OnceLeft, SeatLeaves, IsAway};
@@ -17,6 +18,7 @@ use db_value::{LineText, Step};
 use entry_codec::Log;
 use flush_queue::FlushQueue;
 use history_note::{Note, Pen};
+use line_needs::Known;
 use std::alloc::{AllocError, Global};
 use stmt_text::Stmt;
 
@@ -64,28 +66,43 @@ fn write_members<St: Store>(
     }
 }
 
+// The line of the last member.
+fn last_line<St: Store>(waiting: &Waiting<St>) -> &LineText
+    requires { 0 < length waiting.now.members.items }
+    ensures { (ms : List AtMember) (m : AtMember)
+        → members_of waiting.now.members.items ≡ ms ++ m ∷ [] → result.now ≡ m.line }
+{
+    match waiting.members.as_slice().last() {
+        None => unreachable!(),
+        Some(member) => &member.line,
+    }
+}
+
 impl<St: Store, J: Log<St>, T: LogTag<J>> Room<St, J, T> {
-    // Offers a line of the carried pass. The desk's lines are entered before it, with the pass's number.
+    // Offers a line of the carried pass, by what its desk knows of it. The desk's lines are entered before
+    // it, with the pass's number.
     fn offer(
         &mut self,
         batch: &mut LineBatch<St>,
         desk: &mut Desk<St>,
         number: u32,
-        text: &LineText,
+        text: LineText,
         stmt: &Stmt,
+        known: &Known,
     ) -> Result<Offered, AllocError>
         requires fits { BatchFits St.Prepares self.old batch.old.queue batch.old.numbers.items
             batch.old.waiting.members.items }
         requires ready { IsReady T.opened T.since self.old number desk.old }
-        requires may { MayAsk desk.old text.now stmt.now }
+        requires may { MayAsk desk.old text stmt.now known.now }
         ensures fits { BatchFits St.Prepares self.new batch.new.queue batch.new.numbers.items
             batch.new.waiting.members.items }
         ensures first { IfOk result (λ o. IfFirst o (SettlesFirst self.old self.new desk.old
             desk.new (members_of batch.old.waiting.members.items))) }
+        ensures back { IfOk result (λ o. GivesBack o text) }
         ensures answered { IfOk result (λ o.
-            IfAnswered o (AnswersNow self.old self.new number desk.old desk.new text.now)) }
+            IfAnswered o (AnswersNow self.old self.new number desk.old desk.new text)) }
         ensures waits { IfOk result (λ o. IfWaits o
-            (LeavesLine T.opened self.old self.new number desk.old desk.new text.now)) }
+            (LeavesLine T.opened self.old self.new number desk.old desk.new text)) }
         ensures ready { IfOk result
             (λ o. UnlessWaits o (IsReady T.opened T.since self.new number desk.new)) }
         ensures failed { OnErr result
@@ -93,15 +110,21 @@ impl<St: Store, J: Log<St>, T: LogTag<J>> Room<St, J, T> {
     {
         let from = self.board.steps().len();
         batch.numbers.reserve(1)?;
-        let told = self
-            .board
-            .offer(desk, text, stmt, &mut batch.queue, &mut batch.waiting)?;
+        let told = self.board.offer(
+            desk,
+            text,
+            stmt,
+            known,
+            &mut batch.queue,
+            &mut batch.waiting,
+        )?;
         write_from(&self.note, &mut self.pen, number, self.board.steps(), from);
         match told {
-            Offered::SettleFirst => Ok(Offered::SettleFirst),
+            Offered::SettleFirst { text } => Ok(Offered::SettleFirst { text }),
             Offered::Answered => Ok(Offered::Answered),
             Offered::Waits => {
-                self.note.leave(&mut self.pen, text);
+                let left = last_line(&batch.waiting);
+                self.note.leave(&mut self.pen, left);
                 batch.numbers.push_reserved(number);
                 Ok(Offered::Waits)
             }
@@ -143,65 +166,75 @@ impl<St: Store, J: Log<St>, T: LogTag<J>> Room<St, J, T> {
         batch: &mut LineBatch<St>,
         desk: &mut Desk<St>,
         number: u32,
-        text: &LineText,
+        text: LineText,
         stmt: &Stmt,
+        known: &Known,
     ) -> Result<bool, AllocError>
         requires fits { BatchFits St.Prepares self.old batch.old.queue batch.old.numbers.items
             batch.old.waiting.members.items }
         requires none { batch.old.waiting.members.items ≡ [] }
         requires ready { IsReady T.opened T.since self.old number desk.old }
-        requires may { MayAsk desk.old text.now stmt.now }
+        requires may { MayAsk desk.old text stmt.now known.now }
         ensures fits { BatchFits St.Prepares self.new batch.new.queue batch.new.numbers.items
             batch.new.waiting.members.items }
         ensures answered { IfOk result (λ b. b ≡ false
-            → AnswersNow self.old self.new number desk.old desk.new text.now
+            → AnswersNow self.old self.new number desk.old desk.new text
             × IsReady T.opened T.since self.new number desk.new) }
         ensures waits { IfOk result (λ b. b ≡ true
-            → LeavesLine T.opened self.old self.new number desk.old desk.new text.now) }
+            → LeavesLine T.opened self.old self.new number desk.old desk.new text) }
         ensures session { OnOk result (desk.new.session ≡ desk.old.session) }
         ensures failed { OnErr result
             (LeavesNone T.opened T.since self.old self.new number desk.old desk.new) }
     {
-        match self.offer(batch, desk, number, text, stmt)? {
+        match self.offer(batch, desk, number, text, stmt, known)? {
             Offered::Answered => Ok(false),
             Offered::Waits => Ok(true),
-            Offered::SettleFirst => unreachable!(),
+            Offered::SettleFirst { .. } => unreachable!(),
         }
     }
 
-    /// Asks for a line of a seat whose pass is carried, for a line to which `local` answered no. It
-    /// tells whether the line waits for its batch. Members that are to be settled first are settled.
+    /// Asks for a line of a seat whose pass is carried, by what its desk knows of it, for a line that isn't
+    /// local. It tells whether the line waits for its batch. Members that are to be settled first are
+    /// settled.
     pub(crate) fn ask(
         &mut self,
         batch: &mut LineBatch<St>,
         seat: &mut Seat<St, T>,
-        text: &LineText,
+        text: LineText,
         stmt: &Stmt,
+        known: &Known,
     ) -> Result<bool, AllocError>
         requires fits { BatchFits St.Prepares self.old batch.old.queue batch.old.numbers.items
             batch.old.waiting.members.items }
         requires taken { (s : AtSeat) × IsTaken T.opened T.since self.old s seat.old }
-        requires may { MayAsk seat.old.desk text.now stmt.now }
+        requires may { MayAsk seat.old.desk text stmt.now known.now }
         ensures fits { BatchFits St.Prepares self.new batch.new.queue batch.new.numbers.items
             batch.new.waiting.members.items }
         ensures served { IfOk result (λ b. b ≡ false → OnceGiven T.opened T.since self.old self.new
-            seat.old seat.new (λ s v. SeatVisited T.opened s v text.now)) }
+            seat.old seat.new (λ s v. SeatVisited T.opened s v text)) }
         ensures here { IfOk result (λ b. b ≡ false → IsHere T.opened T.since self.new seat.new) }
         ensures left { IfOk result (λ b. b ≡ true → OnceLeft T.note T.opened T.since self.old
             self.new seat.old (λ s p. SeatLeaves T.opened s seat.new p
-            × IsAway T.note T.opened T.since seat.new.number seat.new.desk text.now p)) }
+            × IsAway T.note T.opened T.since seat.new.number seat.new.desk text p)) }
         ensures carries { IfOk result (λ b. b ≡ true → CarriesFor self.new.pen seat.old.number
             seat.old.desk.session) }
         ensures failed { OnErr result (IsHere T.opened T.since self.new seat.new
             × OnceGiven T.opened T.since self.old self.new seat.old seat.new SeatStays) }
         ensures seat { seat.new ≡ seat_at seat.old.number None seat.new.desk }
     {
-        match self.offer(batch, &mut seat.desk, seat.number, text, stmt)? {
+        match self.offer(batch, &mut seat.desk, seat.number, text, stmt, known)? {
             Offered::Answered => Ok(false),
             Offered::Waits => Ok(true),
-            Offered::SettleFirst => {
+            Offered::SettleFirst { text } => {
                 self.settle(batch);
-                let waits = self.offer_alone(batch, &mut seat.desk, seat.number, text, stmt)?;
+                let waits = self.offer_alone(
+                    batch,
+                    &mut seat.desk,
+                    seat.number,
+                    text,
+                    stmt,
+                    known,
+                )?;
                 Ok(waits)
             }
         }

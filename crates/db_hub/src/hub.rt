@@ -1,6 +1,6 @@
 //! What threads share: a board and its note under a lock.
 ghost use Rattle.std.specs.Prelude.{◌≡◌, true, false, Some, is_some, IfOk, IfErr, OnOk, OnErr};
-ghost use Rattle.db_core.specs.Desk.{waits};
+ghost use Rattle.db_core.specs.Desk.{known_at, waits};
 ghost use Rattle.db_core.specs.Order.{said_of};
 ghost use Rattle.db_core.specs.Sits.{heard};
 ghost use Rattle.db_hub.specs.Seats.{SeatClosed, SeatFailed};
@@ -13,6 +13,7 @@ use db_store::Store;
 use db_value::LineText;
 use entry_codec::Log;
 use history_note::Pass;
+use line_needs::Known;
 use std::alloc::AllocError;
 use std::sync::{Mutex, MutexGuard, Wait};
 use std::thread;
@@ -76,24 +77,26 @@ impl<St: Store, J: Log<St>, T: LogTag<J>> Hub<St, J, T> {
         self.lock.lock(rt)
     }
 
-    /// Enters the lines that wait at the seat's desk, and then answers one more and enters it, for a
-    /// line to which `local` answered no. A line that ends its transaction with a commit waits for
-    /// its batch in between, and other sessions may go on: their lines may then stand before it and
-    /// behind it.
+    /// Enters the lines that wait at the seat's desk, and then answers one more and enters it, by what
+    /// the desk knows of it, for a line that isn't local. A line that ends its transaction with a commit
+    /// waits for its batch in between, and other sessions may go on: their lines may then stand before it
+    /// and behind it.
     pub fn line<R: Wait>(
         &self,
         rt: &R,
         seat: &mut Seat<St, T>,
-        text: &LineText,
+        text: LineText,
         stmt: &Stmt,
+        known: &Known,
     ) -> Result<(), AllocError>
-        requires line { said_of text.now false ≡ heard seat.old.desk.session stmt.now }
+        requires line { said_of text false ≡ heard seat.old.desk.session stmt.now }
         requires local { waits seat.old.desk (Some stmt.now) ≡ false }
-        ensures seat { OnOk result (SeatServed T.opened seat.old seat.new text.now) }
+        requires known { known.now ≡ known_at seat.old.desk (Some stmt.now) }
+        ensures seat { OnOk result (SeatServed T.opened seat.old seat.new text) }
         ensures failed { OnErr result (SeatFailed seat.old seat.new) }
     {
         let mut guard = self.enter(rt);
-        let visit = guard.first_visit(seat, text, stmt)?;
+        let visit = guard.first_visit(seat, text, stmt, known)?;
         match visit {
             Visit::Served => Ok(()),
             Visit::Left { pass, looks } => {

@@ -16,6 +16,7 @@ use db_store::Store;
 use db_value::LineText;
 use entry_codec::Log;
 use history_note::Pass;
+use line_needs::Known;
 use std::alloc::AllocError;
 use std::marker::Model;
 use stmt_text::Stmt;
@@ -65,23 +66,28 @@ impl<St: Store, J: Log<St>, T: LogTag<J>> Whole<St, J, T> {
         !is_among(self.batch.numbers.as_slice(), number)
     }
 
-    /// Asks for a line of the seat, for a line to which `local` answered no. Members that are to be
-    /// settled before it are settled in the same visit.
+    /// Asks for a line of the seat, by what its desk knows of it, for a line that isn't local. Members that
+    /// are to be settled before it are settled in the same visit.
     pub fn first_visit(
         &mut self,
         seat: &mut Seat<St, T>,
-        text: &LineText,
+        text: LineText,
         stmt: &Stmt,
+        known: &Known,
     ) -> Result<Visit<St>, AllocError>
-        requires { MayAsk seat.old.desk text.now stmt.now }
+        requires { MayAsk seat.old.desk text stmt.now known.now }
         ensures served { IfOk result (λ v. IfServed v
-            (SeatVisited T.opened seat.old seat.new text.now)) }
+            (SeatVisited T.opened seat.old seat.new text)) }
         ensures left { IfOk result (λ v. IfLeft v (λ p. SeatLeaves T.opened seat.old seat.new p
-            × IsAway T.note T.opened T.since seat.new.number seat.new.desk text.now p)) }
+            × IsAway T.note T.opened T.since seat.new.number seat.new.desk text p)) }
         ensures failed { OnErr result (SeatFailed seat.old seat.new) }
     {
         self.room.inner.take_pass(seat)?;
-        match self.room.inner.ask(&mut self.batch, seat, text, stmt) {
+        match self
+            .room
+            .inner
+            .ask(&mut self.batch, seat, text, stmt, known)
+        {
             Err(stop) => {
                 self.room.inner.give_back(seat)?;
                 Err(stop)

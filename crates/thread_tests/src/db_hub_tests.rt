@@ -48,7 +48,7 @@ fn say<T: LogTag<NoLog>>(
     ensures { OnOk result (HasSaid 1 room.old room.new seat.old seat.new) }
 {
     let (text, stmt) = line_from(alloc, text)?;
-    room.visit(seat, &text, &stmt)?;
+    room.visit(seat, text, &stmt)?;
     Ok(())
 }
 

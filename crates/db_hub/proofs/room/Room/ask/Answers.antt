@@ -4,10 +4,10 @@ use Rattle.history_note.specs.Shown.{AtPass, carried_line}
 use Rattle.db_core.specs.declared.offer.Offered.{Offered}
 use Rattle.db_core.specs.Desk.{AtDesk}
 use Rattle.db_core.specs.Waiting.{members_of}
-use Rattle.db_core.specs.Offers.{IfFirst, IfAnswered, IfWaits}
-use Rattle.db_hub.specs.Seats.{AtSeat, SeatStays, seat_at}
+use Rattle.db_core.specs.Offers.{IfFirst, GivesBack, IfAnswered, IfWaits}
+use Rattle.db_hub.specs.Seats.{AtSeat, SeatVisited, SeatStays, seat_at}
 use Rattle.db_hub.specs.Rooms.{AtRoom}
-use Rattle.db_hub.specs.Served.{IsReady, IsTaken, IsGiven, MayAsk, UnlessWaits, SettlesFirst, AnswersNow, LeavesLine}
+use Rattle.db_hub.specs.Served.{IsReady, IsTaken, IsGiven, IsAway, SeatLeaves, MayAsk, UnlessWaits, SettlesFirst, AnswersNow, LeavesLine}
 use Rattle.db_hub.proofs.Standings.{desk_is}
 use Rattle.db_hub.proofs.Asking.{free_line}
 use Rattle.db_hub.proofs.Serving.{on_err, asks_ready, asks_fits, asks_here, asks_seat, asks_visited, asks_left, asks_carries, asks_stays}
@@ -21,7 +21,7 @@ offer-requires-clause-ready g c =
     let pass : Option AtPass = c.seat.inside.pass in
     let k : AtDesk = c.seat.inside.desk in
     let t : AtSeat = c.args.seat.now in
-    let text : List ℕ = c.args.text.now in
+    let text : List ℕ = c.args.text in
     let w1 : AtRoom _ = c.args.self.now in
     let view = c.seat.view_is in
     let s0 : AtSeat = c.requires.taken.0 in
@@ -36,13 +36,13 @@ offer-requires-clause-may g c =
     let pass : Option AtPass = c.seat.inside.pass in
     let k : AtDesk = c.seat.inside.desk in
     let t : AtSeat = c.args.seat.now in
-    let text : List ℕ = c.args.text.now in
+    let text : List ℕ = c.args.text in
     let w1 : AtRoom _ = c.args.self.now in
     let view = c.seat.view_is in
     let s0 : AtSeat = c.requires.taken.0 in
     let h0 : IsTaken o since w1 s0 t = c.requires.taken.1 in
     let k_is : k ≡ t.desk = sym (desk_is n pass k) ∙ ap (λ (x : AtSeat). x.desk) view in
-    subst (λ (d : AtDesk). MayAsk d text c.args.stmt.now) (sym k_is) c.requires.may
+    subst (λ (d : AtDesk). MayAsk d text c.args.stmt.now c.args.known.now) (sym k_is) c.requires.may
 
 pub settle-requires-clause-free : goal.settle-requires-clause-free
 settle-requires-clause-free g c =
@@ -52,7 +52,7 @@ settle-requires-clause-free g c =
     let pass : Option AtPass = c.seat.inside.pass in
     let k : AtDesk = c.seat.inside.desk in
     let t : AtSeat = c.args.seat.now in
-    let text : List ℕ = c.args.text.now in
+    let text : List ℕ = c.args.text in
     let w1 : AtRoom _ = c.args.self.now in
     let view = c.seat.view_is in
     let s0 : AtSeat = c.requires.taken.0 in
@@ -70,7 +70,7 @@ offer_alone-requires-clause-ready g c =
     let pass : Option AtPass = c.seat.inside.pass in
     let k : AtDesk = c.seat.inside.desk in
     let t : AtSeat = c.args.seat.now in
-    let text : List ℕ = c.args.text.now in
+    let text : List ℕ = c.args.text in
     let w1 : AtRoom _ = c.args.self.now in
     let view = c.seat.view_is in
     let s0 : AtSeat = c.requires.taken.0 in
@@ -92,7 +92,7 @@ offer_alone-requires-clause-may g c =
     let pass : Option AtPass = c.seat.inside.pass in
     let k : AtDesk = c.seat.inside.desk in
     let t : AtSeat = c.args.seat.now in
-    let text : List ℕ = c.args.text.now in
+    let text : List ℕ = c.args.text in
     let w1 : AtRoom _ = c.args.self.now in
     let view = c.seat.view_is in
     let s0 : AtSeat = c.requires.taken.0 in
@@ -105,7 +105,8 @@ offer_alone-requires-clause-may g c =
     let move : (s : AtSeat) → IsTaken o since w1 s t → IsTaken o since w3 s t = λ s h. c.settle.ensures.taken s t (subst (λ (x : AtRoom _). IsTaken o since x s t) (sym first.room) h) in
     let h1 : IsTaken o since w3 s0 t = move s0 h0 in
     let k_is : k ≡ t.desk = sym (desk_is n pass k) ∙ ap (λ (x : AtSeat). x.desk) view in
-    subst (λ (d : AtDesk). MayAsk d text c.args.stmt.now) (sym (first.desk ∙ k_is)) c.requires.may
+    let back : c.in-SettleFirst.text ≡ text = subst (λ (x : Offered). GivesBack x text) c.in-SettleFirst.is c.in_ok-offer.ensures.back in
+    subst (λ (x : AtDesk × List ℕ). MayAsk x.0 x.1 c.args.stmt.now c.args.known.now) (λ j. (sym (first.desk ∙ k_is) j, sym back j)) c.requires.may
 
 pub invariant_of-seat-in-Answered : goal.invariant_of-seat-in-Answered
 invariant_of-seat-in-Answered g c =
@@ -115,7 +116,7 @@ invariant_of-seat-in-Answered g c =
     let pass : Option AtPass = c.seat.inside.pass in
     let k : AtDesk = c.seat.inside.desk in
     let t : AtSeat = c.args.seat.now in
-    let text : List ℕ = c.args.text.now in
+    let text : List ℕ = c.args.text in
     let w1 : AtRoom _ = c.args.self.now in
     let view = c.seat.view_is in
     let s0 : AtSeat = c.requires.taken.0 in
@@ -133,7 +134,7 @@ invariant_of-seat-in-Waits g c =
     let pass : Option AtPass = c.seat.inside.pass in
     let k : AtDesk = c.seat.inside.desk in
     let t : AtSeat = c.args.seat.now in
-    let text : List ℕ = c.args.text.now in
+    let text : List ℕ = c.args.text in
     let w1 : AtRoom _ = c.args.self.now in
     let view = c.seat.view_is in
     let s0 : AtSeat = c.requires.taken.0 in
@@ -151,7 +152,7 @@ invariant_of-seat g c =
     let pass : Option AtPass = c.seat.inside.pass in
     let k : AtDesk = c.seat.inside.desk in
     let t : AtSeat = c.args.seat.now in
-    let text : List ℕ = c.args.text.now in
+    let text : List ℕ = c.args.text in
     let w1 : AtRoom _ = c.args.self.now in
     let view = c.seat.view_is in
     let s0 : AtSeat = c.requires.taken.0 in
@@ -168,7 +169,7 @@ returns-in-Answered-clause-served g c =
     let pass : Option AtPass = c.seat.inside.pass in
     let k : AtDesk = c.seat.inside.desk in
     let t : AtSeat = c.args.seat.now in
-    let text : List ℕ = c.args.text.now in
+    let text : List ℕ = c.args.text in
     let w1 : AtRoom _ = c.args.self.now in
     let view = c.seat.view_is in
     let s0 : AtSeat = c.requires.taken.0 in
@@ -187,7 +188,7 @@ returns-in-Answered-clause-here g c =
     let pass : Option AtPass = c.seat.inside.pass in
     let k : AtDesk = c.seat.inside.desk in
     let t : AtSeat = c.args.seat.now in
-    let text : List ℕ = c.args.text.now in
+    let text : List ℕ = c.args.text in
     let w1 : AtRoom _ = c.args.self.now in
     let view = c.seat.view_is in
     let s0 : AtSeat = c.requires.taken.0 in
@@ -205,7 +206,7 @@ returns-in-Answered-clause-seat g c =
     let pass : Option AtPass = c.seat.inside.pass in
     let k : AtDesk = c.seat.inside.desk in
     let t : AtSeat = c.args.seat.now in
-    let text : List ℕ = c.args.text.now in
+    let text : List ℕ = c.args.text in
     let w1 : AtRoom _ = c.args.self.now in
     let view = c.seat.view_is in
     let s0 : AtSeat = c.requires.taken.0 in
@@ -222,7 +223,7 @@ returns-in-Waits-clause-left g c =
     let pass : Option AtPass = c.seat.inside.pass in
     let k : AtDesk = c.seat.inside.desk in
     let t : AtSeat = c.args.seat.now in
-    let text : List ℕ = c.args.text.now in
+    let text : List ℕ = c.args.text in
     let w1 : AtRoom _ = c.args.self.now in
     let view = c.seat.view_is in
     let s0 : AtSeat = c.requires.taken.0 in
@@ -240,7 +241,7 @@ returns-in-Waits-clause-carries g c =
     let pass : Option AtPass = c.seat.inside.pass in
     let k : AtDesk = c.seat.inside.desk in
     let t : AtSeat = c.args.seat.now in
-    let text : List ℕ = c.args.text.now in
+    let text : List ℕ = c.args.text in
     let w1 : AtRoom _ = c.args.self.now in
     let view = c.seat.view_is in
     let s0 : AtSeat = c.requires.taken.0 in
@@ -258,7 +259,7 @@ returns-in-Waits-clause-seat g c =
     let pass : Option AtPass = c.seat.inside.pass in
     let k : AtDesk = c.seat.inside.desk in
     let t : AtSeat = c.args.seat.now in
-    let text : List ℕ = c.args.text.now in
+    let text : List ℕ = c.args.text in
     let w1 : AtRoom _ = c.args.self.now in
     let view = c.seat.view_is in
     let s0 : AtSeat = c.requires.taken.0 in
@@ -275,7 +276,7 @@ returns-in_err-offer-clause-failed g c =
     let pass : Option AtPass = c.seat.inside.pass in
     let k : AtDesk = c.seat.inside.desk in
     let t : AtSeat = c.args.seat.now in
-    let text : List ℕ = c.args.text.now in
+    let text : List ℕ = c.args.text in
     let w1 : AtRoom _ = c.args.self.now in
     let view = c.seat.view_is in
     let s0 : AtSeat = c.requires.taken.0 in
@@ -293,7 +294,7 @@ returns-in_err-offer-clause-seat g c =
     let pass : Option AtPass = c.seat.inside.pass in
     let k : AtDesk = c.seat.inside.desk in
     let t : AtSeat = c.args.seat.now in
-    let text : List ℕ = c.args.text.now in
+    let text : List ℕ = c.args.text in
     let w1 : AtRoom _ = c.args.self.now in
     let view = c.seat.view_is in
     let s0 : AtSeat = c.requires.taken.0 in
@@ -310,7 +311,7 @@ invariant_of-seat-in-SettleFirst g c =
     let pass : Option AtPass = c.seat.inside.pass in
     let k : AtDesk = c.seat.inside.desk in
     let t : AtSeat = c.args.seat.now in
-    let text : List ℕ = c.args.text.now in
+    let text : List ℕ = c.args.text in
     let w1 : AtRoom _ = c.args.self.now in
     let view = c.seat.view_is in
     let s0 : AtSeat = c.requires.taken.0 in
@@ -334,7 +335,7 @@ invariant_of-seat-in_err-waits-in-SettleFirst g c =
     let pass : Option AtPass = c.seat.inside.pass in
     let k : AtDesk = c.seat.inside.desk in
     let t : AtSeat = c.args.seat.now in
-    let text : List ℕ = c.args.text.now in
+    let text : List ℕ = c.args.text in
     let w1 : AtRoom _ = c.args.self.now in
     let view = c.seat.view_is in
     let s0 : AtSeat = c.requires.taken.0 in
@@ -358,7 +359,7 @@ returns-in_ok-waits-in-SettleFirst-clause-served g c =
     let pass : Option AtPass = c.seat.inside.pass in
     let k : AtDesk = c.seat.inside.desk in
     let t : AtSeat = c.args.seat.now in
-    let text : List ℕ = c.args.text.now in
+    let text : List ℕ = c.args.text in
     let w1 : AtRoom _ = c.args.self.now in
     let view = c.seat.view_is in
     let s0 : AtSeat = c.requires.taken.0 in
@@ -372,7 +373,9 @@ returns-in_ok-waits-in-SettleFirst-clause-served g c =
     let h1 : IsTaken o since w3 s0 t = move s0 h0 in
     let w4 : AtRoom _ = c.offer_alone.new.self in
     let l : AtDesk = c.offer_alone.new.desk in
-    λ no s v h. asks_visited o since w3 w4 n pass k1 t view1 l text (c.in_ok-waits-in-SettleFirst.ensures.answered no).0 (c.in_ok-waits-in-SettleFirst.ensures.answered no).1 s v (move s h)
+    let back : c.in-SettleFirst.text ≡ text = subst (λ (x : Offered). GivesBack x text) c.in-SettleFirst.is c.in_ok-offer.ensures.back in
+    let a = c.in_ok-waits-in-SettleFirst.ensures.answered in
+    λ no s v h given. subst (SeatVisited o s v) back (asks_visited o since w3 w4 n pass k1 t view1 l c.in-SettleFirst.text (a no).0 (a no).1 s v (move s h) given)
 
 pub returns-in_ok-waits-in-SettleFirst-clause-left : goal.returns-in_ok-waits-in-SettleFirst-clause-left
 returns-in_ok-waits-in-SettleFirst-clause-left g c =
@@ -382,7 +385,7 @@ returns-in_ok-waits-in-SettleFirst-clause-left g c =
     let pass : Option AtPass = c.seat.inside.pass in
     let k : AtDesk = c.seat.inside.desk in
     let t : AtSeat = c.args.seat.now in
-    let text : List ℕ = c.args.text.now in
+    let text : List ℕ = c.args.text in
     let w1 : AtRoom _ = c.args.self.now in
     let view = c.seat.view_is in
     let s0 : AtSeat = c.requires.taken.0 in
@@ -396,7 +399,9 @@ returns-in_ok-waits-in-SettleFirst-clause-left g c =
     let h1 : IsTaken o since w3 s0 t = move s0 h0 in
     let w4 : AtRoom _ = c.offer_alone.new.self in
     let l : AtDesk = c.offer_alone.new.desk in
-    λ yes s p h. asks_left o since w3 w4 n pass k1 t view1 l g.T.Tag.note text (c.in_ok-waits-in-SettleFirst.ensures.waits yes) s p (move s h)
+    let back : c.in-SettleFirst.text ≡ text = subst (λ (x : Offered). GivesBack x text) c.in-SettleFirst.is c.in_ok-offer.ensures.back in
+    let u : AtSeat = seat_at n pass l in
+    λ yes s p h to. subst (λ (x : List ℕ). SeatLeaves o s u p × IsAway g.T.Tag.note o since u.number u.desk x p) back (asks_left o since w3 w4 n pass k1 t view1 l g.T.Tag.note c.in-SettleFirst.text (c.in_ok-waits-in-SettleFirst.ensures.waits yes) s p (move s h) to)
 
 pub returns-in_err-waits-in-SettleFirst-clause-failed : goal.returns-in_err-waits-in-SettleFirst-clause-failed
 returns-in_err-waits-in-SettleFirst-clause-failed g c =
@@ -406,7 +411,7 @@ returns-in_err-waits-in-SettleFirst-clause-failed g c =
     let pass : Option AtPass = c.seat.inside.pass in
     let k : AtDesk = c.seat.inside.desk in
     let t : AtSeat = c.args.seat.now in
-    let text : List ℕ = c.args.text.now in
+    let text : List ℕ = c.args.text in
     let w1 : AtRoom _ = c.args.self.now in
     let view = c.seat.view_is in
     let s0 : AtSeat = c.requires.taken.0 in
@@ -432,7 +437,7 @@ returns-in_err-waits-in-SettleFirst-clause-seat g c =
     let pass : Option AtPass = c.seat.inside.pass in
     let k : AtDesk = c.seat.inside.desk in
     let t : AtSeat = c.args.seat.now in
-    let text : List ℕ = c.args.text.now in
+    let text : List ℕ = c.args.text in
     let w1 : AtRoom _ = c.args.self.now in
     let view = c.seat.view_is in
     let s0 : AtSeat = c.requires.taken.0 in

@@ -4,13 +4,13 @@ use Rattle.std.proofs.lemmas.Bool.{false≢true}
 use Rattle.db_value.specs.declared.step.Step.{Step}
 use Rattle.db_store.specs.State.{State}
 use Rattle.history_note.specs.Places.{kept_for}
-use Rattle.history_note.specs.Shown.{AtPen}
+use Rattle.history_note.specs.Shown.{AtPen, leaving}
 use Rattle.db_core.specs.declared.offer.Offered.{Offered}
 use Rattle.db_core.specs.Kept.{Kept, Logged, step_of, saids}
 use Rattle.db_core.specs.Answered.{IsAnswered, call_now}
 use Rattle.db_core.specs.Desk.{AtDesk, entered}
 use Rattle.db_core.specs.Waiting.{members_of}
-use Rattle.db_core.specs.Offers.{settles_first, IsRightly, IfFirst, IfAnswered, IfWaits, IsUntouched, IsServedFor, Waits}
+use Rattle.db_core.specs.Offers.{settles_first, IsRightly, IfFirst, GivesBack, IfAnswered, IfWaits, IsUntouched, IsServedFor, Waits}
 use Rattle.db_core.specs.Awaiting.{AgreesAfter}
 use Rattle.db_core.proofs.Awaiting.{ticketed_agrees}
 use Rattle.db_core.proofs.Standing.{agree_same}
@@ -23,17 +23,18 @@ use Rattle.db_hub.proofs.Storing.{since_ran, since_left}
 use Rattle.db_hub.proofs.Serving.{on_err}
 use Rattle.db_hub.proofs.Batches.{AllOther, all_other, none_waits}
 use Rattle.db_hub.proofs.Asking.{free_line, ready_still, rest_is, lines_now, offered_grows, first_grows, first_stands, served_grows, waiting_grows, waiting_stands, waiting_members, issued_now, as_long, room_for, carries_now, none_now, opening_now, room_grown, desks_grown, all_out, fits_grown, ready_now, left_line, left_lines, left_noted, left_carries, left_room, left_desks, fits_left}
+use Rattle.db_hub.proofs.Lasts.{some_last}
 use Rattle.db_hub.proofs.room.Room.offer.Goals as goal
 
-pub offer-requires : goal.offer-requires
-offer-requires g c =
+pub offer-requires-clause-may : goal.offer-requires-clause-may
+offer-requires-clause-may g c =
     let inside = c.self.inside in
     let i = c.self.invariant in
     let o = g.T.Opened.opened in
     let since = g.T.Tag.since in
     let n : ℕ = c.args.number in
     let k : AtDesk = c.args.desk.now in
-    let text : List ℕ = c.args.text.now in
+    let text : List ℕ = c.args.text in
     let out : List (ℕ × ℕ) = inside.out.items in
     let b0 = inside.board in
     let pen0 : AtPen = inside.pen in
@@ -60,7 +61,7 @@ write_from-requires-clause-issued g c =
     let since = g.T.Tag.since in
     let n : ℕ = c.args.number in
     let k : AtDesk = c.args.desk.now in
-    let text : List ℕ = c.args.text.now in
+    let text : List ℕ = c.args.text in
     let out : List (ℕ × ℕ) = inside.out.items in
     let b0 = inside.board in
     let pen0 : AtPen = inside.pen in
@@ -80,7 +81,7 @@ write_from-requires-clause-from g c =
     let since = g.T.Tag.since in
     let n : ℕ = c.args.number in
     let k : AtDesk = c.args.desk.now in
-    let text : List ℕ = c.args.text.now in
+    let text : List ℕ = c.args.text in
     let out : List (ℕ × ℕ) = inside.out.items in
     let b0 = inside.board in
     let pen0 : AtPen = inside.pen in
@@ -110,7 +111,7 @@ write_from-requires-clause-lines g c =
     let since = g.T.Tag.since in
     let n : ℕ = c.args.number in
     let k : AtDesk = c.args.desk.now in
-    let text : List ℕ = c.args.text.now in
+    let text : List ℕ = c.args.text in
     let out : List (ℕ × ℕ) = inside.out.items in
     let b0 = inside.board in
     let pen0 : AtPen = inside.pen in
@@ -137,7 +138,7 @@ leave-requires-clause-note g c =
     let since = g.T.Tag.since in
     let n : ℕ = c.args.number in
     let k : AtDesk = c.args.desk.now in
-    let text : List ℕ = c.args.text.now in
+    let text : List ℕ = c.args.text in
     let out : List (ℕ × ℕ) = inside.out.items in
     let b0 = inside.board in
     let pen0 : AtPen = inside.pen in
@@ -171,7 +172,7 @@ leave-requires-clause-carries g c =
     let since = g.T.Tag.since in
     let n : ℕ = c.args.number in
     let k : AtDesk = c.args.desk.now in
-    let text : List ℕ = c.args.text.now in
+    let text : List ℕ = c.args.text in
     let out : List (ℕ × ℕ) = inside.out.items in
     let b0 = inside.board in
     let pen0 : AtPen = inside.pen in
@@ -204,7 +205,7 @@ leave-requires-clause-free g c =
     let since = g.T.Tag.since in
     let n : ℕ = c.args.number in
     let k : AtDesk = c.args.desk.now in
-    let text : List ℕ = c.args.text.now in
+    let text : List ℕ = c.args.text in
     let out : List (ℕ × ℕ) = inside.out.items in
     let b0 = inside.board in
     let pen0 : AtPen = inside.pen in
@@ -237,7 +238,7 @@ invariant_of-self-in-SettleFirst g c =
     let since = g.T.Tag.since in
     let n : ℕ = c.args.number in
     let k : AtDesk = c.args.desk.now in
-    let text : List ℕ = c.args.text.now in
+    let text : List ℕ = c.args.text in
     let out : List (ℕ × ℕ) = inside.out.items in
     let b0 = inside.board in
     let pen0 : AtPen = inside.pen in
@@ -275,7 +276,7 @@ invariant_of-self-in-Answered g c =
     let since = g.T.Tag.since in
     let n : ℕ = c.args.number in
     let k : AtDesk = c.args.desk.now in
-    let text : List ℕ = c.args.text.now in
+    let text : List ℕ = c.args.text in
     let out : List (ℕ × ℕ) = inside.out.items in
     let b0 = inside.board in
     let pen0 : AtPen = inside.pen in
@@ -313,7 +314,7 @@ invariant_of-self-in-Waits g c =
     let since = g.T.Tag.since in
     let n : ℕ = c.args.number in
     let k : AtDesk = c.args.desk.now in
-    let text : List ℕ = c.args.text.now in
+    let text : List ℕ = c.args.text in
     let out : List (ℕ × ℕ) = inside.out.items in
     let b0 = inside.board in
     let pen0 : AtPen = inside.pen in
@@ -335,12 +336,14 @@ invariant_of-self-in-Waits g c =
     let gr = waiting_grows g.J.Log b0 b1 k l q p ks ms text c.args.stmt.now r.agree c.requires.may.line h in
     let stands = waiting_stands g.J.Log b0 b1 k l q p ks ms text c.args.stmt.now r.agree c.requires.may.line h in
     let pen1 : AtPen = c.write_from.new.pen in
-    let wrote : pen1 ≡ written_all n (drop from b1.kept.steps) pen0 = c.write_from.ensures ∙ ap (λ (ss : List Step). written_all n (drop from ss) pen0) c.steps.ensures in (
-      left_room g.T.Tag.note g.T.Tag.numbers o since inside.note pen0 b0.kept out inside.issued i.0 n k.session r.is_out r.carries r.keeps_none b1.kept more gr stands pen1 from from_is wrote text c.leave.new.pen c.leave.ensures.left,
+    let wrote : pen1 ≡ written_all n (drop from b1.kept.steps) pen0 = c.write_from.ensures ∙ ap (λ (ss : List Step). written_all n (drop from ss) pen0) c.steps.ensures in
+    let wait = waiting_members g.J.Log b0 b1 k l q p ks ms text c.args.stmt.now r.agree c.requires.may.line h in
+    let left : c.leave.new.pen ≡ leaving text pen1 = c.leave.ensures.left ∙ ap (λ (x : List ℕ). leaving x pen1) (c.last_line-left.ensures (members_of ks) wait.0 wait.1 ∙ wait.3) in (
+      left_room g.T.Tag.note g.T.Tag.numbers o since inside.note pen0 b0.kept out inside.issued i.0 n k.session r.is_out r.carries r.keeps_none b1.kept more gr stands pen1 from from_is wrote text c.leave.new.pen left,
       ap (λ (x : Kept). x.first_count) h.kept ∙ i.1,
       since_left g.J.Log g.T.LogTag.log b0 b1 k l r.agree i.2 h.kept h.log,
-      left_desks g.T.Tag.note g.T.Tag.numbers o since inside.note pen0 b0.kept out inside.issued i.0 n k.session r.is_out r.carries r.keeps_none b1.kept more gr stands pen1 from from_is wrote text c.leave.new.pen c.leave.ensures.left inside.desks.items i.3,
-      subst (λ (ns : List (ℕ × ℕ)). AllOutIf g.T.Tag.stays ns out) (sym (left_noted g.T.Tag.note g.T.Tag.numbers o since inside.note pen0 b0.kept out inside.issued i.0 n k.session r.is_out r.carries r.keeps_none b1.kept more gr stands pen1 from from_is wrote text c.leave.new.pen c.leave.ensures.left)) i.4,
+      left_desks g.T.Tag.note g.T.Tag.numbers o since inside.note pen0 b0.kept out inside.issued i.0 n k.session r.is_out r.carries r.keeps_none b1.kept more gr stands pen1 from from_is wrote text c.leave.new.pen left inside.desks.items i.3,
+      subst (λ (ns : List (ℕ × ℕ)). AllOutIf g.T.Tag.stays ns out) (sym (left_noted g.T.Tag.note g.T.Tag.numbers o since inside.note pen0 b0.kept out inside.issued i.0 n k.session r.is_out r.carries r.keeps_none b1.kept more gr stands pen1 from from_is wrote text c.leave.new.pen left)) i.4,
     )
 
 pub returns-in-Answered-clause-fits : goal.returns-in-Answered-clause-fits
@@ -351,7 +354,7 @@ returns-in-Answered-clause-fits g c =
     let since = g.T.Tag.since in
     let n : ℕ = c.args.number in
     let k : AtDesk = c.args.desk.now in
-    let text : List ℕ = c.args.text.now in
+    let text : List ℕ = c.args.text in
     let out : List (ℕ × ℕ) = inside.out.items in
     let b0 = inside.board in
     let pen0 : AtPen = inside.pen in
@@ -384,7 +387,7 @@ returns-in-Waits-clause-fits g c =
     let since = g.T.Tag.since in
     let n : ℕ = c.args.number in
     let k : AtDesk = c.args.desk.now in
-    let text : List ℕ = c.args.text.now in
+    let text : List ℕ = c.args.text in
     let out : List (ℕ × ℕ) = inside.out.items in
     let b0 = inside.board in
     let pen0 : AtPen = inside.pen in
@@ -407,9 +410,10 @@ returns-in-Waits-clause-fits g c =
     let stands = waiting_stands g.J.Log b0 b1 k l q p ks ms text c.args.stmt.now r.agree c.requires.may.line h in
     let pen1 : AtPen = c.write_from.new.pen in
     let wrote : pen1 ≡ written_all n (drop from b1.kept.steps) pen0 = c.write_from.ensures ∙ ap (λ (ss : List Step). written_all n (drop from ss) pen0) c.steps.ensures in
-    let t = waiting_members g.J.Log b0 b1 k l q p ks ms text c.args.stmt.now r.agree c.requires.may.line h in
+    let wait = waiting_members g.J.Log b0 b1 k l q p ks ms text c.args.stmt.now r.agree c.requires.may.line h in
+    let left : c.leave.new.pen ≡ leaving text pen1 = c.leave.ensures.left ∙ ap (λ (x : List ℕ). leaving x pen1) (c.last_line-left.ensures (members_of ks) wait.0 wait.1 ∙ wait.3) in
     let pushed : c.push_reserved.new.self.items ≡ ns ++ n ∷ [] = c.push_reserved.ensures.items ∙ ap (λ (x : List ℕ). x ++ n ∷ []) c.reserve.ensures.items in
-    fits_left g.T.Tag.note g.T.Tag.numbers o since inside.note pen0 b0.kept out inside.issued i.0 n k.session r.is_out r.carries r.keeps_none b1.kept more gr stands pen1 from from_is wrote text c.leave.new.pen c.leave.ensures.left g.St.Store.Prepares room0 (record { board = b1; pen = c.leave.new.pen; out = out; desks = inside.desks.items; issued = inside.issued }) q p ns ks ms f refl refl refl refl t.0 t.1 t.2 t.3 c.offer.ensures.offered c.push_reserved.new.self.items pushed
+    fits_left g.T.Tag.note g.T.Tag.numbers o since inside.note pen0 b0.kept out inside.issued i.0 n k.session r.is_out r.carries r.keeps_none b1.kept more gr stands pen1 from from_is wrote text c.leave.new.pen left g.St.Store.Prepares room0 (record { board = b1; pen = c.leave.new.pen; out = out; desks = inside.desks.items; issued = inside.issued }) q p ns ks ms f refl refl refl refl wait.0 wait.1 wait.2 wait.3 c.offer.ensures.offered c.push_reserved.new.self.items pushed
 
 pub returns-in-Answered-clause-ready : goal.returns-in-Answered-clause-ready
 returns-in-Answered-clause-ready g c =
@@ -419,7 +423,7 @@ returns-in-Answered-clause-ready g c =
     let since = g.T.Tag.since in
     let n : ℕ = c.args.number in
     let k : AtDesk = c.args.desk.now in
-    let text : List ℕ = c.args.text.now in
+    let text : List ℕ = c.args.text in
     let out : List (ℕ × ℕ) = inside.out.items in
     let b0 = inside.board in
     let pen0 : AtPen = inside.pen in
@@ -452,7 +456,7 @@ returns-in-Waits-clause-waits g c =
     let since = g.T.Tag.since in
     let n : ℕ = c.args.number in
     let k : AtDesk = c.args.desk.now in
-    let text : List ℕ = c.args.text.now in
+    let text : List ℕ = c.args.text in
     let out : List (ℕ × ℕ) = inside.out.items in
     let b0 = inside.board in
     let pen0 : AtPen = inside.pen in
@@ -475,13 +479,15 @@ returns-in-Waits-clause-waits g c =
     let stands = waiting_stands g.J.Log b0 b1 k l q p ks ms text c.args.stmt.now r.agree c.requires.may.line h in
     let pen1 : AtPen = c.write_from.new.pen in
     let wrote : pen1 ≡ written_all n (drop from b1.kept.steps) pen0 = c.write_from.ensures ∙ ap (λ (ss : List Step). written_all n (drop from ss) pen0) c.steps.ensures in
+    let wait = waiting_members g.J.Log b0 b1 k l q p ks ms text c.args.stmt.now r.agree c.requires.may.line h in
+    let left : c.leave.new.pen ≡ leaving text pen1 = c.leave.ensures.left ∙ ap (λ (x : List ℕ). leaving x pen1) (c.last_line-left.ensures (members_of ks) wait.0 wait.1 ∙ wait.3) in
     let pen_is : pen0 ≡ c.args.self.now.pen = ap (λ (x : AtRoom _). x.pen) c.self.view_is in
     record {
-      lines = left_lines g.T.Tag.note g.T.Tag.numbers o since inside.note pen0 b0.kept out inside.issued i.0 n k.session r.is_out r.carries r.keeps_none b1.kept more gr stands pen1 from from_is wrote text c.leave.new.pen c.leave.ensures.left ∙ ap (λ (x : AtPen). x.lines ++ lines_of n k.waiting) pen_is;
-      carries = left_carries g.T.Tag.note g.T.Tag.numbers o since inside.note pen0 b0.kept out inside.issued i.0 n k.session r.is_out r.carries r.keeps_none b1.kept more gr stands pen1 from from_is wrote text c.leave.new.pen c.leave.ensures.left;
-      left = left_line g.T.Tag.note g.T.Tag.numbers o since inside.note pen0 b0.kept out inside.issued i.0 n k.session r.is_out r.carries r.keeps_none b1.kept more gr stands pen1 from from_is wrote text c.leave.new.pen c.leave.ensures.left;
+      lines = left_lines g.T.Tag.note g.T.Tag.numbers o since inside.note pen0 b0.kept out inside.issued i.0 n k.session r.is_out r.carries r.keeps_none b1.kept more gr stands pen1 from from_is wrote text c.leave.new.pen left ∙ ap (λ (x : AtPen). x.lines ++ lines_of n k.waiting) pen_is;
+      carries = left_carries g.T.Tag.note g.T.Tag.numbers o since inside.note pen0 b0.kept out inside.issued i.0 n k.session r.is_out r.carries r.keeps_none b1.kept more gr stands pen1 from from_is wrote text c.leave.new.pen left;
+      left = left_line g.T.Tag.note g.T.Tag.numbers o since inside.note pen0 b0.kept out inside.issued i.0 n k.session r.is_out r.carries r.keeps_none b1.kept more gr stands pen1 from from_is wrote text c.leave.new.pen left;
       desk = h.desk;
-      after = subst (λ (x : State × List Step). AgreesAfter x.0 (saids x.1) text l) (λ j. (opening_now g.T.Tag.note g.T.Tag.numbers o since inside.note pen0 b0.kept out inside.issued i.0 n k.session r.is_out r.carries r.keeps_none b1.kept more gr stands pen1 from from_is wrote j, (left_room g.T.Tag.note g.T.Tag.numbers o since inside.note pen0 b0.kept out inside.issued i.0 n k.session r.is_out r.carries r.keeps_none b1.kept more gr stands pen1 from from_is wrote text c.leave.new.pen c.leave.ensures.left).steps_are j))
+      after = subst (λ (x : State × List Step). AgreesAfter x.0 (saids x.1) text l) (λ j. (opening_now g.T.Tag.note g.T.Tag.numbers o since inside.note pen0 b0.kept out inside.issued i.0 n k.session r.is_out r.carries r.keeps_none b1.kept more gr stands pen1 from from_is wrote j, (left_room g.T.Tag.note g.T.Tag.numbers o since inside.note pen0 b0.kept out inside.issued i.0 n k.session r.is_out r.carries r.keeps_none b1.kept more gr stands pen1 from from_is wrote text c.leave.new.pen left).steps_are j))
           (ticketed_agrees g.St.Store.Prepares b1.ready b0 b1 k l q p ks ms text r.agree h c.offer.ensures.offered);
     }
 
@@ -493,7 +499,7 @@ returns-in-SettleFirst-clause-first g c =
     let since = g.T.Tag.since in
     let n : ℕ = c.args.number in
     let k : AtDesk = c.args.desk.now in
-    let text : List ℕ = c.args.text.now in
+    let text : List ℕ = c.args.text in
     let out : List (ℕ × ℕ) = inside.out.items in
     let b0 = inside.board in
     let pen0 : AtPen = inside.pen in
@@ -532,7 +538,7 @@ returns-in-Answered-clause-answered g c =
     let since = g.T.Tag.since in
     let n : ℕ = c.args.number in
     let k : AtDesk = c.args.desk.now in
-    let text : List ℕ = c.args.text.now in
+    let text : List ℕ = c.args.text in
     let out : List (ℕ × ℕ) = inside.out.items in
     let b0 = inside.board in
     let pen0 : AtPen = inside.pen in
@@ -574,7 +580,7 @@ returns-in_err-told-clause-failed g c =
     let since = g.T.Tag.since in
     let n : ℕ = c.args.number in
     let k : AtDesk = c.args.desk.now in
-    let text : List ℕ = c.args.text.now in
+    let text : List ℕ = c.args.text in
     let out : List (ℕ × ℕ) = inside.out.items in
     let b0 = inside.board in
     let pen0 : AtPen = inside.pen in
@@ -601,7 +607,7 @@ invariant_of-self g c =
     let since = g.T.Tag.since in
     let n : ℕ = c.args.number in
     let k : AtDesk = c.args.desk.now in
-    let text : List ℕ = c.args.text.now in
+    let text : List ℕ = c.args.text in
     let out : List (ℕ × ℕ) = inside.out.items in
     let b0 = inside.board in
     let pen0 : AtPen = inside.pen in
@@ -618,3 +624,20 @@ invariant_of-self g c =
       subst (λ (x : Logged _). DesksFit x.kept pen0.noted out inside.desks.items) (sym err.board) i.3,
       i.4,
     )
+
+pub returns-in-SettleFirst-clause-back : goal.returns-in-SettleFirst-clause-back
+returns-in-SettleFirst-clause-back g c = subst (λ (x : Offered). GivesBack x c.args.text) c.in-SettleFirst.is c.in_ok-told.ensures.back
+
+pub last_line-left-requires : goal.last_line-left-requires
+last_line-left-requires g c =
+    let b0 = c.self.inside.board in
+    let b1 = c.offer.new.self in
+    let k : AtDesk = c.args.desk.now in
+    let l : AtDesk = c.offer.new.desk in
+    let q = c.args.batch.now.queue in
+    let p = c.offer.new.queue in
+    let ks = c.args.batch.now.waiting.members.items in
+    let ms = c.offer.new.waiting.members.items in
+    let text : List ℕ = c.args.text in
+    let h : Waits b0 b1 k l q p ks ms text = subst (λ (x : Offered). IfWaits x (Waits b0 b1 k l q p ks ms text)) c.in-Waits.is c.in_ok-told.ensures.waits in
+    some_last ks h.member ms h.members

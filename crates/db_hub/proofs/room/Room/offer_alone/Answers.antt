@@ -22,7 +22,7 @@ returns-in-Answered-clause-answered g c = λ no.
     let k : AtDesk = c.args.desk.now in
     let l : AtDesk = c.offer.new.desk in
     let n : ℕ = c.args.number in
-    let text : List ℕ = c.args.text.now in (
+    let text : List ℕ = c.args.text in (
       subst (λ (x : Offered). IfAnswered x (AnswersNow r0 r1 n k l text)) c.in-Answered.is c.in_ok-offer.ensures.answered,
       subst (λ (x : Offered). UnlessWaits x (IsReady g.T.Opened.opened g.T.Tag.since r1 n l)) c.in-Answered.is c.in_ok-offer.ensures.ready,
     )
@@ -34,7 +34,7 @@ returns-in-Answered-clause-session g c =
     let k : AtDesk = c.args.desk.now in
     let l : AtDesk = c.offer.new.desk in
     let n : ℕ = c.args.number in
-    let text : List ℕ = c.args.text.now in
+    let text : List ℕ = c.args.text in
     let a : AnswersNow r0 r1 n k l text = subst (λ (x : Offered). IfAnswered x (AnswersNow r0 r1 n k l text)) c.in-Answered.is c.in_ok-offer.ensures.answered in
     a.session
 
@@ -45,7 +45,7 @@ returns-in-Waits-clause-waits g c = λ yes.
     let k : AtDesk = c.args.desk.now in
     let l : AtDesk = c.offer.new.desk in
     let n : ℕ = c.args.number in
-    let text : List ℕ = c.args.text.now in
+    let text : List ℕ = c.args.text in
     subst (λ (x : Offered). IfWaits x (LeavesLine g.T.Opened.opened r0 r1 n k l text)) c.in-Waits.is c.in_ok-offer.ensures.waits
 
 pub returns-in-Waits-clause-session : goal.returns-in-Waits-clause-session
@@ -55,6 +55,6 @@ returns-in-Waits-clause-session g c =
     let k : AtDesk = c.args.desk.now in
     let l : AtDesk = c.offer.new.desk in
     let n : ℕ = c.args.number in
-    let text : List ℕ = c.args.text.now in
+    let text : List ℕ = c.args.text in
     let a : LeavesLine g.T.Opened.opened r0 r1 n k l text = subst (λ (x : Offered). IfWaits x (LeavesLine g.T.Opened.opened r0 r1 n k l text)) c.in-Waits.is c.in_ok-offer.ensures.waits in
     ap (λ (d : AtDesk). d.session) a.desk
