@@ -15,10 +15,15 @@ PROGRAM = sys.argv[1] if len(sys.argv) > 1 else os.path.join(TOP, "crates", "dec
 RUNS, ROWS = 3, 200
 
 
-def run(command, base, text):
+def run(command, base, text, versions):
+    """Seconds that a command took, whose lines make so many versions."""
     started = time.monotonic()
-    subprocess.run([PROGRAM, command, base], input=text.encode(), stdout=subprocess.DEVNULL, check=True, env=settings(command))
-    return time.monotonic() - started
+    done = subprocess.run([PROGRAM, command, base], input=text.encode(), stdout=subprocess.PIPE, check=True, env=settings(command))
+    took = time.monotonic() - started
+    made = done.stdout.count(b"\nok ")
+    if made != versions:
+        raise SystemExit("%s made %d versions in place of %d" % (command, made, versions))
+    return took
 
 
 def ours(folder, sessions):
@@ -26,11 +31,11 @@ def ours(folder, sessions):
     base = os.path.join(folder, "data")
     for end in (".0", ".1"):
         os.path.exists(base + end) and os.unlink(base + end)
-    run("create", base, "relation items a b\nend\n")
-    run("script", base, "".join("0 branch b%d of master\n" % s for s in range(1, sessions + 1)))
+    run("create", base, "relation items a b\nend\n", 0)
+    run("script", base, "".join("1 branch b%d of master\n" % s for s in range(1, sessions + 1)), sessions)
     sections = [["%d on b%d\n" % (s, s)] + ["%d insert items %d %d 0\n" % (s, k, s) for k in range(ROWS)] for s in range(1, sessions + 1)]
-    empty = run("sessions", base, "")
-    return run("sessions", base, "".join("".join(line) for line in zip(*sections))) - empty
+    empty = run("sessions", base, "", 0)
+    return run("sessions", base, "".join("".join(line) for line in zip(*sections)), sessions * ROWS) - empty
 
 
 def connected(path):
