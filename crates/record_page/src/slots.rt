@@ -1,10 +1,11 @@
 //! The records in the bytes of a page.
 ghost use Rattle.std.specs.Prelude.{◌≡◌, ◌↔◌, ◌+◌, ◌*◌, ◌<◌, ◌≤◌, [], length, IfOk, true};
+ghost use Rattle.db_value.specs.Widths.{are_widths, meets};
 ghost use Rattle.record_page.specs.Page.{capacity, record_at, rows_in, is_page, page_bytes, with_record};
 ghost use Rattle.record_page.specs.Spelling.{record_size};
 ghost use Rattle.record_page.specs.Laws.{IsSpelled};
 
-use crate::head::{HEAD_BYTES, PAGE_BYTES, capacity_of, count_of, put_count, width_of};
+use crate::head::{HEAD_BYTES, PAGE_BYTES, capacity_of, count_of, put_count};
 use crate::spelling::{put_record, read_record, size_of};
 use db_value::Record;
 use std::alloc::{AllocError, Global};
@@ -14,75 +15,88 @@ use std::alloc::{AllocError, Global};
 pub struct PageFull;
 
 /// The bytes of a page without records.
-pub(crate) fn blank(alloc: Global, fields: u8) -> Result<Vec<u8>, AllocError>
-    requires some { 0 < fields }
-    requires few { fields ≤ 15 }
-    ensures page { IfOk result (λ bytes. is_page bytes.items ≡ true) }
+pub(crate) fn blank(alloc: Global, widths: &[u8]) -> Result<Vec<u8>, AllocError>
+    requires are { are_widths widths.now ≡ true }
+    requires few { length widths.now ≤ 15 }
+    ensures page { IfOk result (λ bytes. is_page widths.now bytes.items ≡ true) }
     ensures rows { IfOk result (λ bytes.
-        rows_in bytes.items ≡ record { fields = fields; records = [] }) }
+        rows_in widths.now bytes.items ≡ record { widths = widths.now; records = [] }) }
 {
     let mut bytes = Vec::with_capacity(alloc, PAGE_BYTES)?;
-    bytes.extend_from_slice(&[0, 0, fields])?;
+    bytes.extend_from_slice(&[0, 0, widths.len() as u8])?;
     bytes.resize(PAGE_BYTES, 0)?;
     Ok(bytes)
 }
 
 /// How many records there are, and that the bytes are their spelling.
-pub(crate) fn many_in(bytes: &[u8]) -> u16
-    requires { is_page bytes.now ≡ true }
-    ensures count { result ≡ length (rows_in bytes.now).records }
-    ensures spelled { IsSpelled bytes.now (rows_in bytes.now) }
+pub(crate) fn many_in(widths: &[u8], bytes: &[u8]) -> u16
+    requires are { are_widths widths.now ≡ true }
+    requires page { is_page widths.now bytes.now ≡ true }
+    ensures count { result ≡ length (rows_in widths.now bytes.now).records }
+    ensures spelled { IsSpelled bytes.now (rows_in widths.now bytes.now) }
 {
     count_of(bytes)
 }
 
 /// The bytes, as what they spell.
-pub(crate) fn spelled(bytes: &[u8]) -> &[u8]
-    requires { is_page bytes.now ≡ true }
-    ensures { result.now ≡ page_bytes (rows_in bytes.now) }
+pub(crate) fn spelled<'a>(widths: &[u8], bytes: &'a [u8]) -> &'a [u8]
+    requires are { are_widths widths.now ≡ true }
+    requires page { is_page widths.now bytes.now ≡ true }
+    ensures { result.now ≡ page_bytes (rows_in widths.now bytes.now) }
 {
+    let _ = widths;
     bytes
 }
 
 // Where the record in a slot stands.
-fn place_of(bytes: &[u8], slot: u16) -> usize
-    requires page { is_page bytes.now ≡ true }
-    requires room { slot < capacity (rows_in bytes.now).fields }
-    ensures value { result ≡ 16 + slot * record_size (rows_in bytes.now).fields }
-    ensures room { result + record_size (rows_in bytes.now).fields ≤ length bytes.now }
+fn place_of(widths: &[u8], bytes: &[u8], slot: u16) -> usize
+    requires are { are_widths widths.now ≡ true }
+    requires few { length widths.now ≤ 15 }
+    requires page { is_page widths.now bytes.now ≡ true }
+    requires room { slot < capacity widths.now }
+    ensures value { result ≡ 16 + slot * record_size widths.now }
+    ensures room { result + record_size widths.now ≤ length bytes.now }
 {
-    HEAD_BYTES + slot as usize * size_of(width_of(bytes))
+    HEAD_BYTES + slot as usize * size_of(widths)
 }
 
 /// Reads the record in a slot.
-pub(crate) fn read_slot(bytes: &[u8], slot: u16, into: &mut Record)
-    requires page { is_page bytes.now ≡ true }
-    requires there { slot < length (rows_in bytes.now).records }
-    ensures { into.new ≡ record_at (rows_in bytes.now).records slot }
+pub(crate) fn read_slot(widths: &[u8], bytes: &[u8], slot: u16, into: &mut Record)
+    requires are { are_widths widths.now ≡ true }
+    requires some { 0 < length widths.now }
+    requires few { length widths.now ≤ 15 }
+    requires page { is_page widths.now bytes.now ≡ true }
+    requires there { slot < length (rows_in widths.now bytes.now).records }
+    ensures { into.new ≡ record_at (rows_in widths.now bytes.now).records slot }
 {
-    let at = place_of(bytes, slot);
-    read_record(&bytes[at..], width_of(bytes), into);
+    let at = place_of(widths, bytes, slot);
+    read_record(&bytes[at..], widths, into);
 }
 
 /// Whether there are as many records as the page holds.
-pub(crate) fn is_full(bytes: &[u8]) -> bool
-    requires { is_page bytes.now ≡ true }
-    ensures { (result ≡ true) ↔ (capacity (rows_in bytes.now).fields
-        ≤ length (rows_in bytes.now).records) }
+pub(crate) fn is_full(widths: &[u8], bytes: &[u8]) -> bool
+    requires are { are_widths widths.now ≡ true }
+    requires few { length widths.now ≤ 15 }
+    requires page { is_page widths.now bytes.now ≡ true }
+    ensures { (result ≡ true) ↔ (capacity widths.now
+        ≤ length (rows_in widths.now bytes.now).records) }
 {
-    many_in(bytes) as usize >= capacity_of(width_of(bytes))
+    many_in(widths, bytes) as usize >= capacity_of(widths)
 }
 
 /// Puts a record after the others.
-pub(crate) fn push_record(bytes: &mut [u8], row: &Record)
-    requires page { is_page bytes.old ≡ true }
-    requires width { length row.now.fields ≡ (rows_in bytes.old).fields }
-    requires room { length (rows_in bytes.old).records < capacity (rows_in bytes.old).fields }
-    ensures page { is_page bytes.new ≡ true }
-    ensures pushed { rows_in bytes.new ≡ with_record (rows_in bytes.old) row.now }
+pub(crate) fn push_record(widths: &[u8], bytes: &mut [u8], row: &Record)
+    requires are { are_widths widths.now ≡ true }
+    requires few { length widths.now ≤ 15 }
+    requires page { is_page widths.now bytes.old ≡ true }
+    requires meets { meets widths.now row.now.fields ≡ true }
+    requires room { length (rows_in widths.now bytes.old).records < capacity widths.now }
+    ensures page { is_page widths.now bytes.new ≡ true }
+    ensures pushed { rows_in widths.now bytes.new
+        ≡ with_record (rows_in widths.now bytes.old) row.now }
 {
-    let count = many_in(bytes);
-    let at = place_of(bytes, count);
-    put_record(row, &mut bytes[at..]);
+    let count = many_in(widths, bytes);
+    let at = place_of(widths, bytes, count);
+    put_record(row, widths, &mut bytes[at..]);
     put_count(count + 1, bytes);
 }
