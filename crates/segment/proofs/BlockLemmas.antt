@@ -1,5 +1,5 @@
 -- Pages in blocks of 64, and pages after them.
-use Rattle.std.proofs.Common.{◌≡◌, ℕ, zero, suc, ◌+◌, ◌-◌, ◌*◌, ◌/◌, ◌%◌, ◌<◌, ◌≤◌, List, [], ◌∷◌, ◌++◌, length, take, drop, get_or, refl, arith, ap, sym, ◌∙◌, subst, ◌⊎◌, inl, inr}
+use Rattle.std.proofs.Common.{◌≡◌, true, ℕ, zero, suc, ◌+◌, ◌-◌, ◌*◌, ◌/◌, ◌%◌, ◌<◌, ◌≤◌, List, [], ◌∷◌, ◌++◌, length, take, drop, get_or, refl, arith, ap, sym, ◌∙◌, subst, ◌⊎◌, inl, inr}
 use Rattle.std.specs.List.{flat_map}
 use Rattle.std.proofs.lemmas.Nat.{div-add-mod'}
 use Rattle.std.proofs.Math.Nat.{mod-lt}
@@ -7,12 +7,13 @@ use Rattle.std.proofs.lemmas.Bool.{cases_lt}
 use Rattle.std.proofs.lemmas.List.{append-nil, append_assoc, length-append, length_push, length-take, get_or_append_left, get_or-append_right, get_or_push, take_all, take_more}
 use Rattle.std.proofs.lemmas.Grind.{flat_map-append}
 use Rattle.db_value.specs.declared.record.Record.{Record}
+use Rattle.db_value.specs.Widths.{are_widths}
 use Rattle.record_page.specs.Page.{Rows, capacity}
 use Rattle.segment.specs.Pages.{records_of, pages_of, page_at, AreWide, AreFull, AreAllFull, AreWhole, IsLaid}
 use Rattle.segment.proofs.PageLemmas.{all_are, all_push, last_push, capacity_some, front_full_at, records_split, records_push, all_full_at}
 
 abbrev no_page : Rows
-no_page = record { fields = 0; records = [] }
+no_page = record { widths = []; records = [] }
 
 whole_rest : (b : List Rows) (bs : List (List Rows)) → AreWhole (b ∷ bs) → AreWhole bs
 whole_rest b bs is i h = is (suc i) (omega (arith, h))
@@ -80,17 +81,17 @@ whole_more blocks pages is n i h =
     ]
 
 -- the pages in front
-pub all_front : (fields : ℕ) (front back : List Rows) → AreAllFull fields (front ++ back) → AreAllFull fields front
-all_front fields front back is =
+pub all_front : (ws : List ℕ) (front back : List Rows) → AreAllFull ws (front ++ back) → AreAllFull ws front
+all_front ws front back is =
     let n = length-append front back in
     record {
-      counted = λ i h. ap (λ (p : Rows). p.fields) (sym (get_or_append_left front back no_page i h)) ∙ is.counted i (omega (arith, n, h));
+      counted = λ i h. ap (λ (p : Rows). p.widths) (sym (get_or_append_left front back no_page i h)) ∙ is.counted i (omega (arith, n, h));
       full = λ i h. ap (λ (p : Rows). length p.records) (sym (get_or_append_left front back no_page i h)) ∙ is.full i (omega (arith, n, h));
     }
 
 -- a full page more behind the blocks
-pub put_after : (fields : ℕ) (front pages : List Rows) (p : Rows) → AreAllFull fields (front ++ pages) → p.fields ≡ fields → length p.records ≡ capacity fields → AreAllFull fields (front ++ (pages ++ p ∷ []))
-put_after fields front pages p is e n = subst (AreAllFull fields) (append_assoc front pages (p ∷ [])) (all_push fields (front ++ pages) p is e n)
+pub put_after : (ws : List ℕ) (front pages : List Rows) (p : Rows) → AreAllFull ws (front ++ pages) → p.widths ≡ ws → length p.records ≡ capacity ws → AreAllFull ws (front ++ (pages ++ p ∷ []))
+put_after ws front pages p is e n = subst (AreAllFull ws) (append_assoc front pages (p ∷ [])) (all_push ws (front ++ pages) p is e n)
 
 pub rows_after : (front pages : List Rows) (p : Rows) → records_of (front ++ (pages ++ p ∷ [])) ≡ records_of (front ++ pages) ++ p.records
 rows_after front pages p = ap records_of (sym (append_assoc front pages (p ∷ []))) ∙ records_push (front ++ pages) p
@@ -107,10 +108,10 @@ last_behind front pages n =
     get_or-append_right front pages (length front) (length front + n) no_page refl (omega arith) ∙ ap (page_at pages) e
 
 -- all pages but the last
-pub front_all : (fields : ℕ) (front pages : List Rows) (n : ℕ) → AreFull fields (front ++ pages) → n + 1 ≡ length pages → AreAllFull fields (front ++ take n pages)
-front_all fields front pages n is e =
+pub front_all : (ws : List ℕ) (front pages : List Rows) (n : ℕ) → AreFull ws (front ++ pages) → n + 1 ≡ length pages → AreAllFull ws (front ++ take n pages)
+front_all ws front pages n is e =
     let a = length-append front pages in
-    subst (AreAllFull fields) (take_behind front pages n (omega (arith, e))) (front_full_at fields (front ++ pages) (length front + n) is (omega (arith, a, e)))
+    subst (AreAllFull ws) (take_behind front pages n (omega (arith, e))) (front_full_at ws (front ++ pages) (length front + n) is (omega (arith, a, e)))
 
 pub front_rows : (front pages : List Rows) (n : ℕ) → n + 1 ≡ length pages → records_of (front ++ take n pages) ++ (page_at pages n).records ≡ records_of (front ++ pages)
 front_rows front pages n e =
@@ -120,49 +121,47 @@ front_rows front pages n e =
     ∙ records_split (front ++ pages) (length front + n) (omega (arith, a, e))
 
 -- all pages, where the last is full too
-pub last_all : (fields : ℕ) (front pages : List Rows) (n : ℕ) → AreFull fields (front ++ pages) → n + 1 ≡ length pages → capacity fields ≤ length (page_at pages n).records → AreAllFull fields (front ++ pages)
-last_all fields front pages n is e f =
+pub last_all : (ws : List ℕ) (front pages : List Rows) (n : ℕ) → AreFull ws (front ++ pages) → n + 1 ≡ length pages → capacity ws ≤ length (page_at pages n).records → AreAllFull ws (front ++ pages)
+last_all ws front pages n is e f =
     let a = length-append front pages in
-    all_full_at fields (front ++ pages) (length front + n) is (omega (arith, a, e)) (subst (λ (p : Rows). capacity fields ≤ length p.records) (sym (last_behind front pages n)) f)
+    all_full_at ws (front ++ pages) (length front + n) is (omega (arith, a, e)) (subst (λ (p : Rows). capacity ws ≤ length p.records) (sym (last_behind front pages n)) f)
 
-pub last_fields : (fields : ℕ) (front pages : List Rows) (n : ℕ) → AreFull fields (front ++ pages) → n + 1 ≡ length pages → (page_at pages n).fields ≡ fields
-last_fields fields front pages n is e =
+pub last_widths : (ws : List ℕ) (front pages : List Rows) (n : ℕ) → AreFull ws (front ++ pages) → n + 1 ≡ length pages → (page_at pages n).widths ≡ ws
+last_widths ws front pages n is e =
     let a = length-append front pages in
-    ap (λ (p : Rows). p.fields) (sym (last_behind front pages n)) ∙ is.counted (length front + n) (omega (arith, a, e))
+    ap (λ (p : Rows). p.widths) (sym (last_behind front pages n)) ∙ is.counted (length front + n) (omega (arith, a, e))
 
 -- all pages of a segment, where the last of them is full or there is none after the blocks
-pub all_if : (fields : ℕ) (blocks : List (List Rows)) (tail : List Rows) → IsLaid fields blocks tail → (0 < length tail → capacity fields ≤ length (page_at tail (length tail - 1)).records) → AreAllFull fields (pages_of blocks ++ tail)
-all_if fields blocks [] is h = subst (AreAllFull fields) (sym (append-nil (pages_of blocks))) is.front
-all_if fields blocks (p ∷ ps) is h = last_all fields (pages_of blocks) (p ∷ ps) (length (p ∷ ps) - 1) is.pages (omega arith) (h (omega arith))
+pub all_if : (ws : List ℕ) (blocks : List (List Rows)) (tail : List Rows) → IsLaid ws blocks tail → (0 < length tail → capacity ws ≤ length (page_at tail (length tail - 1)).records) → AreAllFull ws (pages_of blocks ++ tail)
+all_if ws blocks [] is h = subst (AreAllFull ws) (sym (append-nil (pages_of blocks))) is.front
+all_if ws blocks (p ∷ ps) is h = last_all ws (pages_of blocks) (p ∷ ps) (length (p ∷ ps) - 1) is.pages (omega arith) (h (omega arith))
 
 -- after a full page was put after the others, or wasn't
-pub after_put : (fields : ℕ) (front old new : List Rows) (p : Rows) → (new ≡ old) ⊎ (new ≡ old ++ p ∷ []) → AreAllFull fields (front ++ old) → p.fields ≡ fields → length p.records ≡ capacity fields → AreAllFull fields (front ++ new)
-after_put fields front old new p (inl e) is f n = subst (λ (xs : List Rows). AreAllFull fields (front ++ xs)) (sym e) is
-after_put fields front old new p (inr e) is f n = subst (λ (xs : List Rows). AreAllFull fields (front ++ xs)) (sym e) (put_after fields front old p is f n)
+pub after_put : (ws : List ℕ) (front old new : List Rows) (p : Rows) → (new ≡ old) ⊎ (new ≡ old ++ p ∷ []) → AreAllFull ws (front ++ old) → p.widths ≡ ws → length p.records ≡ capacity ws → AreAllFull ws (front ++ new)
+after_put ws front old new p (inl e) is f n = subst (λ (xs : List Rows). AreAllFull ws (front ++ xs)) (sym e) is
+after_put ws front old new p (inr e) is f n = subst (λ (xs : List Rows). AreAllFull ws (front ++ xs)) (sym e) (put_after ws front old p is f n)
 
 pub few_put : (old new : List Rows) (p : Rows) → (new ≡ old) ⊎ (new ≡ old ++ p ∷ []) → length old < 64 → length new ≤ 64
 few_put old new p (inl e) h = let n = ap length e in omega (arith, n, h)
 few_put old new p (inr e) h = let n = ap length e ∙ length_push old p in omega (arith, n, h)
 
 -- how a segment's pages lie when all are full, and with a last one after them
-pub laid_all : (fields : ℕ) (blocks : List (List Rows)) (tail : List Rows) → 0 < fields → fields ≤ 15 → AreAllFull fields (pages_of blocks ++ tail) → AreWhole blocks → length tail ≤ 64 → AreWide fields (records_of (pages_of blocks ++ tail)) → IsLaid fields blocks tail
-laid_all fields blocks tail some most full whole few wide = record {
-  some = some;
-  most = most;
-  pages = all_are fields (pages_of blocks ++ tail) full (capacity_some fields most);
-  front = all_front fields (pages_of blocks) tail full;
+pub laid_all : (ws : List ℕ) (blocks : List (List Rows)) (tail : List Rows) → are_widths ws ≡ true → AreAllFull ws (pages_of blocks ++ tail) → AreWhole blocks → length tail ≤ 64 → AreWide ws (records_of (pages_of blocks ++ tail)) → IsLaid ws blocks tail
+laid_all ws blocks tail are full whole few wide = record {
+  are = are;
+  pages = all_are ws (pages_of blocks ++ tail) full (capacity_some ws are);
+  front = all_front ws (pages_of blocks) tail full;
   whole = whole;
   few = few;
   wide = wide;
 }
 
-pub laid_last : (fields : ℕ) (blocks : List (List Rows)) (tail : List Rows) (p : Rows) → 0 < fields → fields ≤ 15 → AreAllFull fields (pages_of blocks ++ tail) → AreWhole blocks → length tail < 64 → p.fields ≡ fields → 0 < length p.records → length p.records ≤ capacity fields → AreWide fields (records_of (pages_of blocks ++ tail) ++ p.records) → IsLaid fields blocks (tail ++ p ∷ [])
-laid_last fields blocks tail p some most full whole few e has fits wide = record {
-  some = some;
-  most = most;
-  pages = subst (AreFull fields) (append_assoc (pages_of blocks) tail (p ∷ [])) (last_push fields (pages_of blocks ++ tail) p full e has fits (capacity_some fields most));
-  front = all_front fields (pages_of blocks) tail full;
+pub laid_last : (ws : List ℕ) (blocks : List (List Rows)) (tail : List Rows) (p : Rows) → are_widths ws ≡ true → AreAllFull ws (pages_of blocks ++ tail) → AreWhole blocks → length tail < 64 → p.widths ≡ ws → 0 < length p.records → length p.records ≤ capacity ws → AreWide ws (records_of (pages_of blocks ++ tail) ++ p.records) → IsLaid ws blocks (tail ++ p ∷ [])
+laid_last ws blocks tail p are full whole few e has fits wide = record {
+  are = are;
+  pages = subst (AreFull ws) (append_assoc (pages_of blocks) tail (p ∷ [])) (last_push ws (pages_of blocks ++ tail) p full e has fits (capacity_some ws are));
+  front = all_front ws (pages_of blocks) tail full;
   whole = whole;
   few = let n = length_push tail p in omega (arith, n, few);
-  wide = subst (AreWide fields) (sym (rows_after (pages_of blocks) tail p)) wide;
+  wide = subst (AreWide ws) (sym (rows_after (pages_of blocks) tail p)) wide;
 }

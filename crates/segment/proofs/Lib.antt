@@ -1,5 +1,5 @@
 mod BlockLemmas
 pub mod KeyLemmas
-mod PageLemmas
+pub mod PageLemmas
 mod GreatestLemmas
 mod SlotLemmas

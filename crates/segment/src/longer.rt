@@ -1,5 +1,6 @@
 //! A segment that gets further records.
-ghost use Rattle.std.specs.Prelude.{◌≡◌, ◌+◌, ◌^◌, ◌<◌, ◌++◌, ◌∷◌, [], length, IfOk};
+ghost use Rattle.std.specs.Prelude.{◌≡◌, ◌+◌, ◌^◌, ◌<◌, ◌++◌, ◌∷◌, [], true, length, IfOk};
+ghost use Rattle.db_value.specs.Widths.{meets};
 ghost use Rattle.segment.specs.Keys.{AreSlots};
 ghost use Rattle.segment.specs.Pages.{AreWide};
 ghost use Rattle.segment.specs.Tails.{rows_in};
@@ -31,25 +32,25 @@ impl Model for LongerSegment {
 
     ghost coded = { rows_code };
 
-    ghost view = { λ l. record { fields = l.tail.fields; records = rows_in l.tail } };
+    ghost view = { λ l. record { widths = l.tail.widths; records = rows_in l.tail } };
 
-    ghost invariant = { λ l. (l.len ≡ length (rows_in l.tail)) × (AreWide l.tail.fields (rows_in l.tail) × AreSlots l.slots (rows_in l.tail)) };
+    ghost invariant = { λ l. (l.len ≡ length (rows_in l.tail)) × (AreWide l.tail.widths (rows_in l.tail) × AreSlots l.slots (rows_in l.tail)) };
 }
 
 impl LongerSegment {
     /// That of a tail's records.
     pub(crate) fn of(tail: Tail, slots: KeySlots, len: u32) -> LongerSegment
         requires len { len ≡ length (rows_in tail) }
-        requires wide { AreWide tail.fields (rows_in tail) }
+        requires wide { AreWide tail.widths (rows_in tail) }
         requires slots { AreSlots slots (rows_in tail) }
-        ensures { result ≡ record { fields = tail.fields; records = rows_in tail } }
+        ensures { result ≡ record { widths = tail.widths; records = rows_in tail } }
     {
         LongerSegment { tail, slots, len }
     }
 
     /// The same with a record after the others.
     pub fn with(self, row: &Record) -> Result<LongerSegment, AllocError>
-        requires fields { length row.now.fields ≡ self.fields }
+        requires meets { meets self.widths row.now.fields ≡ true }
         requires few { length self.records + 1 < 2 ^ 32 }
         ensures { IfOk result (λ l. l ≡ record self { records = self.records ++ row.now ∷ [] }) }
     {

@@ -8,18 +8,18 @@ use crate::block::{BLOCK_PAGES, Blocks, front_of, page_in, put_page};
 use crate::keys::KeySlots;
 use crate::longer::LongerSegment;
 use crate::tail::Tail;
-use db_value::{Fields, Record, Records, Steps};
+use db_value::{Record, Records, Steps, Widths};
 use record_page::{Page, capacity_of};
 use std::alloc::{AllocError, Global};
 use std::marker::{Brand, Model};
 use std::sync::Arc;
 use std::sync::ledger::{Blank, Ledger};
 
-/// A segment is a list of fewer than 2^32 records with one number of fields each. All its pages but
-/// the last one are full.
+/// A segment is a list of fewer than 2^32 records of some widths. All its pages but the last one are
+/// full.
 #[derive(Drop)]
 pub struct Segment {
-    fields: u8,
+    widths: Widths,
     most: u32,
     len: u32,
     blocks: Arc<Blocks>,
@@ -38,32 +38,22 @@ impl Model for Segment {
 
     ghost coded = { rows_code };
 
-    ghost view = { λ s. record { fields = s.fields; records = records_of (pages_of (arc_value s.blocks) ++ map arc_value s.tail.items) } };
+    ghost view = { λ s. record { widths = s.widths; records = records_of (pages_of (arc_value s.blocks) ++ map arc_value s.tail.items) } };
 
     ghost invariant = { λ s. ((s.len ≡ length (records_of (pages_of (arc_value s.blocks) ++ map arc_value s.tail.items))) × AreSlots s.slots (records_of (pages_of (arc_value s.blocks) ++ map arc_value s.tail.items)))
-        × ((s.most ≡ capacity s.fields) × IsLaid s.fields (arc_value s.blocks) (map arc_value s.tail.items)) };
-}
-
-// A record that is read into.
-fn blank_record() -> Record {
-    match Fields::of(&[0]) {
-        Some(fields) => Record { key: 0, fields },
-        None => unreachable!(),
-    }
+        × ((s.most ≡ capacity s.widths) × IsLaid s.widths (arc_value s.blocks) (map arc_value s.tail.items)) };
 }
 
 impl Segment {
     ghost use Rattle.segment.specs.Tails.{rows_in};
 
-    /// A segment without records, for records of so many fields.
-    pub fn new(alloc: Global, fields: u8) -> Result<Segment, AllocError>
-        requires some { 0 < fields }
-        requires few { fields ≤ 15 }
-        ensures { IfOk result (λ s. s ≡ record { fields = fields; records = [] }) }
+    /// A segment without records, for records of these widths.
+    pub fn new(alloc: Global, widths: &Widths) -> Result<Segment, AllocError>
+        ensures { IfOk result (λ s. s ≡ record { widths = widths.now; records = [] }) }
     {
         Ok(Segment {
-            fields,
-            most: capacity_of(fields) as u32,
+            widths: *widths,
+            most: capacity_of(widths.as_slice()) as u32,
             len: 0,
             blocks: Arc::new(alloc, Blocks::new(alloc))?,
             tail: Vec::new(alloc),
@@ -73,14 +63,16 @@ impl Segment {
 
     /// The segment with further records after its own. The two share all pages that are full here.
     pub fn extended(&self, rows: &Records) -> Result<Segment, AllocError>
-        requires fields { AreWide self.now.fields rows.now }
+        requires wide { AreWide self.now.widths rows.now }
         requires few { length self.now.records + length rows.now < 2 ^ 32 }
         ensures { IfOk result (λ s.
             s ≡ record self.now { records = self.now.records ++ rows.now }) }
     {
-        let mut longer = self.longer(rows.as_slice().len())?;
-        for row in rows.as_slice() {
-            longer = longer.with(row)?;
+        let mut longer = self.longer(rows.len())?;
+        let mut row = Record::blank();
+        for index in 0..rows.len() {
+            rows.read(index, &mut row);
+            longer = longer.with(&row)?;
         }
         longer.closed()
     }
@@ -88,7 +80,7 @@ impl Segment {
     /// The segment with room for so many further records, which are put after its own one by one.
     pub fn longer(&self, more: usize) -> Result<LongerSegment, AllocError>
         ensures same { IfOk result (λ l. l ≡ self.now) }
-        ensures wide { AreWide self.now.fields self.now.records }
+        ensures wide { AreWide self.now.widths self.now.records }
     {
         let alloc = *self.tail.allocator();
         let len = self.len();
@@ -100,32 +92,32 @@ impl Segment {
     // Its pages, as those of a segment that is being made.
     fn opened(&self) -> Result<Tail, AllocError>
         ensures rows { IfOk result (λ t. rows_in t ≡ self.now.records) }
-        ensures fields { IfOk result (λ t. t.fields ≡ self.now.fields) }
+        ensures widths { IfOk result (λ t. t.widths ≡ self.now.widths) }
     {
         let alloc = *self.tail.allocator();
-        Tail::of(alloc, self.fields, &self.blocks, self.tail.as_slice())
+        Tail::of(alloc, &self.widths, &self.blocks, self.tail.as_slice())
     }
 
     /// The segment of a tail's records.
     pub(crate) fn closed(mut tail: Tail, slots: KeySlots, len: u32) -> Result<Segment, AllocError>
         requires len { len ≡ length (rows_in tail) }
-        requires wide { AreWide tail.fields (rows_in tail) }
+        requires wide { AreWide tail.widths (rows_in tail) }
         requires slots { AreSlots slots (rows_in tail) }
-        ensures { IfOk result (λ s. s ≡ record { fields = tail.fields; records = rows_in tail }) }
+        ensures { IfOk result (λ s. s ≡ record { widths = tail.widths; records = rows_in tail }) }
     {
         if tail.last.len() > 0 {
             tail.fold()?;
             return Segment::with_last(tail, slots, len);
         }
         let Tail {
-            fields,
+            widths,
             blocks,
             pages,
             ..
         } = tail;
-        let most = capacity_of(fields) as u32;
+        let most = capacity_of(widths.as_slice()) as u32;
         Ok(Segment {
-            fields,
+            widths,
             most,
             len,
             blocks,
@@ -137,24 +129,24 @@ impl Segment {
     // The same, where the last page has records.
     fn with_last(tail: Tail, slots: KeySlots, len: u32) -> Result<Segment, AllocError>
         requires len { len ≡ length (rows_in tail) }
-        requires wide { AreWide tail.fields (rows_in tail) }
+        requires wide { AreWide tail.widths (rows_in tail) }
         requires slots { AreSlots slots (rows_in tail) }
         requires some { 0 < length tail.last.records }
         requires room { length tail.pages.items < 64 }
-        ensures { IfOk result (λ s. s ≡ record { fields = tail.fields; records = rows_in tail }) }
+        ensures { IfOk result (λ s. s ≡ record { widths = tail.widths; records = rows_in tail }) }
     {
         let _count = tail.last.len();
         let Tail {
             alloc,
-            fields,
+            widths,
             blocks,
             mut pages,
             last,
         } = tail;
         put_page(alloc, &mut pages, last)?;
-        let most = capacity_of(fields) as u32;
+        let most = capacity_of(widths.as_slice()) as u32;
         Ok(Segment {
-            fields,
+            widths,
             most,
             len,
             blocks,
@@ -165,7 +157,7 @@ impl Segment {
 
     // The page in which the record at a multiple of the capacity stands.
     fn page_there(&self, index: usize) -> &Page
-        requires { index * capacity self.now.fields < length self.now.records }
+        requires { index * capacity self.now.widths < length self.now.records }
         ensures { result.now ≡ page_of self.now index }
     {
         let block = index / BLOCK_PAGES;
@@ -178,25 +170,32 @@ impl Segment {
         )
     }
 
+    /// The widths of its columns.
+    pub fn widths(&self) -> Widths
+        ensures { result ≡ self.now.widths }
+    {
+        self.widths
+    }
+
     /// How many records it has.
     pub fn len(&self) -> u32
         ensures count { result ≡ length self.now.records }
-        ensures wide { AreWide self.now.fields self.now.records }
+        ensures wide { AreWide self.now.widths self.now.records }
     {
         self.len
     }
 
     /// How many pages.
     pub fn pages(&self) -> u32
-        ensures { result ≡ page_count self.now.fields (length self.now.records) }
+        ensures { result ≡ page_count self.now.widths (length self.now.records) }
     {
-        let most = capacity_of(self.fields);
+        let most = capacity_of(self.widths.as_slice());
         ((self.len as usize + (most - 1)) / most) as u32
     }
 
     /// A page.
     pub fn page(&self, index: u32) -> &Page
-        requires { index < page_count self.now.fields (length self.now.records) }
+        requires { index < page_count self.now.widths (length self.now.records) }
         ensures { result.now ≡ page_of self.now index }
     {
         self.page_there(index as usize)
@@ -222,7 +221,7 @@ impl Segment {
         ensures { result ≡ (record_at self.now.records slot).key }
     {
         let mut steps = Steps::<L>::open(blank);
-        let mut row = blank_record();
+        let mut row = Record::blank();
         self.read(slot, &mut row, &mut steps);
         row.key
     }
@@ -259,7 +258,7 @@ impl Segment {
             self.tail.len(),
         )?;
         Ok(Segment {
-            fields: self.fields,
+            widths: self.widths,
             most: self.most,
             len: self.len,
             blocks: Arc::try_clone(&self.blocks)?,

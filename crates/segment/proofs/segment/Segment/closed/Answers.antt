@@ -2,7 +2,7 @@ use Rattle.std.proofs.Common.{arith, ◌≡◌, ◌++◌, [], List, length, map,
 use Rattle.std.specs.Arc.{arc_value}
 use Rattle.std.proofs.lemmas.List.{length-map, nil_from_length, append-nil}
 use Rattle.db_value.specs.declared.record.Record.{Record}
-use Rattle.record_page.specs.Page.{Rows}
+use Rattle.record_page.specs.Page.{Rows, capacity}
 use Rattle.segment.specs.Keys.{AreSlots}
 use Rattle.segment.specs.Pages.{pages_of, records_of, AreWide}
 use Rattle.segment.proofs.BlockLemmas.{laid_all}
@@ -22,7 +22,7 @@ invariant_of-result c =
     let m = length-map t.pages.items arc_value in (
       (c.requires.len ∙ ap length all, subst (AreSlots c.args.slots) all c.requires.slots),
       (
-        c.capacity_of-most.ensures,
-        laid_all t.fields blocks pages t.some t.most t.full t.whole (omega (arith, few, m)) (subst (AreWide t.fields) all c.requires.wide),
+        c.capacity_of-most.ensures ∙ ap capacity c.as_slice.ensures.value,
+        laid_all t.widths blocks pages (c.as_slice.ensures.are) t.full t.whole (omega (arith, few, m)) (subst (AreWide t.widths) all c.requires.wide),
       ),
     )

@@ -15,12 +15,12 @@ invariant_of-result c =
     let put = c.in_ok-put_page.ensures.put in
     let room = c.requires.room in
     let m = length-map t.pages.items arc_value in
-    let fits : length t.last.records ≤ capacity t.fields = subst (λ (k : ℕ). length t.last.records ≤ capacity k) t.same c.len-count.ensures.paged.room in
-    let laid : IsLaid t.fields blocks (pages ++ t.last ∷ []) = laid_last t.fields blocks pages t.last t.some t.most t.full t.whole (omega (arith, room, m)) t.same c.requires.some fits c.requires.wide in
+    let fits : length t.last.records ≤ capacity t.widths = subst (λ (k : List ℕ). length t.last.records ≤ capacity k) t.same c.len-count.ensures.paged.room in
+    let laid : IsLaid t.widths blocks (pages ++ t.last ∷ []) = laid_last t.widths blocks pages t.last (c.as_slice.ensures.are) t.full t.whole (omega (arith, room, m)) t.same c.requires.some fits c.requires.wide in
     let rows = sym (rows_after (pages_of blocks) pages t.last) ∙ ap (λ (ps : List Rows). records_of (pages_of blocks ++ ps)) (sym put) in (
       (c.requires.len ∙ ap length rows, subst (AreSlots c.args.slots) rows c.requires.slots),
       (
-        c.capacity_of-most.ensures,
-        subst (λ (ps : List Rows). IsLaid t.fields blocks ps) (sym put) laid,
+        c.capacity_of-most.ensures ∙ ap capacity c.as_slice.ensures.value,
+        subst (λ (ps : List Rows). IsLaid t.widths blocks ps) (sym put) laid,
       ),
     )

@@ -3,7 +3,7 @@ use Rattle.std.specs.Arc.{arc_value}
 use Rattle.std.proofs.lemmas.List.{length-map, length-take}
 use Rattle.record_page.specs.Page.{Rows}
 use Rattle.segment.specs.Pages.{pages_of, page_at, records_of, AreAllFull, AreWhole}
-use Rattle.segment.proofs.BlockLemmas.{front_all, front_rows, last_fields}
+use Rattle.segment.proofs.BlockLemmas.{front_all, front_rows, last_widths}
 use Rattle.segment.proofs.tail.Tail.in_last.Goals as goal
 
 pub invariant_of-result : goal.invariant_of-result
@@ -20,15 +20,13 @@ invariant_of-result c =
     let few = laid.few in
     let k = length-map c.in_ok-pages.pages.items arc_value in
     let f = ap length front ∙ length-take n pages in
-    let all : AreAllFull c.args.fields (pages_of (arc_value c.args.blocks.now) ++ map arc_value c.in_ok-pages.pages.items) =
-    subst (λ (ps : List Rows). AreAllFull c.args.fields (pages_of (arc_value c.args.blocks.now) ++ ps)) (sym front) (front_all c.args.fields (pages_of (arc_value c.args.blocks.now)) pages n laid.pages e) in
+    let all : AreAllFull c.args.widths.now (pages_of (arc_value c.args.blocks.now) ++ map arc_value c.in_ok-pages.pages.items) =
+    subst (λ (ps : List Rows). AreAllFull c.args.widths.now (pages_of (arc_value c.args.blocks.now) ++ ps)) (sym front) (front_all c.args.widths.now (pages_of (arc_value c.args.blocks.now)) pages n laid.pages e) in
     record {
-      same = ap (λ (p : Rows). p.fields) last-is ∙ last_fields c.args.fields (pages_of (arc_value c.args.blocks.now)) pages n laid.pages e;
-      full = subst (λ (bs : List (List Rows)). AreAllFull c.args.fields (pages_of bs ++ map arc_value c.in_ok-pages.pages.items)) (sym c.in_ok-blocks.ensures) all;
+      same = ap (λ (p : Rows). p.widths) last-is ∙ last_widths c.args.widths.now (pages_of (arc_value c.args.blocks.now)) pages n laid.pages e;
+      full = subst (λ (bs : List (List Rows)). AreAllFull c.args.widths.now (pages_of bs ++ map arc_value c.in_ok-pages.pages.items)) (sym c.in_ok-blocks.ensures) all;
       whole = subst (λ (bs : List (List Rows)). AreWhole bs) (sym c.in_ok-blocks.ensures) laid.whole;
       few = omega (arith, k, f, few, m);
-      some = laid.some;
-      most = laid.most;
     }
 
 pub returns-clause-rows : goal.returns-clause-rows

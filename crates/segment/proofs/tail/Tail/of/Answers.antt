@@ -11,5 +11,5 @@ after_last-requires-clause-full c =
     let links = c.args.links.now in
     let pages : List Rows = map arc_value links in
     let m = length-map links arc_value in
-    all_if c.args.fields (arc_value c.args.blocks.now) pages c.requires (λ h.
-    subst (λ (k : ℕ). capacity c.args.fields ≤ length (page_at pages (k - 1)).records) (sym m) (c.has_room.ensures.full c.if-has_room.false (subst (λ (k : ℕ). 0 < k) m h)))
+    all_if c.args.widths.now (arc_value c.args.blocks.now) pages c.requires (λ h.
+    subst (λ (k : ℕ). capacity c.args.widths.now ≤ length (page_at pages (k - 1)).records) (sym m) (c.has_room.ensures.full c.if-has_room.false (subst (λ (k : ℕ). 0 < k) m h)))
