@@ -25,12 +25,6 @@ mod plain_store_tests;
 #[cfg(test)]
 mod read_tests;
 #[cfg(test)]
-mod record_page_tests;
-#[cfg(test)]
-mod segment_tests;
-#[cfg(test)]
 mod version_graph_tests;
 #[cfg(test)]
 mod watched;
-#[cfg(test)]
-mod work_region_tests;

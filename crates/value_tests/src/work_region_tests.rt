@@ -1,7 +1,9 @@
 //! Frames placed, set and given back.
-use crate::asserts::same;
+use crate::asserts::{holds, same};
+use crate::rows::{row, text};
+use db_value::Record;
 use std::test::Fail;
-use work_region::{Region, RegionFull};
+use work_region::{Region, RegionFull, RowRegion};
 
 #[test]
 #[tactic(auto, using(work_region::proofs::Slots::outs))]
@@ -29,5 +31,26 @@ fn hands_out_65536_frames(rt: HostRuntime) -> Result<(), Fail> {
     }
     same(&rt, "all are out", region.free(), 0);
     same(&rt, "one more", region.place(7).err(), Some(RegionFull));
+    Ok(())
+}
+
+#[test]
+fn rows_keep_to_their_frames(rt: HostRuntime) -> Result<(), Fail> {
+    let long = row(1, &[text(b"0123456789")]);
+    let short = row(2, &[text(b"")]);
+    let mut region = RowRegion::take(rt.alloc(), 2, 12)?;
+    let first = region.place(3, &long, true).expect(&rt, "a first frame");
+    let second = region.place(4, &long, true).expect(&rt, "a second frame");
+    same(&rt, "frames by number", (first, second), (0, 1));
+    same(&rt, "a third", region.place(3, &short, true).err(), Some(RegionFull));
+
+    region.set(0, 5, &short, false);
+    let mut read = Record::blank();
+    region.row(0, &mut read);
+    holds(&rt, "the frame that was set", read == short);
+    same(&rt, "what it is", (region.relation(0), region.is_live(0), region.key(0)), (5, false, 2));
+    region.row(1, &mut read);
+    holds(&rt, "the other frame", read == long);
+    same(&rt, "what that is", (region.relation(1), region.is_live(1)), (4, true));
     Ok(())
 }

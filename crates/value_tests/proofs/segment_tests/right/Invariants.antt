@@ -1,4 +1,4 @@
-use Rattle.store_tests.proofs.segment_tests.right.Given as goal
+use Rattle.value_tests.proofs.segment_tests.right.Given as goal
 
 abbrev pub ghosts-first_wrong : goal.ghosts-first_wrong
 ghosts-first_wrong a = record { name = a.blank.name; parts = a.blank.parts }
