@@ -1,8 +1,9 @@
 -- What the lines of replies are made of: numbers, names, fields and records.
 use Rattle.std.specs.Prelude.{ℕ, List, [], ◌∷◌, ◌++◌, codes}
 use Rattle.std.specs.List.{flat_map}
-use Rattle.std.specs.Fmt.{decimal, signed_decimal}
+use Rattle.std.specs.Fmt.{decimal}
 use Rattle.db_value.specs.Value.{Value}
+use Rattle.db_value.specs.ValueText.{value_text}
 use Rattle.db_value.specs.declared.record.Record.{Record}
 
 -- the byte that ends each line
@@ -15,7 +16,7 @@ numbered_text name n = name ++ 32 ∷ decimal n
 
 -- a field behind a space
 abbrev pub field_text : Value → List ℕ
-field_text v = 32 ∷ signed_decimal v
+field_text v = 32 ∷ value_text v
 
 -- a record: its key, then its fields
 abbrev pub record_text : Record → List ℕ

@@ -4,7 +4,7 @@ use Rattle.std.specs.List.{All, flat_map}
 use Rattle.std.specs.Fmt.{decimal}
 use Rattle.std.proofs.Common.{get_or, None}
 use Rattle.db_value.specs.declared.record.Marked.{Marked}
-use Rattle.db_value.specs.declared.report.Pair.{Pair}
+use Rattle.db_value.specs.declared.pairs.Pair.{Pair}
 use Rattle.db_value.specs.declared.version.VersionName.{VersionName}
 use Rattle.db_value.specs.Version.{version_text}
 use Rattle.reply_text.specs.Piece.{line_end, field_text, record_text}

@@ -1,12 +1,13 @@
 //! The echo of a line, and its reply.
 ghost use Rattle.std.specs.Prelude.{◌≡◌, ◌++◌, IfOk, OnOk};
+ghost use Rattle.db_value.specs.declared.reply.Reply.TheVariants.{One};
 ghost use Rattle.reply_text.specs.Reply.{NamesItsRows, echo_text, reply_text};
 
 use crate::refusal::write_refusal;
 use crate::report::{write_log, write_log_end, write_segments};
 use crate::rows::{write_pairs, write_rows};
 use crate::writer::Writer;
-use db_value::{LineText, ListOf, Reply, Schema};
+use db_value::{LineText, ListOf, OneRow, Record, Reply, Schema};
 use std::alloc::{AllocError, Global};
 
 /// The bytes that answer a line.
@@ -17,6 +18,18 @@ fn write_echo(out: &mut Writer, line: &[u8]) -> Result<(), AllocError>
 {
     out.text(b"> ")?;
     out.text(line)?;
+    out.end_line()
+}
+
+// The line of a record, or of none.
+fn write_one(out: &mut Writer, row: &OneRow) -> Result<(), AllocError>
+    ensures { OnOk result (out.new ≡ out.old ++ reply_text (One row.now)) }
+{
+    let mut found = Record::blank();
+    if !row.read(&mut found) {
+        return out.text(b"none\n");
+    }
+    out.record(&found)?;
     out.end_line()
 }
 
@@ -31,18 +44,12 @@ fn write_answer(out: &mut Writer, reply: &Reply) -> Result<(), AllocError>
             out.place(branch, Some(u64::from(*position)))?;
             out.end_line()
         }
-        Reply::One { row: None } => out.text(b"none\n"),
-        Reply::One { row: Some(row) } => {
-            out.record(row)?;
-            out.end_line()
-        }
+        Reply::One { row } => write_one(out, row),
         Reply::Listed { names, rows } => {
-            let rows = rows.as_slice();
             write_rows(out, names.as_slice(), rows)?;
             out.count(b"rows", rows.len())
         }
         Reply::Paired { pairs } => {
-            let pairs = pairs.as_slice();
             write_pairs(out, pairs)?;
             out.count(b"rows", pairs.len())
         }

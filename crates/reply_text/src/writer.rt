@@ -1,11 +1,11 @@
 //! Bytes that are written piece by piece.
 ghost use Rattle.std.specs.Prelude.{◌≡◌, ◌++◌, ◌∷◌, [], OnOk};
-ghost use Rattle.std.specs.Fmt.{decimal};
+ghost use Rattle.std.specs.Fmt.{decimal, signed_decimal};
 ghost use Rattle.std.specs.List.{flat_map};
 ghost use Rattle.db_value.specs.Version.{place_text, version_text};
 ghost use Rattle.reply_text.specs.Piece.{line_end, numbered_text, field_text, record_text, count_text};
 
-use db_value::{Name, Record, VersionName};
+use db_value::{Fields, Name, Record, Value, VersionName};
 use itoa::Buffer;
 use std::alloc::{AllocError, Global};
 use std::marker::Model;
@@ -96,20 +96,38 @@ impl Writer {
         self.place(&version.branch, version.position)
     }
 
-    // A field behind a space.
-    fn field(&mut self, value: i64) -> Result<(), AllocError>
-        ensures { OnOk result (self.new ≡ self.old ++ field_text value) }
+    fn signed(&mut self, n: i64) -> Result<(), AllocError>
+        ensures { OnOk result (self.new ≡ self.old ++ signed_decimal n) }
     {
         let mut digits = Buffer::new();
-        self.text(b" ")?;
-        self.text(digits.format(value).as_bytes())
+        self.text(digits.format(n).as_bytes())
     }
 
-    pub fn fields(&mut self, values: &[i64]) -> Result<(), AllocError>
-        ensures { OnOk result (self.new ≡ self.old ++ flat_map field_text values.now) }
+    // A field behind a space.
+    fn field(&mut self, value: &Value) -> Result<(), AllocError>
+        ensures { OnOk result (self.new ≡ self.old ++ field_text value.now) }
     {
-        for value in values {
-            self.field(*value)?;
+        self.text(b" ")?;
+        match value {
+            Value::Number { value } => self.signed(*value),
+            Value::Text { text } => {
+                self.text(b"\"")?;
+                self.text(text.as_bytes())?;
+                self.text(b"\"")
+            }
+        }
+    }
+
+    #[tactic(auto, using(crate::proofs::Fields::next_field, crate::proofs::Fields::no_field))]
+    pub fn fields(&mut self, fields: &Fields) -> Result<(), AllocError>
+        ensures { OnOk result (self.new ≡ self.old ++ flat_map field_text fields.now) }
+    {
+        let mut walk = fields.walk();
+        for _ in 0..fields.count() {
+            let Some(value) = walk.next() else {
+                return Ok(());
+            };
+            self.field(&value)?;
         }
         Ok(())
     }
@@ -120,7 +138,7 @@ impl Writer {
     {
         self.text(b"row ")?;
         self.number(row.key)?;
-        self.fields(row.fields.as_slice())
+        self.fields(&row.fields)
     }
 
     /// The last line of a list: what was counted, and how many there are.
