@@ -1,11 +1,13 @@
 -- An entry that fits a dataset is within the rules of spelling.
-use Rattle.std.proofs.Common.{◌≡◌, ℕ, zero, suc, ◌<◌, ◌≤◌, ◌^◌, ◌==◌, ◌&&◌, nat_lt, nat_le, true, Bool, List, [], ◌∷◌, length, get_or, refl, sym, ap, subst, arith, Option, Some, None}
+use Rattle.std.proofs.Common.{◌≡◌, ◌∙◌, ℕ, ◌<◌, ◌≤◌, ◌&&◌, nat_lt, nat_le, true, List, [], ◌∷◌, length, refl, ap, arith, Option, Some, None}
 use Rattle.std.specs.List.{list_all}
-use Rattle.std.specs.List.{All}
-use Rattle.std.proofs.lemmas.Bool.{and_parts, ltb-true, leb-true, eqb-true}
-use Rattle.std.proofs.lemmas.List.Sums.{AllPass-from_list_all}
+use Rattle.std.proofs.lemmas.Bool.{and_parts, and_from, ltb-true, leb-true, false≢true}
 use Rattle.db_value.specs.Value.{Value}
-use Rattle.db_value.specs.Relations.{has_columns, is_counted, columns_at, no_relation}
+use Rattle.db_value.specs.Width.{are_widths}
+use Rattle.db_value.specs.Widths.{meets}
+use Rattle.db_value.specs.Relations.{is_counted, widths_at}
+use Rattle.db_value.proofs.Same.{bytes_is}
+use Rattle.db_value.proofs.SchemaLemmas.{relation_widths}
 use Rattle.db_value.specs.declared.schema.Relation.{Relation}
 use Rattle.db_value.specs.declared.version.VersionPlace.{VersionPlace}
 use Rattle.db_value.specs.declared.entry.Change.{Change}
@@ -14,32 +16,49 @@ use Rattle.db_value.specs.declared.entry.Entry.TheVariants.{Commit, Branch}
 use Rattle.db_store.specs.Dataset.{Dataset, branch_at, IsMade}
 use Rattle.db_store.specs.Sound.{IsSound}
 use Rattle.db_store.specs.Counted.{IsCounted}
-use Rattle.db_store.specs.Fits.{fits, ascends, change_fits, has_fields, changes_fit, second_fits, most_branches, most_versions}
+use Rattle.db_store.specs.Fits.{fits, ascends, change_fits, has_fields, has_widths, changes_fit, second_fits, most_branches, most_versions}
 use Rattle.db_store.specs.Growth.{CommitFits, commit_parts, made_from}
+use Rattle.entry_codec.specs.Spelling.{are_met, is_met, HasMetChanges}
 use Rattle.entry_codec.specs.Laws.{IsPlace, IsPlaceIfAny, AreValuesIfAny, AreFields, IsChange, AreChanges, AreRanged, HasRanges, IsNamed, IsEntry, FittingLaw}
 
--- a relation of a schema has one to 15 columns
-columns_few : (rs : List Relation) (r : ℕ) → list_all has_columns rs ≡ true → r < length rs → (0 < length (columns_at rs r)) × (length (columns_at rs r) ≤ 15)
-columns_few [] r all lt = absurd (omega (arith, lt))
-columns_few (x ∷ xs) zero all lt = let p = and_parts _ _ (and_parts _ _ all).0 in (ltb-true _ _ p.0, leb-true _ _ p.1)
-columns_few (x ∷ xs) (suc r) all lt = columns_few xs r (and_parts _ _ all).1 (omega (arith, lt))
-
-fields_are : (n : ℕ) (fields : Option (List Value)) → 0 < n → n ≤ 15 → has_fields n fields ≡ true → AreValuesIfAny fields → AreFields fields
-fields_are n None some few has ranged = tt
-fields_are n (Some fields) some few has ranged =
-    let same : length fields ≡ n = eqb-true _ _ has in
-    (omega (arith, same, some), omega (arith, same, few), ranged)
+-- the widths of a change are those of its relation
+fields_are : (ws : List ℕ) (fields : Option (List Value)) (widths : Option (List ℕ)) → are_widths ws ≡ true → has_fields ws fields ≡ true → has_widths ws fields widths ≡ true → AreValuesIfAny fields → AreFields fields widths
+fields_are ws None None are has own ranged = tt
+fields_are ws None (Some us) are has own ranged = absurd (false≢true own)
+fields_are ws (Some fields) None are has own ranged = absurd (false≢true own)
+fields_are ws (Some fields) (Some us) are has own ranged =
+    let one : us ≡ ws = bytes_is us ws own in
+    (ap are_widths one ∙ are, (ap (λ (vs : List ℕ). meets vs fields) one ∙ has, ranged))
 
 changes_are : (schema : List Relation) (cs : List Change) → is_counted schema ≡ true → list_all (change_fits schema) cs ≡ true → AreRanged cs → AreChanges cs
 changes_are schema [] counted all ranged = tt
 changes_are schema (c ∷ cs) counted all ranged =
     let parts = and_parts _ _ counted in
     let few : length schema ≤ 8 = leb-true _ _ (and_parts _ _ parts.0).1 in
-    let here = and_parts _ _ all in
-    let fit = and_parts _ _ here.0 in
-    let lt : c.relation < length schema = ltb-true _ _ fit.0 in
-    let columns = columns_few schema c.relation parts.1 lt in
-    (record { relation = omega (arith, few, lt); key = ranged.0.0; fields = fields_are (length (columns_at schema c.relation)) c.fields columns.0 columns.1 fit.1 ranged.0.1 }, changes_are schema cs counted here.1 ranged.1)
+    let here = and_parts (change_fits schema c) (list_all (change_fits schema) cs) all in
+    let fit = and_parts (nat_lt c.relation (length schema)) (has_fields (widths_at schema c.relation) c.fields && has_widths (widths_at schema c.relation) c.fields c.widths) here.0 in
+    let lt : c.relation < length schema = ltb-true c.relation (length schema) fit.0 in
+    let row = and_parts (has_fields (widths_at schema c.relation) c.fields) (has_widths (widths_at schema c.relation) c.fields c.widths) fit.1 in
+    (record { relation = omega (arith, few, lt); key = ranged.0.0; fields = fields_are (widths_at schema c.relation) c.fields c.widths (relation_widths schema c.relation counted lt) row.0 row.1 ranged.0.1 }, changes_are schema cs counted here.1 ranged.1)
+
+-- so a change that fits has fields that meet its widths, or neither
+fields_met : (ws : List ℕ) (fields : Option (List Value)) (widths : Option (List ℕ)) → has_fields ws fields ≡ true → has_widths ws fields widths ≡ true → are_met fields widths ≡ true
+fields_met ws None None has own = refl
+fields_met ws None (Some us) has own = absurd (false≢true own)
+fields_met ws (Some fields) None has own = absurd (false≢true own)
+fields_met ws (Some fields) (Some us) has own = ap (λ (vs : List ℕ). meets vs fields) (bytes_is us ws own) ∙ has
+
+changes_met : (schema : List Relation) (cs : List Change) → list_all (change_fits schema) cs ≡ true → list_all is_met cs ≡ true
+changes_met schema [] all = refl
+changes_met schema (c ∷ cs) all =
+    let here = and_parts (change_fits schema c) (list_all (change_fits schema) cs) all in
+    let fit = and_parts (nat_lt c.relation (length schema)) (has_fields (widths_at schema c.relation) c.fields && has_widths (widths_at schema c.relation) c.fields c.widths) here.0 in
+    let row = and_parts (has_fields (widths_at schema c.relation) c.fields) (has_widths (widths_at schema c.relation) c.fields c.widths) fit.1 in
+    and_from (is_met c) (list_all is_met cs) (fields_met (widths_at schema c.relation) c.fields c.widths row.0 row.1) (changes_met schema cs here.1)
+
+pub met_fit : (d : Dataset) (e : Entry) → fits d e ≡ true → HasMetChanges e
+met_fit d (Commit b second changes) fit = changes_met d.schema changes (and_parts (nat_le (length changes) 65536 && ascends changes) (list_all (change_fits d.schema) changes) (commit_parts d b second changes fit).changes).1
+met_fit d (Branch name origin) fit = tt
 
 place_is : (d : Dataset) (at : VersionPlace) → IsSound d → IsMade d at → IsPlace at
 place_is d at s m = (omega (arith, m.0, s.few_branches), omega (arith, m.1, s.few_versions at.branch m.0))

@@ -1,22 +1,23 @@
 -- What is read was spelled so.
-use Rattle.std.proofs.Common.{◌≡◌, zero, suc, ℕ, ℤ, ◌+◌, ◌-◌, ◌*◌, ◌^◌, ◌<◌, ◌≤◌, ◌==◌, ◌&&◌, Bool, true, false, cond, nat_le, List, [], ◌∷◌, ◌++◌, length, take, drop, get_or, refl, sym, ◌∙◌, ap, subst, arith, append_assoc, length-append, Option, Some, None, option_map, option_and_then, FitsSigned}
+use Rattle.std.proofs.Common.{◌≡◌, zero, suc, ℕ, ◌+◌, ◌*◌, ◌^◌, ◌<◌, ◌≤◌, ◌==◌, ◌&&◌, ◌||◌, Bool, true, false, cond, nat_le, nat_lt, List, [], ◌∷◌, ◌++◌, length, take, drop, get_or, refl, sym, ◌∙◌, ap, subst, arith, append_assoc, length-append, Option, Some, None, option_map, option_and_then}
 use Rattle.std.proofs.lemmas.List.{drop-drop, take-append-drop, length-take-le, length-drop}
 use Rattle.std.proofs.lemmas.List.Elements.{All-take, All-drop, All-get_or, All-tail}
 use Rattle.std.proofs.lemmas.Nat.{le_bytes_4, le_bytes_8}
-use Rattle.std.proofs.lemmas.Int.{of_z-to_z}
-use Rattle.std.proofs.Math.Facts.{Fits-of_lt, sfits_to_z}
-use Rattle.std.specs.Int.{w32, w64, from_le_bytes, to_le_bytes, cast_signed, cast_unsigned}
+use Rattle.std.specs.Int.{w32, w64, from_le_bytes, to_le_bytes}
+use Rattle.std.specs.List.{list_all}
+use Rattle.std.proofs.lemmas.Bool.{and_from, lt-ltb, le-leb}
 use Rattle.db_value.specs.Text.{is_name}
-use Rattle.db_value.specs.Value.{Value}
+use Rattle.db_value.specs.Width.{is_width, are_widths}
+use Rattle.db_value.proofs.RowForms.{meets_long}
 use Rattle.db_value.specs.declared.version.VersionPlace.{VersionPlace}
 use Rattle.db_value.specs.declared.entry.Change.{Change}
 use Rattle.db_value.specs.declared.entry.Entry.{Entry}
 use Rattle.db_value.specs.declared.entry.Entry.TheVariants.{Commit, Branch}
 use Rattle.db_store.specs.Fits.{ascends, makes_version}
-use Rattle.entry_codec.specs.Spelling.{place_bytes, second_bytes, value_bytes, values_bytes, field_count, fields_bytes, change_bytes, changes_bytes, spelling, spellings, second_size, change_size, changes_size, entry_size}
-use Rattle.entry_codec.specs.Grammar.{most_changes, u32_in, place_of, place_in, second_in, values_in, fields_in, change_of, is_change, change_in, onto, changes_in, commit_of, counted_in, commit_in, branch_in, entry_in, onto_entries, entries_from, entries_in}
-use Rattle.entry_codec.specs.Laws.{AreBytes, IsPlace, IsPlaceIfAny, AreValues, AreFields, IsChange, AreChanges, IsCommit, IsEntry, AreEntries}
-use Rattle.entry_codec.proofs.Lists.{length_values, count_fields}
+use Rattle.entry_codec.specs.Spelling.{place_bytes, second_bytes, have_texts, has_text, any_text, field_count, fields_bytes, change_bytes, changes_bytes, kind_of, spelling, spellings, second_size, change_size, changes_size, entry_size}
+use Rattle.entry_codec.specs.Grammar.{most_changes, u32_in, place_of, place_in, second_in, form_in, row_of, if_some, change_of, is_change, change_in, onto, changes_in, are_of_kind, commit_of, counted_in, commit_in, branch_in, entry_in, onto_entries, entries_from, entries_in}
+use Rattle.entry_codec.specs.Laws.{AreBytes, IsPlace, IsPlaceIfAny, AreFields, IsChange, AreChanges, IsCommit, IsEntry, AreEntries}
+use Rattle.entry_codec.proofs.RowForm.{IsForm, form_spelled}
 
 some_is : {T : Type 0} (x y : T) → Some x ≡ Some y → x ≡ y
 some_is x y is = cc is
@@ -129,111 +130,131 @@ pub second_read : (b : List ℕ) (second : Option VersionPlace) → AreBytes b �
 second_read [] second are is = absurd (cc is)
 second_read (tag ∷ b) second are is = second_with (tag == 0) (tag == 1) tag b second (tail tag b are) (is_number tag 0) (is_number tag 1) is
 
-value_read : (b : List ℕ) → AreBytes b → 8 ≤ length b → (take 8 b ≡ value_bytes (cast_signed w64 (from_le_bytes w64 (take 8 b)))) × FitsSigned w64 (cast_signed w64 (from_le_bytes w64 (take 8 b)))
-value_read b are long =
-    let n = from_le_bytes w64 (take 8 b) in
-    let number = number_8 b are long in
-    (number.0 ∙ ap (λ (m : ℕ). to_le_bytes w64 m) (sym (of_z-to_z w64 n number.1)), sfits_to_z {w = w64} {n = n} (Fits-of_lt {w = w64} {n = n} number.1))
+-- fields, if there are some, in the first bytes
+fields_read : (wide : Bool) (n : ℕ) (ws b : List ℕ) → IsForm wide n ws b → n ≤ 15
+    → (b ≡ fields_bytes wide (if_some n (row_of wide ws b)) (if_some n ws) ++ drop (length (fields_bytes wide (if_some n (row_of wide ws b)) (if_some n ws))) b) × AreFields (if_some n (row_of wide ws b)) (if_some n ws)
+fields_read wide zero ws b form few = (refl, tt)
+fields_read wide (suc n) ws b form few =
+    let many = form.many in
+    let are : are_widths ws ≡ true = and_from (nat_lt 0 (length ws)) (nat_le (length ws) 15 && list_all is_width ws) (lt-ltb 0 (length ws) (omega (arith, many))) (and_from (nat_le (length ws) 15) (list_all is_width ws) (le-leb (length ws) 15 (omega (arith, many, few))) form.widths) in
+    (form.same, (are, (form.meets, form.values)))
 
-pub values_read : (n : ℕ) (b : List ℕ) → AreBytes b → 8 * n ≤ length b → (b ≡ values_bytes (values_in n b) ++ drop (8 * n) b) × AreValues (values_in n b)
-values_read zero b are long = (refl, tt)
-values_read (suc n) b are long =
-    let first = value_read b are (omega (arith, long)) in
-    let others = values_read n (drop 8 b) (behind 8 b are) (omega (arith, long, length-drop 8 b)) in
-    let v = cast_signed w64 (from_le_bytes w64 (take 8 b)) in
-    let number : 8 + 8 * n ≡ 8 * suc n = omega arith in (
-      two_parts 8 (8 * n) b (value_bytes v) (values_bytes (values_in n (drop 8 b))) (split_at 8 b (value_bytes v) first.0) others.0
-          ∙ ap (λ (k : ℕ). values_bytes (values_in (suc n) b) ++ drop k b) number,
-      (first.1, others.1),
+count_read : (wide : Bool) (n : ℕ) (ws b : List ℕ) → IsForm wide n ws b → field_count (if_some n (row_of wide ws b)) ≡ n
+count_read wide zero ws b form = refl
+count_read wide (suc n) ws b form = meets_long ws (row_of wide ws b) form.meets ∙ form.many
+
+texts_read : (wide : Bool) (n : ℕ) (ws b : List ℕ) → IsForm wide n ws b → wide ≡ false → have_texts (if_some n ws) ≡ false
+texts_read wide zero ws b form e = refl
+texts_read wide (suc n) ws b form e = form.kind e
+
+-- a change whose parts stand behind its two counts
+made_read : (wide : Bool) (relation n : ℕ) (b ws : List ℕ) → AreBytes b → relation ≤ 7 → n ≤ 15 → 8 ≤ length b → form_in wide n (drop 8 b) ≡ Some ws
+    → (relation ∷ (n ∷ b) ≡ change_bytes wide (change_of wide relation n b ws) ++ drop (change_size wide (change_of wide relation n b ws)) (relation ∷ (n ∷ b))) × (IsChange (change_of wide relation n b ws) × (wide ≡ false → has_text (change_of wide relation n b ws) ≡ false))
+made_read wide relation n b ws are known few long is =
+    let form = form_spelled wide n ws (drop 8 b) (small_at (drop 8 b) (behind 8 b are)) is in
+    let key = number_8 b are long in
+    let key_bytes = to_le_bytes w64 (from_le_bytes w64 (take 8 b)) in
+    let fields = fields_read wide n ws (drop 8 b) form few in
+    let own = fields_bytes wide (if_some n (row_of wide ws (drop 8 b))) (if_some n ws) in
+    let bytes = key_bytes ++ own in
+    let size : ℕ = length own in
+    let whole : b ≡ bytes ++ drop (8 + size) b = two_parts 8 size b key_bytes own (split_at 8 b key_bytes key.0) fields.0 in
+    let count : field_count (if_some n (row_of wide ws (drop 8 b))) ≡ n = count_read wide n ws (drop 8 b) form in (
+      ap (λ (l : List ℕ). relation ∷ (n ∷ l)) whole
+          ∙ ap (λ (k : ℕ). relation ∷ (k ∷ (bytes ++ drop (8 + size) b))) (sym count)
+          ∙ ap (λ (l : List ℕ). relation ∷ (field_count (if_some n (row_of wide ws (drop 8 b))) ∷ (bytes ++ l))) (sym (past_two (10 + size) (8 + size) relation n b (omega arith))),
+      (record { relation = known; key = key.1; fields = fields.1 }, texts_read wide n ws (drop 8 b) form),
     )
 
-fields_read : (n : ℕ) (b : List ℕ) → AreBytes b → n ≤ 15 → 8 * n ≤ length b → (b ≡ fields_bytes (fields_in n b) ++ drop (8 * n) b) × AreFields (fields_in n b)
-fields_read zero b are few long = (refl, tt)
-fields_read (suc n) b are few long =
-    let read = values_read (suc n) b are long in
-    let size : length (values_in (suc n) b) ≡ suc n = length_values (suc n) b in
-    (read.0, (omega (arith, size), omega (arith, size, few), read.1))
+pub change_read : (wide : Bool) (b : List ℕ) (c : Change) → AreBytes b → change_in wide b ≡ Some c → (b ≡ change_bytes wide c ++ drop (change_size wide c) b) × (IsChange c × (wide ≡ false → has_text c ≡ false))
+change_read wide [] c are is = absurd (cc is)
+change_read wide (relation ∷ []) c are is = absurd (cc is)
+change_read wide (relation ∷ n ∷ b) c are is =
+    let held = tested (is_change relation n b) (option_map (change_of wide relation n b) (form_in wide n (drop 8 b))) c is in
+    let made = mapped (change_of wide relation n b) (form_in wide n (drop 8 b)) c held.1 in
+    let known = both (nat_le relation 7) (nat_le n 15 && nat_le 8 (length b)) held.0 in
+    let few = both (nat_le n 15) (nat_le 8 (length b)) known.1 in
+    subst (λ (x : Change). (relation ∷ (n ∷ b) ≡ change_bytes wide x ++ drop (change_size wide x) (relation ∷ (n ∷ b))) × (IsChange x × (wide ≡ false → has_text x ≡ false))) made.2
+    (made_read wide relation n b made.0 (tail n b (tail relation (n ∷ b) are)) (le_from relation 7 known.0) (le_from n 15 few.0) (le_from 8 (length b) few.1) made.1)
 
--- the bytes of a change whose parts stand behind its two counts
-pub parts_read : (relation n : ℕ) (b : List ℕ) → AreBytes b → relation ≤ 7 → n ≤ 15 → 8 + 8 * n ≤ length b
-    → (b ≡ (to_le_bytes w64 (from_le_bytes w64 (take 8 b)) ++ fields_bytes (fields_in n (drop 8 b))) ++ drop (8 + 8 * n) b) × IsChange (change_of relation n b)
-parts_read relation n b are known few long =
-    let key = number_8 b are (omega (arith, long)) in
-    let fields = fields_read n (drop 8 b) (behind 8 b are) few (omega (arith, long, length-drop 8 b)) in (
-      two_parts 8 (8 * n) b (to_le_bytes w64 (from_le_bytes w64 (take 8 b))) (fields_bytes (fields_in n (drop 8 b))) (split_at 8 b (to_le_bytes w64 (from_le_bytes w64 (take 8 b))) key.0) fields.0,
-      record { relation = known; key = key.1; fields = fields.1 },
-    )
+no_text : (c : Change) (cs : List Change) → has_text c ≡ false → any_text cs ≡ false → any_text (c ∷ cs) ≡ false
+no_text c cs one others = ap (λ (x : Bool). x || any_text cs) one ∙ others
 
-made_read : (relation n : ℕ) (b : List ℕ) → AreBytes b → relation ≤ 7 → n ≤ 15 → 8 + 8 * n ≤ length b
-    → (relation ∷ (n ∷ b) ≡ change_bytes (change_of relation n b) ++ drop (change_size (change_of relation n b)) (relation ∷ (n ∷ b))) × IsChange (change_of relation n b)
-made_read relation n b are known few long =
-    let parts = parts_read relation n b are known few long in
-    let bytes = to_le_bytes w64 (from_le_bytes w64 (take 8 b)) ++ fields_bytes (fields_in n (drop 8 b)) in
-    let count : field_count (fields_in n (drop 8 b)) ≡ n = count_fields n (drop 8 b) in (
-      subst (λ (k : ℕ). relation ∷ (n ∷ b) ≡ (relation ∷ (k ∷ bytes)) ++ drop (10 + 8 * k) (relation ∷ (n ∷ b))) (sym count)
-          (ap (λ (l : List ℕ). relation ∷ (n ∷ l)) parts.0 ∙ ap (λ (l : List ℕ). relation ∷ (n ∷ (bytes ++ l))) (sym (past_two (10 + 8 * n) (8 + 8 * n) relation n b (omega arith)))),
-      parts.1,
-    )
-
-pub change_read : (b : List ℕ) (c : Change) → AreBytes b → change_in b ≡ Some c → (b ≡ change_bytes c ++ drop (change_size c) b) × IsChange c
-change_read [] c are is = absurd (cc is)
-change_read (relation ∷ []) c are is = absurd (cc is)
-change_read (relation ∷ n ∷ b) c are is =
-    let held = tested (is_change relation n b) (Some (change_of relation n b)) c is in
-    let known = both (nat_le relation 7) (nat_le n 15 && nat_le (8 + 8 * n) (length b)) held.0 in
-    let few = both (nat_le n 15) (nat_le (8 + 8 * n) (length b)) known.1 in
-    subst (λ (x : Change). (relation ∷ (n ∷ b) ≡ change_bytes x ++ drop (change_size x) (relation ∷ (n ∷ b))) × IsChange x) (some_is (change_of relation n b) c held.1)
-    (made_read relation n b (tail n b (tail relation (n ∷ b) are)) (le_from relation 7 known.0) (le_from n 15 few.0) (le_from (8 + 8 * n) (length b) few.1))
-
-pub changes_read : (n : ℕ) (b : List ℕ) (cs : List Change) → AreBytes b → changes_in n b ≡ Some cs → (b ≡ changes_bytes cs ++ drop (changes_size cs) b) × AreChanges cs × (length cs ≡ n)
-changes_read zero b cs are is = subst (λ (l : List Change). (b ≡ changes_bytes l ++ drop (changes_size l) b) × AreChanges l × (length l ≡ 0)) (some_is [] cs is) (refl, tt, refl)
-changes_read (suc n) b cs are is =
-    let first = chained (λ c. option_map (onto c) (changes_in n (drop (change_size c) b))) (change_in b) cs is in
+pub changes_read : (wide : Bool) (n : ℕ) (b : List ℕ) (cs : List Change) → AreBytes b → changes_in wide n b ≡ Some cs
+    → (b ≡ changes_bytes wide cs ++ drop (changes_size wide cs) b) × (AreChanges cs × ((length cs ≡ n) × (wide ≡ false → any_text cs ≡ false)))
+changes_read wide zero b cs are is =
+    subst (λ (l : List Change). (b ≡ changes_bytes wide l ++ drop (changes_size wide l) b) × (AreChanges l × ((length l ≡ 0) × (wide ≡ false → any_text l ≡ false)))) (some_is [] cs is) (refl, (tt, (refl, λ e. refl)))
+changes_read wide (suc n) b cs are is =
+    let first = chained (λ c. option_map (onto c) (changes_in wide n (drop (change_size wide c) b))) (change_in wide b) cs is in
     let c = first.0 in
-    let more = mapped (onto c) (changes_in n (drop (change_size c) b)) cs first.2 in
-    let one = change_read b c are first.1 in
-    let others = changes_read n (drop (change_size c) b) more.0 (behind (change_size c) b are) more.1 in
-    subst (λ (l : List Change). (b ≡ changes_bytes l ++ drop (changes_size l) b) × AreChanges l × (length l ≡ suc n)) more.2
-    (two_parts (change_size c) (changes_size more.0) b (change_bytes c) (changes_bytes more.0) one.0 others.0, (one.1, others.1), omega (arith, others.2))
+    let more = mapped (onto c) (changes_in wide n (drop (change_size wide c) b)) cs first.2 in
+    let one = change_read wide b c are first.1 in
+    let others = changes_read wide n (drop (change_size wide c) b) more.0 (behind (change_size wide c) b are) more.1 in
+    subst (λ (l : List Change). (b ≡ changes_bytes wide l ++ drop (changes_size wide l) b) × (AreChanges l × ((length l ≡ suc n) × (wide ≡ false → any_text l ≡ false)))) more.2 (
+      two_parts (change_size wide c) (changes_size wide more.0) b (change_bytes wide c) (changes_bytes wide more.0) one.0 others.0,
+      ((one.1.0, others.1.0), (omega (arith, others.1.1.0), λ e. no_text c more.0 (one.1.1 e) (others.1.1.1 e))),
+    )
 
-pub counted_read : (b : List ℕ) (cs : List Change) → AreBytes b → counted_in b ≡ Some cs → (b ≡ (to_le_bytes w32 (length cs) ++ changes_bytes cs) ++ drop (4 + changes_size cs) b) × (length cs ≤ most_changes) × AreChanges cs
-counted_read b cs are is =
-    let count = chained (λ n. cond (nat_le n most_changes) (changes_in n (drop 4 b)) None) (u32_in b) cs is in
+pub counted_read : (wide : Bool) (b : List ℕ) (cs : List Change) → AreBytes b → counted_in wide b ≡ Some cs
+    → (b ≡ (to_le_bytes w32 (length cs) ++ changes_bytes wide cs) ++ drop (4 + changes_size wide cs) b) × ((length cs ≤ most_changes) × (AreChanges cs × (wide ≡ false → any_text cs ≡ false)))
+counted_read wide b cs are is =
+    let count = chained (λ n. cond (nat_le n most_changes) (changes_in wide n (drop 4 b)) None) (u32_in b) cs is in
     let n = count.0 in
-    let held = tested (nat_le n most_changes) (changes_in n (drop 4 b)) cs count.2 in
+    let held = tested (nat_le n most_changes) (changes_in wide n (drop 4 b)) cs count.2 in
     let number = u32_read b n are count.1 in
-    let read = changes_read n (drop 4 b) cs (behind 4 b are) held.1 in
-    let first : b ≡ to_le_bytes w32 (length cs) ++ drop 4 b = number.0 ∙ ap (λ (m : ℕ). to_le_bytes w32 m ++ drop 4 b) (sym read.2) in
-    (two_parts 4 (changes_size cs) b (to_le_bytes w32 (length cs)) (changes_bytes cs) first read.0, omega (arith, le_from n most_changes held.0, read.2), read.1)
+    let read = changes_read wide n (drop 4 b) cs (behind 4 b are) held.1 in
+    let first : b ≡ to_le_bytes w32 (length cs) ++ drop 4 b = number.0 ∙ ap (λ (m : ℕ). to_le_bytes w32 m ++ drop 4 b) (sym read.1.1.0) in
+    (two_parts 4 (changes_size wide cs) b (to_le_bytes w32 (length cs)) (changes_bytes wide cs) first read.0, (omega (arith, le_from n most_changes held.0, read.1.1.0), (read.1.0, read.1.1.1)))
 
 -- three parts, one behind another
 three_parts : (k m n : ℕ) (b x y z : List ℕ) → b ≡ x ++ drop k b → drop k b ≡ y ++ drop m (drop k b) → drop (k + m) b ≡ z ++ drop n (drop (k + m) b) → b ≡ (x ++ (y ++ z)) ++ drop (k + m + n) b
 three_parts k m n b x y z first second third =
     two_parts (k + m) n b (x ++ y) z (two_parts k m b x y first second) third ∙ ap (λ (l : List ℕ). l ++ drop (k + m + n) b) (append_assoc x y z)
 
-commit_parts : (b : List ℕ) (branch : ℕ) (second : Option VersionPlace) (cs : List Change) (e : Entry) → AreBytes b → u32_in b ≡ Some branch → second_in (drop 4 b) ≡ Some second
-    → counted_in (drop (4 + second_size second) b) ≡ Some cs → commit_of branch second cs ≡ Some e → (1 ∷ b ≡ spelling e ++ drop (entry_size e) (1 ∷ b)) × IsEntry e
-commit_parts b branch second cs e are numbered parent counted made =
+-- the changes of a commit are of its kind
+kind_is : (wide : Bool) (cs : List Change) → are_of_kind wide cs ≡ true → (wide ≡ false → any_text cs ≡ false) → any_text cs ≡ wide
+kind_is true cs some none = some
+kind_is false cs some none = none refl
+
+commit_parts : (wide : Bool) (b : List ℕ) (branch : ℕ) (second : Option VersionPlace) (cs : List Change) (e : Entry) → AreBytes b → u32_in b ≡ Some branch → second_in (drop 4 b) ≡ Some second
+    → counted_in wide (drop (4 + second_size second) b) ≡ Some cs → commit_of wide branch second cs ≡ Some e → (kind_of wide ∷ b ≡ spelling e ++ drop (entry_size e) (kind_of wide ∷ b)) × IsEntry e
+commit_parts wide b branch second cs e are numbered parent counted made =
     let number = u32_read b branch are numbered in
     let other = second_read (drop 4 b) second (behind 4 b are) parent in
     let from = 4 + second_size second in
-    let list = counted_read (drop from b) cs (behind from b are) counted in
-    let held = tested (makes_version second cs && ascends cs) (Some (Commit branch second cs)) e made in
-    let rules = both (makes_version second cs) (ascends cs) held.0 in
-    let whole : b ≡ (to_le_bytes w32 branch ++ (second_bytes second ++ (to_le_bytes w32 (length cs) ++ changes_bytes cs))) ++ drop (4 + second_size second + (4 + changes_size cs)) b =
-    three_parts 4 (second_size second) (4 + changes_size cs) b (to_le_bytes w32 branch) (second_bytes second) (to_le_bytes w32 (length cs) ++ changes_bytes cs) number.0 other.0 list.0 in
-    let size : 9 + second_size second + changes_size cs ≡ suc (4 + second_size second + (4 + changes_size cs)) = omega arith in
-    subst (λ (x : Entry). (1 ∷ b ≡ spelling x ++ drop (entry_size x) (1 ∷ b)) × IsEntry x) (some_is (Commit branch second cs) e held.1) (
-      ap (λ (l : List ℕ). 1 ∷ l) whole ∙ ap (λ (l : List ℕ). spelling (Commit branch second cs) ++ l) (sym (past_one (9 + second_size second + changes_size cs) (4 + second_size second + (4 + changes_size cs)) 1 b size)),
-      record { number = number.1; parent = other.1; few = list.1; each = list.2; some = rules.0; ascending = rules.1 },
+    let list = counted_read wide (drop from b) cs (behind from b are) counted in
+    let held = tested (makes_version second cs && (ascends cs && are_of_kind wide cs)) (Some (Commit branch second cs)) e made in
+    let rules = both (makes_version second cs) (ascends cs && are_of_kind wide cs) held.0 in
+    let order = both (ascends cs) (are_of_kind wide cs) rules.1 in
+    let kind : any_text cs ≡ wide = kind_is wide cs order.1 list.1.1.1 in
+    let parts = to_le_bytes w32 branch ++ (second_bytes second ++ (to_le_bytes w32 (length cs) ++ changes_bytes wide cs)) in
+    let whole : b ≡ parts ++ drop (4 + second_size second + (4 + changes_size wide cs)) b =
+    three_parts 4 (second_size second) (4 + changes_size wide cs) b (to_le_bytes w32 branch) (second_bytes second) (to_le_bytes w32 (length cs) ++ changes_bytes wide cs) number.0 other.0 list.0 in
+    let size : 9 + second_size second + changes_size wide cs ≡ suc (4 + second_size second + (4 + changes_size wide cs)) = omega arith in
+    let spelled : kind_of wide ∷ b ≡ (kind_of wide ∷ parts) ++ drop (9 + second_size second + changes_size wide cs) (kind_of wide ∷ b) =
+    ap (λ (l : List ℕ). kind_of wide ∷ l) whole
+    ∙ ap (λ (l : List ℕ). (kind_of wide ∷ parts) ++ l) (sym (past_one (9 + second_size second + changes_size wide cs) (4 + second_size second + (4 + changes_size wide cs)) (kind_of wide) b size)) in
+    subst (λ (x : Entry). (kind_of wide ∷ b ≡ spelling x ++ drop (entry_size x) (kind_of wide ∷ b)) × IsEntry x) (some_is (Commit branch second cs) e held.1) (
+      subst (λ (w : Bool). kind_of wide ∷ b ≡ (kind_of w ∷ (to_le_bytes w32 branch ++ (second_bytes second ++ (to_le_bytes w32 (length cs) ++ changes_bytes w cs)))) ++ drop (9 + second_size second + changes_size w cs) (kind_of wide ∷ b)) (sym kind) spelled,
+      record { number = number.1; parent = other.1; few = list.1.0; each = list.1.1.0; some = rules.0; ascending = order.0 },
     )
 
-commit_read : (b : List ℕ) (e : Entry) → AreBytes b → commit_in b ≡ Some e → (1 ∷ b ≡ spelling e ++ drop (entry_size e) (1 ∷ b)) × IsEntry e
-commit_read b e are is =
-    let one = chained (λ branch. option_and_then (λ second. option_and_then (commit_of branch second) (counted_in (drop (4 + second_size second) b))) (second_in (drop 4 b))) (u32_in b) e is in
-    let two = chained (λ second. option_and_then (commit_of one.0 second) (counted_in (drop (4 + second_size second) b))) (second_in (drop 4 b)) e one.2 in
-    let three = chained (commit_of one.0 two.0) (counted_in (drop (4 + second_size two.0) b)) e two.2 in
-    commit_parts b one.0 two.0 three.0 e are one.1 two.1 three.1 three.2
+-- the size of a commit that was read
+pub commit_size : (wide : Bool) (b : List ℕ) (branch : ℕ) (second : Option VersionPlace) (cs : List Change) (e : Entry) → AreBytes b → counted_in wide b ≡ Some cs → commit_of wide branch second cs ≡ Some e → 9 + second_size second + changes_size wide cs ≡ entry_size e
+commit_size wide b branch second cs e are counted made =
+    let list = counted_read wide b cs are counted in
+    let held = tested (makes_version second cs && (ascends cs && are_of_kind wide cs)) (Some (Commit branch second cs)) e made in
+    let rules = both (makes_version second cs) (ascends cs && are_of_kind wide cs) held.0 in
+    let order = both (ascends cs) (are_of_kind wide cs) rules.1 in
+    let kind : any_text cs ≡ wide = kind_is wide cs order.1 list.1.1.1 in
+    sym (ap (λ (w : Bool). 9 + second_size second + changes_size w cs) kind) ∙ ap entry_size (some_is (Commit branch second cs) e held.1)
+
+commit_read : (wide : Bool) (b : List ℕ) (e : Entry) → AreBytes b → commit_in wide b ≡ Some e → (kind_of wide ∷ b ≡ spelling e ++ drop (entry_size e) (kind_of wide ∷ b)) × IsEntry e
+commit_read wide b e are is =
+    let one = chained (λ branch. option_and_then (λ second. option_and_then (commit_of wide branch second) (counted_in wide (drop (4 + second_size second) b))) (second_in (drop 4 b))) (u32_in b) e is in
+    let two = chained (λ second. option_and_then (commit_of wide one.0 second) (counted_in wide (drop (4 + second_size second) b))) (second_in (drop 4 b)) e one.2 in
+    let three = chained (commit_of wide one.0 two.0) (counted_in wide (drop (4 + second_size two.0) b)) e two.2 in
+    commit_parts wide b one.0 two.0 three.0 e are one.1 two.1 three.1 three.2
 
 branch_parts : (n : ℕ) (b : List ℕ) (origin : VersionPlace) → AreBytes b → n ≤ length b → is_name (take n b) ≡ true → place_in (drop n b) ≡ Some origin
     → (2 ∷ (n ∷ b) ≡ spelling (Branch (take n b) origin) ++ drop (entry_size (Branch (take n b) origin)) (2 ∷ (n ∷ b))) × IsEntry (Branch (take n b) origin)
@@ -256,15 +277,16 @@ branch_read (n ∷ b) e are is =
     subst (λ (x : Entry). (2 ∷ (n ∷ b) ≡ spelling x ++ drop (entry_size x) (2 ∷ (n ∷ b))) × IsEntry x) placed.2
     (branch_parts n b placed.0 (tail n b are) (le_from n (length b) rules.0) rules.1 placed.1)
 
-spelled_with : (p q : Bool) (tag : ℕ) (b : List ℕ) (e : Entry) → AreBytes b → (p ≡ true → tag ≡ 1) → (q ≡ true → tag ≡ 2)
-    → cond p (commit_in b) (cond q (branch_in b) None) ≡ Some e → (tag ∷ b ≡ spelling e ++ drop (entry_size e) (tag ∷ b)) × IsEntry e
-spelled_with true q tag b e are one two is = subst (λ (n : ℕ). (n ∷ b ≡ spelling e ++ drop (entry_size e) (n ∷ b)) × IsEntry e) (sym (one refl)) (commit_read b e are is)
-spelled_with false true tag b e are one two is = subst (λ (n : ℕ). (n ∷ b ≡ spelling e ++ drop (entry_size e) (n ∷ b)) × IsEntry e) (sym (two refl)) (branch_read b e are is)
-spelled_with false false tag b e are one two is = absurd (cc is)
+spelled_with : (p q r : Bool) (tag : ℕ) (b : List ℕ) (e : Entry) → AreBytes b → (p ≡ true → tag ≡ 1) → (q ≡ true → tag ≡ 3) → (r ≡ true → tag ≡ 2)
+    → cond p (commit_in false b) (cond q (commit_in true b) (cond r (branch_in b) None)) ≡ Some e → (tag ∷ b ≡ spelling e ++ drop (entry_size e) (tag ∷ b)) × IsEntry e
+spelled_with true q r tag b e are one three two is = subst (λ (n : ℕ). (n ∷ b ≡ spelling e ++ drop (entry_size e) (n ∷ b)) × IsEntry e) (sym (one refl)) (commit_read false b e are is)
+spelled_with false true r tag b e are one three two is = subst (λ (n : ℕ). (n ∷ b ≡ spelling e ++ drop (entry_size e) (n ∷ b)) × IsEntry e) (sym (three refl)) (commit_read true b e are is)
+spelled_with false false true tag b e are one three two is = subst (λ (n : ℕ). (n ∷ b ≡ spelling e ++ drop (entry_size e) (n ∷ b)) × IsEntry e) (sym (two refl)) (branch_read b e are is)
+spelled_with false false false tag b e are one three two is = absurd (cc is)
 
 pub spelled : (b : List ℕ) (e : Entry) → AreBytes b → entry_in b ≡ Some e → (b ≡ spelling e ++ drop (entry_size e) b) × IsEntry e
 spelled [] e are is = absurd (cc is)
-spelled (tag ∷ b) e are is = spelled_with (tag == 1) (tag == 2) tag b e (tail tag b are) (is_number tag 1) (is_number tag 2) is
+spelled (tag ∷ b) e are is = spelled_with (tag == 1) (tag == 3) (tag == 2) tag b e (tail tag b are) (is_number tag 1) (is_number tag 3) (is_number tag 2) is
 
 body_from : (n : ℕ) (b : List ℕ) (es : List Entry) → AreBytes b → entries_from n b ≡ Some es → (b ≡ spellings es) × AreEntries es
 body_from n [] es are is = subst (λ (l : List Entry). ([] ≡ spellings l) × AreEntries l) (some_is [] es is) (refl, tt)

@@ -1,9 +1,10 @@
 -- Which entries have a spelling, and what ties it to reading.
-use Rattle.std.specs.Prelude.{◌≡◌, ◌<◌, ◌≤◌, ◌^◌, ◌++◌, ℕ, ℤ, true, List, [], ◌∷◌, length, drop, Option, Some, None, FitsSigned}
-use Rattle.std.specs.Int.{w64}
-use Rattle.std.specs.List.{All}
+use Rattle.std.specs.Prelude.{◌≡◌, ◌<◌, ◌≤◌, ◌^◌, ◌++◌, ℕ, true, List, [], ◌∷◌, length, drop, Option, Some, None}
+use Rattle.std.specs.List.{All, AllByRecursion}
 use Rattle.db_value.specs.Text.{is_name}
-use Rattle.db_value.specs.Value.{Value}
+use Rattle.db_value.specs.Value.{Value, IsValue}
+use Rattle.db_value.specs.Width.{are_widths}
+use Rattle.db_value.specs.Widths.{meets}
 use Rattle.db_value.specs.declared.version.VersionPlace.{VersionPlace}
 use Rattle.db_value.specs.declared.entry.Change.{Change}
 use Rattle.db_value.specs.declared.entry.Entry.{Entry}
@@ -12,7 +13,7 @@ use Rattle.db_store.specs.Dataset.{Dataset}
 use Rattle.db_store.specs.Sound.{IsSound}
 use Rattle.db_store.specs.Counted.{IsCounted}
 use Rattle.db_store.specs.Fits.{fits, ascends, makes_version}
-use Rattle.entry_codec.specs.Spelling.{spelling, spellings, entry_size, field_count}
+use Rattle.entry_codec.specs.Spelling.{spelling, spellings, entry_size}
 use Rattle.entry_codec.specs.Grammar.{entry_in, entries_in, most_changes}
 
 -- each number is a byte
@@ -28,33 +29,30 @@ abbrev pub IsPlaceIfAny : Option VersionPlace → Type 0
 IsPlaceIfAny None = Unit {0}
 IsPlaceIfAny (Some at) = IsPlace at
 
--- each value has 64 bits with a sign
-abbrev pub AreValues : List Value → Type 0
-AreValues [] = Unit {0}
-AreValues (v ∷ vs) = FitsSigned w64 v × AreValues vs
-
--- one to 15 values, or a deletion
-abbrev pub AreFields : Option (List Value) → Type 0
-AreFields None = Unit {0}
-AreFields (Some fields) = (0 < length fields) × (length fields ≤ 15) × AreValues fields
+-- one to 15 values that meet the widths of their columns, or a deletion
+abbrev pub AreFields : Option (List Value) → Option (List ℕ) → Type 0
+AreFields None None = Unit {0}
+AreFields None (Some ws) = ⊥
+AreFields (Some fields) None = ⊥
+AreFields (Some fields) (Some ws) = (are_widths ws ≡ true) × ((meets ws fields ≡ true) × AllByRecursion IsValue fields)
 
 -- a change that has a spelling
 pub record IsChange (c : Change) : Type 0 where
   pub relation : c.relation ≤ 7
   pub key : c.key < 2 ^ 64
-  pub fields : AreFields c.fields
+  pub fields : AreFields c.fields c.widths
 
 -- all of them have a spelling
 abbrev pub AreChanges : List Change → Type 0
 AreChanges [] = Unit {0}
 AreChanges (c ∷ cs) = IsChange c × AreChanges cs
 
--- each value has 64 bits with a sign, if there are any
+-- each value is one of 64 bits with a sign or a short text, if there are any
 abbrev pub AreValuesIfAny : Option (List Value) → Type 0
 AreValuesIfAny None = Unit {0}
-AreValuesIfAny (Some fields) = AreValues fields
+AreValuesIfAny (Some fields) = AllByRecursion IsValue fields
 
--- the key and each value of the changes have 64 bits
+-- the key of each change has 64 bits, and its values are those of fields
 abbrev pub AreRanged : List Change → Type 0
 AreRanged [] = Unit {0}
 AreRanged (c ∷ cs) = ((c.key < 2 ^ 64) × AreValuesIfAny c.fields) × AreRanged cs

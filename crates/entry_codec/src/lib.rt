@@ -8,7 +8,9 @@
 //! |---|---|
 //! | `specs/Spelling.antt` | the bytes of an entry |
 //! | `specs/Grammar.antt` | how an entry is read from the front of bytes |
+//! | `specs/Wide.antt` | the fields of a change in a commit that has a text |
 //! | `src/write.rt`, `src/read.rt` | both ways as code |
+//! | `src/wide_write.rt`, `src/wide_read.rt` | the same of fields |
 //! | `specs/Logs.antt`, `src/log.rt`, `src/stop.rt` | a log, and the one that stores nothing |
 #![tactic(auto)]
 
@@ -16,6 +18,8 @@ mod laws;
 mod log;
 mod read;
 mod stop;
+mod wide_read;
+mod wide_write;
 mod write;
 
 pub use laws::{codec_laws, fitting_law};

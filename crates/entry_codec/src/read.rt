@@ -1,13 +1,16 @@
 //! An entry, read from the front of bytes.
-ghost use Rattle.std.specs.Prelude.{◌≡◌, ◌+◌, ◌*◌, ◌≤◌, ◌<◌, ◌++◌, ℕ, ℤ, List, [], true, length, take, drop, Option, Some, None, option_map, IfOk, IfSome, IsErr, IsErrOf};
+ghost use Rattle.std.specs.Prelude.{◌≡◌, ◌+◌, ◌-◌, ◌≤◌, ◌<◌, length, take, replicate, Some, None, option_map, IfOk, IfSome, IfNone, IsErr, IsErrOf};
 ghost use Rattle.std.specs.Int.{w64, from_le_bytes};
-ghost use Rattle.db_store.specs.Fits.{is_before, first_is_before, ascends, makes_version};
-ghost use Rattle.entry_codec.specs.Grammar.{u32_in, place_in, second_in, values_in, fields_in, change_of, is_change, change_in, changes_in, commit_of, counted_in, commit_in, branch_in, entry_in};
+ghost use Rattle.db_value.specs.PackedChanges.{change_here};
+ghost use Rattle.db_store.specs.Fits.{is_before, ascends};
+ghost use Rattle.entry_codec.specs.Grammar.{u32_in, place_in, second_in, form_in, form_size, row_of, change_in, changes_in, commit_of, counted_in, commit_in, branch_in, entry_in};
 ghost use Rattle.entry_codec.specs.Laws.{IsEntry};
-ghost use Rattle.entry_codec.specs.Spelling.{BeginsWith, field_count, second_size, change_size, changes_size, entry_size};
-ghost use Rattle.entry_codec.specs.Pushed.{Pushes};
+ghost use Rattle.entry_codec.specs.Spelling.{BeginsWith, second_size, changes_size, entry_size};
+ghost use Rattle.entry_codec.specs.Pushed.{Pushes, PushesForm};
 
-use db_value::{Change, Changes, Entry, Fields, ListOf, Name, VersionPlace};
+use crate::wide_read::{first_widths, take_wide};
+use crate::write::any_text;
+use db_value::{Changes, Entry, Fields, Name, Record, VersionPlace, Widths};
 use std::alloc::{AllocError, Global};
 use thiserror::Error;
 
@@ -91,38 +94,97 @@ fn size_of_second(second: &Option<VersionPlace>) -> usize
     }
 }
 
-fn first_fields(count: u8, b: &[u8]) -> Option<Fields>
+// The widths of so many fields in the first bytes, if these stand there, and how many bytes they have.
+fn first_form(wide: bool, count: u8, b: &[u8], widths: &mut [u8; 15]) -> Option<usize>
     requires few { count ≤ 15 }
-    requires there { 8 * count ≤ length b.now }
-    ensures { result ≡ fields_in count b.now }
+    requires zeros { widths.old ≡ replicate 15 0 }
+    ensures none { IfNone result (form_in wide count b.now ≡ None) }
+    ensures widths { IfSome result (λ n. form_in wide count b.now ≡ Some (take count widths.new)) }
+    ensures size { IfSome result (λ n. n ≡ form_size wide (take count widths.new)) }
+    ensures within { IfSome result (λ n. n ≤ length b.now) }
 {
-    let len = count as usize;
-    let mut values = [0i64; 15];
-    'values: for i in 0..len {
-        values[i] = first_u64(&b[8 * i..]).cast_signed();
+    if wide {
+        return first_widths(count, b, widths);
     }
-    Fields::of(&values[..len])
+    let size = 8 * count as usize;
+    let long = b.len();
+    if size > long {
+        return None;
+    }
+    Some(size)
 }
 
-// Adds the change at the front, if there is one, and gives how many bytes it has.
-fn push_first(changes: &mut Vec<Change>, b: &[u8]) -> Result<Option<usize>, AllocError>
-    ensures pushed { IfOk result (λ o.
-        Pushes changes.old.items changes.new.items (change_in b.now) o) }
+// The fields in the first bytes, which have these widths.
+fn take_form(wide: bool, widths: &[u8], b: &[u8], into: &mut Fields)
+    requires some { 0 < length widths.now }
+    requires few { length widths.now ≤ 15 }
+    requires there { form_in wide (length widths.now) b.now ≡ Some widths.now }
+    ensures { into.new ≡ row_of wide widths.now b.now }
+{
+    if wide {
+        take_wide(widths, b, into);
+        return;
+    }
+    into.take_row(widths, b);
+}
+
+// Adds the change of the key of the row with so many fields, if these stand in the first bytes, and
+// gives how many bytes they have.
+fn push_fields(
+    changes: &mut Changes,
+    wide: bool,
+    relation: u8,
+    count: u8,
+    b: &[u8],
+    row: &mut Record,
+) -> Result<Option<usize>, AllocError>
+    requires { count ≤ 15 }
+    ensures pushed { IfOk result (λ o. PushesForm wide changes.old changes.new relation row.old.key
+        count b.now (form_in wide count b.now) o) }
+    ensures within { IfOk result (λ o. IfSome o (λ n. n ≤ length b.now)) }
+{
+    if count == 0 {
+        changes.remove(relation, row.key)?;
+        return Ok(Some(0));
+    }
+    let mut widths = [0u8; 15];
+    match first_form(wide, count, b, &mut widths) {
+        None => Ok(None),
+        Some(size) => {
+            let own = &widths[..count as usize];
+            take_form(wide, own, b, &mut row.fields);
+            let Some(own) = Widths::of(own) else {
+                unreachable!();
+            };
+            changes.put(relation, row, &own)?;
+            Ok(Some(size))
+        }
+    }
+}
+
+// Adds the change at the front, if there is one, and gives how many bytes it has. The row is one to
+// read into.
+fn push_first(
+    changes: &mut Changes,
+    wide: bool,
+    b: &[u8],
+    row: &mut Record,
+) -> Result<Option<usize>, AllocError>
+    ensures pushed { IfOk result (λ o. Pushes wide changes.old changes.new (change_in wide b.now) o) }
     ensures within { IfOk result (λ o. IfSome o (λ n. n ≤ length b.now)) }
 {
     match b {
         [] => Ok(None),
         [_] => Ok(None),
         [relation, count, rest @ ..] => {
-            if *relation > 7 || *count > 15 || rest.len() < 8 + 8 * (*count as usize) {
+            if *relation > 7 || *count > 15 || rest.len() < 8 {
                 return Ok(None);
             }
-            changes.push(Change {
-                relation: *relation,
-                key: first_u64(rest),
-                fields: first_fields(*count, &rest[8..]),
-            })?;
-            Ok(Some(10 + 8 * (*count as usize)))
+            row.key = first_u64(rest);
+            match push_fields(changes, wide, *relation, *count, &rest[8..], row)? {
+                None => Ok(None),
+                Some(size) => Ok(Some(10 + size)),
+            }
         }
     }
 }
@@ -130,18 +192,20 @@ fn push_first(changes: &mut Vec<Change>, b: &[u8]) -> Result<Option<usize>, Allo
 // So many changes, one behind another, and how many bytes they have.
 fn first_changes(
     alloc: Global,
+    wide: bool,
     count: u32,
     b: &[u8],
-) -> Result<Option<(Vec<Change>, usize)>, AllocError>
-    ensures changes { IfOk result (λ o. option_map (λ r. r.0.items) o ≡ changes_in count b.now) }
-    ensures size { IfOk result (λ o. IfSome o (λ r. r.1 ≡ changes_size r.0.items)) }
+) -> Result<Option<(Changes, usize)>, AllocError>
+    ensures changes { IfOk result (λ o. option_map (λ r. r.0) o ≡ changes_in wide count b.now) }
+    ensures size { IfOk result (λ o. IfSome o (λ r. r.1 ≡ changes_size wide r.0)) }
     ensures within { IfOk result (λ o. IfSome o (λ r. r.1 ≤ length b.now)) }
 {
     // A change has ten bytes at least: there is room for no more changes than these bytes can be.
-    let mut changes: Vec<Change> = Vec::with_capacity(alloc, (count as usize).min(b.len() / 10))?;
+    let mut changes = Changes::with_room(alloc, (count as usize).min(b.len() / 10), 0)?;
+    let mut row = Record::blank();
     let mut at = 0usize;
     'changes: for _i in 0..count {
-        match push_first(&mut changes, &b[at..])? {
+        match push_first(&mut changes, wide, &b[at..], &mut row)? {
             None => return Ok(None),
             Some(size) => at += size,
         }
@@ -149,27 +213,22 @@ fn first_changes(
     Ok(Some((changes, at)))
 }
 
-fn stands_before(a: &Change, b: &Change) -> bool
-    ensures { result ≡ is_before a.now b.now }
+// Stands the change before this one before it in order?
+fn stands_behind(changes: &Changes, at: usize) -> bool
+    requires some { 0 < at }
+    requires at { at < length changes.now }
+    ensures { result ≡ is_before (change_here changes.now (at - 1)) (change_here changes.now at) }
 {
-    a.relation < b.relation || (a.relation == b.relation && a.key < b.key)
+    let first = changes.relation(at - 1);
+    let second = changes.relation(at);
+    first < second || (first == second && changes.key(at - 1) < changes.key(at))
 }
 
-fn first_stands_before(changes: &[Change]) -> bool
-    ensures { result ≡ first_is_before changes.now }
-{
-    match changes {
-        [] => true,
-        [_] => true,
-        [first, second, ..] => stands_before(first, second),
-    }
-}
-
-fn ascend(changes: &[Change]) -> bool
+fn ascend(changes: &Changes) -> bool
     ensures { result ≡ ascends changes.now }
 {
-    for i in 0..changes.len() {
-        if !first_stands_before(&changes[i..]) {
+    for at in 1..changes.len() {
+        if !stands_behind(changes, at) {
             return false;
         }
     }
@@ -177,9 +236,13 @@ fn ascend(changes: &[Change]) -> bool
 }
 
 // How many bytes there are, and the changes in them.
-fn counted_changes(alloc: Global, b: &[u8]) -> Result<Option<(Vec<Change>, usize)>, AllocError>
-    ensures changes { IfOk result (λ o. option_map (λ r. r.0.items) o ≡ counted_in b.now) }
-    ensures size { IfOk result (λ o. IfSome o (λ r. r.1 ≡ 4 + changes_size r.0.items)) }
+fn counted_changes(
+    alloc: Global,
+    wide: bool,
+    b: &[u8],
+) -> Result<Option<(Changes, usize)>, AllocError>
+    ensures changes { IfOk result (λ o. option_map (λ r. r.0) o ≡ counted_in wide b.now) }
+    ensures size { IfOk result (λ o. IfSome o (λ r. r.1 ≡ 4 + changes_size wide r.0)) }
     ensures within { IfOk result (λ o. IfSome o (λ r. r.1 ≤ length b.now)) }
 {
     let Some(count) = first_u32(b) else {
@@ -188,30 +251,42 @@ fn counted_changes(alloc: Global, b: &[u8]) -> Result<Option<(Vec<Change>, usize
     if count > MOST_CHANGES {
         return Ok(None);
     }
-    match first_changes(alloc, count, &b[4..])? {
+    match first_changes(alloc, wide, count, &b[4..])? {
         None => Ok(None),
         Some((changes, size)) => Ok(Some((changes, 4 + size))),
     }
 }
 
 // The commit of these parts, which have so many bytes.
-fn made_commit(branch: u32, second: Option<VersionPlace>, changes: Vec<Change>) -> Option<Entry>
-    ensures { result ≡ commit_of branch second changes.items }
+fn made_commit(
+    wide: bool,
+    branch: u32,
+    second: Option<VersionPlace>,
+    changes: Changes,
+) -> Option<Entry>
+    ensures { result ≡ commit_of wide branch second changes }
 {
-    let none = second.is_none() && changes.is_empty();
+    let none = second.is_none() && changes.len() == 0;
     if none || !ascend(&changes) {
+        return None;
+    }
+    if wide && !any_text(&changes) {
         return None;
     }
     Some(Entry::Commit {
         branch,
         second,
-        changes: ListOf::of(changes),
+        changes,
     })
 }
 
-// The commit behind its tag, and how many bytes it has there.
-fn first_commit(alloc: Global, b: &[u8]) -> Result<Option<(Entry, usize)>, AllocError>
-    ensures entry { IfOk result (λ o. option_map (λ r. r.0) o ≡ commit_in b.now) }
+// The commit behind its tag, which tells its kind, and how many bytes it has there.
+fn first_commit(
+    alloc: Global,
+    wide: bool,
+    b: &[u8],
+) -> Result<Option<(Entry, usize)>, AllocError>
+    ensures entry { IfOk result (λ o. option_map (λ r. r.0) o ≡ commit_in wide b.now) }
     ensures size { IfOk result (λ o. IfSome o (λ r. 1 + r.1 ≡ entry_size r.0)) }
     ensures within { IfOk result (λ o. IfSome o (λ r. r.1 ≤ length b.now)) }
 {
@@ -222,9 +297,9 @@ fn first_commit(alloc: Global, b: &[u8]) -> Result<Option<(Entry, usize)>, Alloc
         return Ok(None);
     };
     let from = 4 + size_of_second(&second);
-    match counted_changes(alloc, &b[from..])? {
+    match counted_changes(alloc, wide, &b[from..])? {
         None => Ok(None),
-        Some((changes, size)) => match made_commit(branch, second, changes) {
+        Some((changes, size)) => match made_commit(wide, branch, second, changes) {
             None => Ok(None),
             Some(entry) => Ok(Some((entry, from + size))),
         },
@@ -264,8 +339,8 @@ fn first_entry(alloc: Global, b: &[u8]) -> Result<Option<(Entry, usize)>, AllocE
     match b {
         [] => Ok(None),
         [tag, rest @ ..] => {
-            if *tag == 1 {
-                match first_commit(alloc, rest)? {
+            if *tag == 1 || *tag == 3 {
+                match first_commit(alloc, *tag == 3, rest)? {
                     None => return Ok(None),
                     Some((entry, size)) => return Ok(Some((entry, 1 + size))),
                 }

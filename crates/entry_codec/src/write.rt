@@ -1,11 +1,16 @@
 //! The bytes of an entry.
-ghost use Rattle.std.specs.Prelude.{◌≡◌, ◌++◌, ◌∷◌, ◌<◌, ◌^◌, [], ℕ, ℤ, List, length, OnOk, IfOk};
+ghost use Rattle.std.specs.Prelude.{◌≡◌, ◌++◌, ◌∷◌, ◌<◌, ◌^◌, [], true, length, OnOk, IfOk};
+ghost use Rattle.std.specs.List.{AllByRecursion, list_all, list_any};
 ghost use Rattle.std.specs.Int.{w32, w64, to_le_bytes};
-ghost use Rattle.entry_codec.specs.Spelling.{place_bytes, second_bytes, value_bytes, values_bytes, field_count, fields_bytes, change_bytes, changes_bytes, spelling, HasFewChanges};
-ghost use Rattle.entry_codec.specs.Laws.{AreValues, AreValuesIfAny, AreRanged, HasRanges};
+ghost use Rattle.db_value.specs.Value.{IsValue};
+ghost use Rattle.db_value.specs.Widths.{meets};
+ghost use Rattle.db_value.specs.PackedChanges.{change_here};
+ghost use Rattle.entry_codec.specs.Spelling.{place_bytes, second_bytes, is_of_texts, have_texts, any_text, row_form, is_met, change_bytes, changes_bytes, kind_of, spelling, HasFewChanges, HasMetChanges};
+ghost use Rattle.entry_codec.specs.Laws.{AreValuesIfAny, AreRanged, HasRanges};
 ghost use Rattle.db_value.specs.declared.entry.Entry.TheVariants.{Commit, Branch};
 
-use db_value::{Change, Entry, Fields, ListOf, Name, VersionPlace};
+use crate::wide_write::{push_row, push_wide};
+use db_value::{Changes, Entry, Fields, ListOf, Name, Record, VersionPlace, Widths};
 use std::alloc::{AllocError, Global};
 
 /// The bytes of an entry, as a list.
@@ -49,76 +54,159 @@ fn put_second(out: &mut Vec<u8>, second: &Option<VersionPlace>) -> Result<(), Al
     }
 }
 
-fn put_values(out: &mut Vec<u8>, values: &[i64]) -> Result<(), AllocError>
-    ensures ranged { OnOk result (AreValues values.now) }
-    ensures bytes { OnOk result (out.new.items ≡ out.old.items ++ values_bytes values.now) }
+fn is_of_texts(width: u8) -> bool
+    ensures { result ≡ is_of_texts width }
 {
-    for value in values {
-        out.extend_from_slice(&value.to_le_bytes())?;
+    width != 0
+}
+
+// Is one of these columns of texts?
+fn any_of_texts(widths: &[u8]) -> bool
+    ensures { result ≡ list_any is_of_texts widths.now }
+{
+    widths.iter().any(|width| is_of_texts(*width))
+}
+
+// The same of a change, which may have none.
+fn have_texts(widths: &Option<Widths>) -> bool
+    ensures { result ≡ have_texts widths.now }
+{
+    match widths {
+        None => false,
+        Some(widths) => any_of_texts(widths.as_slice()),
     }
+}
+
+/// Has one of the changes a text?
+pub fn any_text(changes: &Changes) -> bool
+    ensures { result ≡ any_text changes.now }
+{
+    for at in 0..changes.len() {
+        if have_texts(&changes.widths(at)) {
+            return true;
+        }
+    }
+    false
+}
+
+// The fields of a row, which meets the widths.
+fn put_fields(
+    out: &mut Vec<u8>,
+    wide: bool,
+    widths: &Widths,
+    fields: &Fields,
+) -> Result<(), AllocError>
+    requires { meets widths.now fields.now ≡ true }
+    ensures bytes { OnOk result (out.new.items ≡ out.old.items ++ row_form wide widths.now fields.now) }
+    ensures are { OnOk result (AllByRecursion IsValue fields.now) }
+{
+    if wide {
+        return push_wide(widths.as_slice(), fields, out);
+    }
+    push_row(widths.as_slice(), fields, out)
+}
+
+// A change that deletes a record.
+fn put_deletion(out: &mut Vec<u8>, relation: u8, key: u64) -> Result<(), AllocError>
+    ensures ranged { OnOk result (key < 2 ^ 64) }
+    ensures bytes { OnOk result (out.new.items
+        ≡ out.old.items ++ relation ∷ (0 ∷ (to_le_bytes w64 key ++ []))) }
+{
+    out.push(relation)?;
+    out.push(0)?;
+    put_u64(out, key)?;
     Ok(())
 }
 
-fn count_of(fields: &Option<Fields>) -> u8
-    ensures { result ≡ field_count fields.now }
+// A change that puts a record, which meets the widths.
+fn put_record(
+    out: &mut Vec<u8>,
+    wide: bool,
+    relation: u8,
+    row: &Record,
+    widths: &Widths,
+) -> Result<(), AllocError>
+    requires { meets widths.now row.now.fields ≡ true }
+    ensures ranged { OnOk result ((row.now.key < 2 ^ 64)
+        × AllByRecursion IsValue row.now.fields) }
+    ensures bytes { OnOk result (out.new.items
+        ≡ out.old.items ++ relation ∷ (length row.now.fields
+        ∷ (to_le_bytes w64 row.now.key ++ row_form wide widths.now row.now.fields))) }
 {
-    match fields {
-        None => 0,
-        Some(fields) => fields.count() as u8,
-    }
+    out.push(relation)?;
+    out.push(row.fields.count() as u8)?;
+    put_u64(out, row.key)?;
+    put_fields(out, wide, widths, &row.fields)?;
+    Ok(())
 }
 
-fn put_fields(out: &mut Vec<u8>, fields: &Option<Fields>) -> Result<(), AllocError>
-    ensures ranged { OnOk result (AreValuesIfAny fields.now) }
-    ensures bytes { OnOk result (out.new.items ≡ out.old.items ++ fields_bytes fields.now) }
+// A change of a list. The row is one to read into.
+fn put_change(
+    out: &mut Vec<u8>,
+    wide: bool,
+    changes: &Changes,
+    at: usize,
+    row: &mut Record,
+) -> Result<(), AllocError>
+    requires at { at < length changes.now }
+    requires met { is_met (change_here changes.now at) ≡ true }
+    ensures ranged { OnOk result (((change_here changes.now at).key < 2 ^ 64)
+        × AreValuesIfAny (change_here changes.now at).fields) }
+    ensures bytes { OnOk result (out.new.items
+        ≡ out.old.items ++ change_bytes wide (change_here changes.now at)) }
 {
-    match fields {
-        None => Ok(()),
-        Some(fields) => {
-            put_values(out, fields.as_slice())?;
+    let relation = changes.relation(at);
+    match changes.widths(at) {
+        None => {
+            put_deletion(out, relation, changes.key(at))?;
+            Ok(())
+        }
+        Some(widths) => {
+            changes.read(at, row);
+            put_record(out, wide, relation, row, &widths)?;
             Ok(())
         }
     }
 }
 
-fn put_change(out: &mut Vec<u8>, change: &Change) -> Result<(), AllocError>
-    ensures ranged { OnOk result ((change.now.key < 2 ^ 64) × AreValuesIfAny change.now.fields) }
-    ensures bytes { OnOk result (out.new.items ≡ out.old.items ++ change_bytes change.now) }
+fn put_changes(out: &mut Vec<u8>, wide: bool, changes: &Changes) -> Result<(), AllocError>
+    requires { list_all is_met changes.now ≡ true }
+    ensures ranged { OnOk result (AreRanged changes.now) }
+    ensures bytes { OnOk result (out.new.items ≡ out.old.items ++ changes_bytes wide changes.now) }
 {
-    out.push(change.relation)?;
-    out.push(count_of(&change.fields))?;
-    put_u64(out, change.key)?;
-    put_fields(out, &change.fields)?;
+    let mut row = Record::blank();
+    for at in 0..changes.len() {
+        put_change(out, wide, changes, at, &mut row)?;
+    }
     Ok(())
 }
 
-fn put_changes(out: &mut Vec<u8>, changes: &[Change]) -> Result<(), AllocError>
-    ensures ranged { OnOk result (AreRanged changes.now) }
-    ensures bytes { OnOk result (out.new.items ≡ out.old.items ++ changes_bytes changes.now) }
+// The kind of a commit.
+fn kind_of(wide: bool) -> u8
+    ensures { result ≡ kind_of wide }
 {
-    for change in changes {
-        put_change(out, change)?;
-    }
-    Ok(())
+    if wide { 3 } else { 1 }
 }
 
 fn put_commit(
     out: &mut Vec<u8>,
     branch: u32,
     second: &Option<VersionPlace>,
-    changes: &[Change],
+    changes: &Changes,
 ) -> Result<(), AllocError>
-    requires { length changes.now < 2 ^ 32 }
+    requires few { length changes.now < 2 ^ 32 }
+    requires met { list_all is_met changes.now ≡ true }
     ensures ranged { OnOk result (AreRanged changes.now) }
     ensures bytes { OnOk result (out.new.items
         ≡ out.old.items ++ spelling (Commit branch second.now changes.now)) }
 {
-    out.reserve(room_of(changes))?;
-    out.push(1)?;
+    let wide = any_text(changes);
+    out.reserve(32 + changes.len() * 26)?;
+    out.push(kind_of(wide))?;
     put_u32(out, branch)?;
     put_second(out, second)?;
     put_u32(out, changes.len() as u32)?;
-    put_changes(out, changes)?;
+    put_changes(out, wide, changes)?;
     Ok(())
 }
 
@@ -133,19 +221,11 @@ fn put_branch(out: &mut Vec<u8>, name: &Name, origin: &VersionPlace) -> Result<(
     Ok(())
 }
 
-// Room for a commit's bytes, if each of its changes has as many as the first.
-fn room_of(changes: &[Change]) -> usize
-    requires { length changes.now < 2 ^ 32 }
-{
-    match changes {
-        [] => 32,
-        [first, ..] => 32 + changes.len() * (10 + 8 * count_of(&first.fields) as usize),
-    }
-}
-
-/// The bytes of an entry that has at most 65,536 changes. Its numbers have the ranges of their types.
+/// The bytes of an entry that has at most 65,536 changes, each of which has fields that meet its widths,
+/// or neither. Its numbers have the ranges of their types.
 pub fn encode(alloc: Global, entry: &Entry) -> Result<EntryBytes, AllocError>
-    requires { HasFewChanges entry.now }
+    requires few { HasFewChanges entry.now }
+    requires met { HasMetChanges entry.now }
     ensures bytes { IfOk result (λ bytes. bytes ≡ spelling entry.now) }
     ensures ranged { OnOk result (HasRanges entry.now) }
 {
@@ -155,7 +235,7 @@ pub fn encode(alloc: Global, entry: &Entry) -> Result<EntryBytes, AllocError>
             branch,
             second,
             changes,
-        } => put_commit(&mut out, *branch, second, changes.as_slice())?,
+        } => put_commit(&mut out, *branch, second, changes)?,
         Entry::Branch { name, origin } => put_branch(&mut out, name, origin)?,
     }
     Ok(ListOf::of(out))

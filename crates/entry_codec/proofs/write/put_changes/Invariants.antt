@@ -4,8 +4,8 @@ use Rattle.entry_codec.specs.Laws.{AreRanged}
 use Rattle.entry_codec.proofs.write.put_changes.Given as goal
 
 -- what was written and what is left, and that all have their range if what is left has
-abbrev pub invariant-loop-change : goal.invariant-loop-change
-invariant-loop-change l = record {
-  bytes : l.out.items ++ changes_bytes (drop l.change-index l.changes) ≡ l.initial.out.items ++ changes_bytes l.changes;
-  ranged : AreRanged (drop l.change-index l.changes) → AreRanged l.changes;
+abbrev pub invariant-loop-at : goal.invariant-loop-at
+invariant-loop-at l = record {
+  bytes : l.out.items ++ changes_bytes l.wide (drop l.at l.changes) ≡ l.initial.out.items ++ changes_bytes l.wide l.changes;
+  ranged : AreRanged (drop l.at l.changes) → AreRanged l.changes;
 }
