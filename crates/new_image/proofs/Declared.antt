@@ -1,21 +1,25 @@
 -- What a text declares is a schema.
-use Rattle.std.proofs.Common.{◌≡◌, ◌⊎◌, inl, inr, ⊎_elim, suc, ℕ, ◌+◌, ◌<◌, ◌≤◌, ◌&&◌, ◌||◌, not, nat_lt, nat_le, cond, codes, Bool, true, false, List, [], ◌∷◌, ◌++◌, length, refl, sym, ◌∙◌, ap, subst, arith, length-append, Option, Some, None, Result, Ok, Err}
+use Rattle.std.proofs.Common.{◌≡◌, ◌⊎◌, inl, inr, ⊎_elim, suc, ℕ, ◌+◌, ◌<◌, ◌≤◌, ◌&&◌, ◌||◌, ◌==◌, not, nat_lt, nat_le, cond, codes, Bool, true, false, List, [], ◌∷◌, ◌++◌, length, map, refl, sym, ◌∙◌, ap, subst, arith, length-append, Option, Some, None, Result, Ok, Err}
 use Rattle.std.proofs.lemmas.Bool.{and_from, and_parts, or_parts}
+use Rattle.std.proofs.lemmas.List.{length-map}
 use Rattle.std.proofs.lemmas.List.Folds.{list_all-append, list_any-append}
 use Rattle.std.specs.List.{list_all, list_any}
 use Rattle.db_value.specs.Text.{same, is_name, lines, words, is_passed_over}
-use Rattle.db_value.specs.Relations.{has_columns}
+use Rattle.db_value.specs.Width.{is_width}
+use Rattle.db_value.specs.Relations.{has_columns, number_column}
+use Rattle.db_value.proofs.SchemaLemmas.{numbers_bound}
 use Rattle.db_value.specs.Schema.{names_from, with_columns, relation_of_words, relation_of as declared_by, is_declared, ended, declared_then, schema_in as schema_from, reading_of, most_relations, with_line}
+use Rattle.db_value.specs.declared.schema.Column.{Column}
 use Rattle.db_value.specs.declared.schema.Relation.{Relation}
 use Rattle.db_value.specs.declared.schema.SchemaFault.{SchemaFault}
 use Rattle.db_value.specs.declared.schema.SchemaFault.TheVariants.{Line, TooMany}
-use Rattle.new_image.specs.Image.{are_distinct, are_apart}
-use Rattle.new_image.specs.Schemas.{IsDeclared, AreNames, AreNamed, IsSchema}
+use Rattle.new_image.specs.Image.{are_distinct, are_apart, names_of}
+use Rattle.new_image.specs.Schemas.{IsDeclared, AreNames, AreNamed, IsSchema, has_numbers}
 use Rattle.new_image.proofs.Images.{same_flip}
 
 -- the relation with this name and these columns
 abbrev relation_of : List ℕ → List (List ℕ) → Relation
-relation_of name columns = record { name = name; columns = columns }
+relation_of name columns = record { name = name; columns = map number_column columns }
 
 cond_some : {T : Type 0} (q : Bool) (o : Option T) (x : T) → cond q o None ≡ Some x → (q ≡ true) × (o ≡ Some x)
 cond_some true o x is = (refl, is)
@@ -85,9 +89,19 @@ names_are (w ∷ ws) seen names is named distinct =
 -- a relation that may stand in a schema
 record IsGood (r : Relation) : Type 0 where
   name : is_name r.name ≡ true
-  columns : AreNames r.columns
+  columns : AreNames (names_of r)
   counted : has_columns r ≡ true
-  distinct : are_distinct r.columns ≡ true
+  distinct : are_distinct (names_of r) ≡ true
+  numbers : has_numbers r ≡ true
+
+-- columns of numbers have the names that they were made with, and width 0
+names_back : (names : List (List ℕ)) → map (λ c. c.name) (map number_column names) ≡ names
+names_back [] = refl
+names_back (n ∷ names) = ap (λ (ns : List (List ℕ)). n ∷ ns) (names_back names)
+
+all_numbers : (names : List (List ℕ)) → list_all (λ c. c.width == 0) (map number_column names) ≡ true
+all_numbers [] = refl
+all_numbers (n ∷ names) = all_numbers names
 
 columns_some : (name : List ℕ) (o : Option (List (List ℕ))) (r : Relation) → with_columns name o ≡ Some r → (names : List (List ℕ)) × (o ≡ Some names) × (relation_of name names ≡ r)
 columns_some name None r is = absurd (cc is)
@@ -102,19 +116,24 @@ relation_is (verb ∷ name ∷ columns) r is =
     let tests = last_three (same verb (codes "relation")) (is_name name) (nat_lt 0 (length columns)) (nat_le (length columns) 15) parts.0 in
     let read = columns_some name (names_from [] columns) r parts.1 in
     let are = names_are columns [] read.0 read.1 tt refl in
-    let long : length read.0 ≡ length columns = omega (arith, are.2) in
+    let made : List Column = map number_column read.0 in
+    let long : length made ≡ length columns = omega (arith, are.2, length-map read.0 number_column) in
+    let back = names_back read.0 in
     subst IsGood read.2 (record {
       name = tests.0;
-      columns = are.0;
-      counted = and_from (nat_lt 0 (length read.0)) (nat_le (length read.0) 15) (ap (λ (n : ℕ). nat_lt 0 n) long ∙ tests.1) (ap (λ (n : ℕ). nat_le n 15) long ∙ tests.2);
-      distinct = are.1;
+      columns = subst AreNames (sym back) are.0;
+      counted = and_from (nat_lt 0 (length made)) (nat_le (length made) 15 && list_all (λ c. is_width c.width) made) (ap (λ (n : ℕ). nat_lt 0 n) long ∙ tests.1)
+          (and_from (nat_le (length made) 15) (list_all (λ c. is_width c.width) made) (ap (λ (n : ℕ). nat_le n 15) long ∙ tests.2) (numbers_bound read.0));
+      distinct = ap are_distinct back ∙ are.1;
+      numbers = all_numbers read.0;
     })
 
 -- relations that may be the first of a schema
 record AreGood (rs : List Relation) : Type 0 where
   few : nat_le (length rs) 8 ≡ true
   counted : list_all has_columns rs ≡ true
-  distinct : list_all (λ r. are_distinct r.columns) rs ≡ true
+  distinct : list_all (λ r. are_distinct (names_of r)) rs ≡ true
+  numbers : list_all has_numbers rs ≡ true
   apart : are_apart rs ≡ true
   named : AreNamed rs
 
@@ -137,7 +156,8 @@ one_more rs r are is room new =
     record {
       few = at_most (length (rs ++ r ∷ [])) (omega (arith, lt, length-append rs (r ∷ [])));
       counted = all_more has_columns rs r are.counted is.counted;
-      distinct = all_more (λ x. are_distinct x.columns) rs r are.distinct is.distinct;
+      distinct = all_more (λ x. are_distinct (names_of x)) rs r are.distinct is.distinct;
+      numbers = all_more has_numbers rs r are.numbers is.numbers;
       apart = apart_more rs r are.apart new;
       named = named_more rs r are.named is;
     }
@@ -154,10 +174,11 @@ ended_is n (r ∷ got) more rs left is are =
     let pair : (r ∷ got, more) ≡ (rs, left) = cc is in
     let all : r ∷ got ≡ rs = ap (λ (p : List Relation × List (List ℕ)). p.0) pair in
     subst IsSchema all (record {
-      counted = and_from (nat_lt 0 (length (r ∷ got)) && nat_le (length (r ∷ got)) 8 && list_all has_columns (r ∷ got)) (are_apart (r ∷ got) && list_all (λ x. are_distinct x.columns) (r ∷ got))
+      counted = and_from (nat_lt 0 (length (r ∷ got)) && nat_le (length (r ∷ got)) 8 && list_all has_columns (r ∷ got)) (are_apart (r ∷ got) && list_all (λ x. are_distinct (names_of x)) (r ∷ got))
           (three (nat_lt 0 (length (r ∷ got))) (nat_le (length (r ∷ got)) 8) (list_all has_columns (r ∷ got)) (some (length got)) are.few are.counted)
-          (and_from (are_apart (r ∷ got)) (list_all (λ x. are_distinct x.columns) (r ∷ got)) are.apart are.distinct);
+          (and_from (are_apart (r ∷ got)) (list_all (λ x. are_distinct (names_of x)) (r ∷ got)) are.apart are.distinct);
       named = are.named;
+      numbers = are.numbers;
     })
   where
     three : (a b c : Bool) → a ≡ true → b ≡ true → c ≡ true → (a && b && c) ≡ true
@@ -197,4 +218,4 @@ with_line_ok (Err fault) z is = absurd (cc is)
 pub declared_is : (rs : List Relation) → IsDeclared rs → IsSchema rs
 declared_is rs is =
     schema_from_is (lines is.0) 1 [] rs is.1 (with_line_ok (reading_of is.0) (rs, is.1) is.2)
-    (record { few = refl; counted = refl; distinct = refl; apart = refl; named = tt })
+    (record { few = refl; counted = refl; distinct = refl; numbers = refl; apart = refl; named = tt })

@@ -3,9 +3,9 @@ ghost use Rattle.std.specs.Prelude.{◌≡◌, ◌++◌, true, IfOk, OnOk};
 ghost use Rattle.std.specs.Int.{w32, to_le_bytes};
 ghost use Rattle.std.specs.List.{list_all};
 ghost use Rattle.db_value.specs.Relations.{has_columns, is_counted};
-ghost use Rattle.new_image.specs.Image.{name_bytes, names_bytes, relation_bytes, relations_bytes, branches_bytes, segment_bytes, segments_bytes, image_of};
+ghost use Rattle.new_image.specs.Image.{name_bytes, column_bytes, columns_bytes, relation_bytes, relations_bytes, branches_bytes, segment_bytes, segments_bytes, image_of};
 
-use db_value::{Name, Relation};
+use db_value::{Column, Name, Relation};
 use std::alloc::{AllocError, Global};
 
 // One segment without records, the head of master, and master's row with one empty delta.
@@ -21,11 +21,19 @@ fn put_name(out: &mut Vec<u8>, name: &Name) -> Result<(), AllocError>
     Ok(())
 }
 
-fn put_names(out: &mut Vec<u8>, names: &[Name]) -> Result<(), AllocError>
-    ensures { OnOk result (out.new.items ≡ out.old.items ++ names_bytes names.now) }
+fn put_column(out: &mut Vec<u8>, column: &Column) -> Result<(), AllocError>
+    ensures { OnOk result (out.new.items ≡ out.old.items ++ column_bytes column.now) }
 {
-    for name in names {
-        put_name(out, name)?;
+    put_name(out, &column.name)?;
+    out.push(column.width)?;
+    Ok(())
+}
+
+fn put_columns(out: &mut Vec<u8>, columns: &[Column]) -> Result<(), AllocError>
+    ensures { OnOk result (out.new.items ≡ out.old.items ++ columns_bytes columns.now) }
+{
+    for column in columns {
+        put_column(out, column)?;
     }
     Ok(())
 }
@@ -37,7 +45,7 @@ fn put_relation(out: &mut Vec<u8>, relation: &Relation) -> Result<(), AllocError
     let columns = relation.columns.as_slice();
     put_name(out, &relation.name)?;
     out.push(columns.len() as u8)?;
-    put_names(out, columns)?;
+    put_columns(out, columns)?;
     Ok(())
 }
 
