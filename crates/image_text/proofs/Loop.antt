@@ -1,10 +1,8 @@
 -- Reading items one after another, as a loop does.
-use Rattle.std.proofs.Common.{◌≡◌, ℕ, zero, suc, ◌-◌, ◌+◌, ◌≤◌, ◌<◌, List, [], ◌∷◌, ◌++◌, length, Result, Ok, Err, refl, sym, ap, ◌∙◌, arith}
-use Rattle.std.proofs.lemmas.List.{length-append}
-use Rattle.db_value.specs.Value.{Value}
+use Rattle.std.proofs.Common.{◌≡◌, ℕ, zero, suc, ◌-◌, ◌+◌, ◌≤◌, ◌<◌, List, Result, Ok, Err, refl, sym, ◌∙◌, arith}
 use Rattle.image_text.specs.declared.image.Stop.{Stop}
 use Rattle.image_text.specs.declared.image.Stop.TheVariants.{Fault, Memory}
-use Rattle.image_text.specs.Reading.{◌>>=◌, Read, Fails, repeat, signed_at, next_value}
+use Rattle.image_text.specs.Reading.{◌>>=◌, Read, Fails, repeat}
 
 pub goes_on : {S : Type 0} (item : S → List ℕ → Read S) (count i : ℕ) (s t : S) (bytes after : List ℕ) (total : Read S) → i < count → item s bytes ≡ Ok (t, after)
     → repeat item (count - i) s bytes ≡ total → repeat item (count - (i + 1)) t after ≡ total
@@ -40,14 +38,3 @@ done x = Ok x
 
 pub ok_is : {A : Type 0} (x y : A) → done x ≡ done y → x ≡ y
 ok_is x y e = cc
-
--- as many values are read as are asked for
-pub values_counted : (k : ℕ) (seen : List Value) (bytes : List ℕ) (out : List Value) (rest : List ℕ) → repeat next_value k seen bytes ≡ Ok (out, rest) → length out ≡ length seen + k
-unfolding repeat
-values_counted zero seen bytes out rest e = let h = ok_is (seen, bytes) (out, rest) e in omega (arith, ap (λ (p : List Value × List ℕ). length p.0) h)
-values_counted (suc k) seen bytes out rest e =
-    let a = bind_ok (next_value seen bytes) (λ x. repeat next_value k x.0 x.1) (out, rest) e in
-    let b = bind_ok (signed_at bytes) (λ v. Ok (seen ++ v.0 ∷ [], v.1)) a.0 a.1 in
-    let h = ok_is (seen ++ b.0.0 ∷ [], b.0.1) a.0 b.2 in
-    let n : length a.0.0 ≡ length seen + 1 = sym (ap (λ (p : List Value × List ℕ). length p.0) h) ∙ length-append seen (b.0.0 ∷ []) in
-    omega (arith, n, values_counted k a.0.0 a.0.1 out rest a.2)

@@ -1,29 +1,31 @@
 -- What is read is spelled so: what each reader takes from the front is the spelling of what it gives.
 use Rattle.std.proofs.Common.{◌≡◌, ℕ, zero, suc, ◌+◌, ◌-◌, ◌^◌, ◌<◌, ◌≤◌, Bool, true, false, cond, ◌&&◌, ◌||◌, not, ltb, List, [], ◌∷◌, ◌++◌, length, take, drop, Option, Some, None, Result, Ok, Err, refl, sym, ap, subst, ◌∙◌, append_assoc, arith, inl, inr}
 use Rattle.std.specs.Prelude.{nat_lt, nat_le, ◌==◌, set}
-use Rattle.std.specs.List.{flat_map, list_any, All}
+use Rattle.std.specs.List.{flat_map, list_all, All}
 use Rattle.std.proofs.lemmas.List.Elements.{All-cons, All-nil}
-use Rattle.std.specs.Int.{Width, w16, w32, w64, byte_len, from_le_bytes, to_le_bytes, cast_signed, cast_unsigned}
+use Rattle.std.specs.Int.{Width, w32, w64, byte_len, from_le_bytes, to_le_bytes}
 use Rattle.std.proofs.lemmas.Bool.{cases_lt, ltb-false, leb-true}
 use Rattle.std.proofs.lemmas.List.{append-nil, take-append-drop, length-take, get_or-drop, get_or-take, get_or_past}
 use Rattle.std.proofs.lemmas.List.Concat.{flat_map-cons}
-use Rattle.std.proofs.lemmas.Nat.{le_bytes_2, le_bytes_4, le_bytes_8}
-use Rattle.std.proofs.lemmas.Int.{of_z-to_z}
-use Rattle.db_value.specs.Text.{same, is_name}
-use Rattle.db_value.specs.Value.{Value}
+use Rattle.std.proofs.lemmas.Nat.{le_bytes_4, le_bytes_8}
+use Rattle.db_value.specs.Text.{is_name}
 use Rattle.db_value.specs.Schema.{is_declared}
-use Rattle.db_value.specs.declared.record.Record.{Record}
+use Rattle.db_value.specs.Width.{is_width}
+use Rattle.db_value.specs.Relations.{has_columns}
+use Rattle.db_value.specs.declared.schema.Column.{Column}
 use Rattle.db_value.specs.declared.schema.Relation.{Relation}
 use Rattle.db_value.specs.declared.version.VersionPlace.{VersionPlace}
+use Rattle.image_text.specs.declared.image.Format.{Format}
+use Rattle.image_text.specs.declared.image.Format.TheVariants.{One, Two}
 use Rattle.image_text.specs.declared.image.BranchPart.{BranchPart}
 use Rattle.image_text.specs.declared.image.MadeVersion.{MadeVersion}
 use Rattle.image_text.specs.declared.image.Delta.{Delta}
 use Rattle.image_text.specs.declared.image.RowPart.{RowPart}
-use Rattle.image_text.specs.Reading.{◌>>=◌, Read, test, enough, repeat, byte_at, number_at, signed_at, name_at, next_name, next_relation, relations_at, next_word, next_delta, spans, are_words, has_turn, is_earlier, is_position, base_of, next_branch, last_of, is_begun, second_at, next_version, next_row, rises, are_blank, next_value, next_record}
-use Rattle.image_text.specs.Spelling.{FitsRelation, FitsRow, counted, name_bytes, relation_bytes, relations_bytes, word_bytes, delta_bytes, branch_bytes, second_bytes, version_bytes, row_bytes, value_bytes, record_bytes}
+use Rattle.image_text.specs.Reading.{◌>>=◌, Read, test, enough, repeat, byte_at, number_at, name_at, width_at, has_column, next_column, next_relation, relations_at, next_word, next_delta, spans, are_words, has_turn, is_earlier, is_position, base_of, next_branch, last_of, is_begun, second_at, next_version, next_row, rises, are_blank}
+use Rattle.image_text.specs.Spelling.{FitsRelation, FitsRow, counted, name_bytes, width_bytes, column_bytes, relation_bytes, relations_bytes, word_bytes, delta_bytes, branch_bytes, second_bytes, version_bytes, row_bytes}
 use Rattle.image_text.specs.Laws.{IsBytes}
 use Rattle.image_text.proofs.Loop.{bind_ok, ok_is}
-use Rattle.image_text.proofs.Counted.{tested, both_true}
+use Rattle.image_text.proofs.Counted.{tested, both_true, columns_wide}
 
 -- a text is taken from the front
 pub record Takes (bytes text rest : List ℕ) : Type 0 where
@@ -38,8 +40,8 @@ TakesOne {A} P spell seen bytes x = (a : A) × (x.0 ≡ seen ++ a ∷ []) × Tak
 abbrev pub Always : {A : Type 0} → A → Type 0
 Always a = Unit {0}
 
-abbrev pub IsShort : List ℕ → Type 0
-IsShort name = length name ≤ 32
+abbrev pub IsShort : Column → Type 0
+IsShort c = length c.name ≤ 32
 
 abbrev pub FitsDelta : Delta → Type 0
 FitsDelta d = length d.words < 2 ^ 32
@@ -86,12 +88,6 @@ repeat_takes P spell item one (suc k) s b x fits e =
 pub record IsWide (w : Width) (limit : ℕ) : Type 0 where
   pub back : (bytes : List ℕ) → length bytes ≡ byte_len w → IsBytes bytes → to_le_bytes w (from_le_bytes w bytes) ≡ bytes
   pub below : (bytes : List ℕ) → IsBytes bytes → from_le_bytes w bytes < limit
-
-pub wide16 : IsWide w16 (2 ^ 16)
-wide16 = record {
-  back = λ bytes len fits. le_bytes_2 bytes _ len fits refl;
-  below = λ bytes fits. omega (arith, fits 0, fits 1);
-}
 
 pub wide32 : IsWide w32 (2 ^ 32)
 wide32 = record {
@@ -145,13 +141,25 @@ name_takes bytes x fits e =
     let few : n.0.0 ≤ 32 = leb-true n.0.0 32 (both_true (nat_lt 0 n.0.0) (nat_le n.0.0 32) (tested _ bytes c.0 c.1)).1 in
     subst (λ (y : List ℕ × List ℕ). Takes bytes (name_bytes y.0) y.1 × (length y.0 ≤ 32)) h (subst (λ (k : ℕ). Takes bytes (k ∷ take n.0.0 n.0.1) (drop n.0.0 n.0.1)) (sym len) both, omega (arith, len, few))
 
-pub next_name_takes : (s : List (List ℕ)) (b : List ℕ) (x : List (List ℕ) × List ℕ) → IsBytes b → next_name s b ≡ Ok x → TakesOne IsShort name_bytes s b x
-unfolding next_name
-next_name_takes s b x fits e =
-    let n = bind_ok (name_at b) (λ n. test (not (list_any (same n.0) s)) b >>= λ u. Ok (s ++ n.0 ∷ [], n.1)) x e in
-    let f = bind_ok (test (not (list_any (same n.0.0) s)) b) (λ u. Ok (s ++ n.0.0 ∷ [], n.0.1)) x n.2 in
-    let t = name_takes b n.0 fits n.1 in
-    subst (λ y. TakesOne IsShort name_bytes s b y) (ok_is (s ++ n.0.0 ∷ [], n.0.1) x f.2) (n.0.0, refl, t.0, t.1)
+pub width_takes : (format : Format) (b : List ℕ) (x : ℕ × List ℕ) → IsBytes b → width_at format b ≡ Ok x → Takes b (width_bytes format x.0) x.1
+unfolding width_at
+width_takes One b x fits e = subst (λ (y : ℕ × List ℕ). Takes b [] y.1) (ok_is (0, b) x e) (record { parts = refl; rest_fits = fits })
+width_takes Two b x fits e =
+    let w = bind_ok (byte_at b) (λ w. test (w.0 == 0) b >>= λ u. Ok (w.0, w.1)) x e in
+    let u = bind_ok (test (w.0.0 == 0) b) (λ u. Ok (w.0.0, w.0.1)) x w.2 in
+    subst (λ (y : ℕ × List ℕ). Takes b (y.0 ∷ []) y.1) (ok_is (w.0.0, w.0.1) x u.2) (byte_takes b w.0 fits w.1)
+
+pub next_column_takes : (format : Format) (s : List Column) (b : List ℕ) (x : List Column × List ℕ) → IsBytes b → next_column format s b ≡ Ok x → TakesOne IsShort (column_bytes format) s b x
+unfolding next_column
+next_column_takes format s b x fits e =
+    let n = bind_ok (name_at b) (λ n. test (not (has_column s n.0)) b >>= λ u. width_at format n.1 >>= λ w. Ok (s ++ record { name = n.0; width = w.0 } ∷ [], w.1)) x e in
+    let u = bind_ok (test (not (has_column s n.0.0)) b) (λ u. width_at format n.0.1 >>= λ w. Ok (s ++ record { name = n.0.0; width = w.0 } ∷ [], w.1)) x n.2 in
+    let w = bind_ok (width_at format n.0.1) (λ w. Ok (s ++ record { name = n.0.0; width = w.0 } ∷ [], w.1)) x u.2 in
+    let named = name_takes b n.0 fits n.1 in
+    let t0 = named.0 in
+    let t1 = width_takes format n.0.1 w.0 t0.rest_fits w.1 in
+    let whole = Takes-then b (name_bytes n.0.0) n.0.1 (width_bytes format w.0.0) w.0.1 t0 t1 in
+    subst (λ (y : List Column × List ℕ). TakesOne IsShort (column_bytes format) s b y) (ok_is (s ++ record { name = n.0.0; width = w.0.0 } ∷ [], w.0.1) x w.2) (record { name = n.0.0; width = w.0.0 }, refl, whole, named.1)
 
 -- ---- deltas
 
@@ -185,35 +193,37 @@ next_delta_takes size s b x fits e =
 pub from_none : {A : Type 0} (P : A → Type 0) (spell : A → List ℕ) (k : ℕ) (b : List ℕ) (x : List A × List ℕ) → TakesAll P spell k [] b x → (length x.0 ≡ k) × Takes b (flat_map spell x.0) x.1 × All P x.0
 from_none {A} P spell k b x t = subst (λ l. (length l ≡ k) × Takes b (flat_map spell l) x.1 × All P l) (sym t.1) (t.2, t.3, t.4)
 
-pub next_relation_takes : (s : List Relation) (b : List ℕ) (x : List Relation × List ℕ) → IsBytes b → next_relation s b ≡ Ok x → TakesOne FitsRelation relation_bytes s b x
+pub next_relation_takes : (format : Format) (s : List Relation) (b : List ℕ) (x : List Relation × List ℕ) → IsBytes b → next_relation format s b ≡ Ok x → TakesOne FitsRelation (relation_bytes format) s b x
 unfolding next_relation
-next_relation_takes s b x fits e =
-    let m = bind_ok (name_at b) (λ name. test (not (is_declared s name.0)) b >>= λ u. byte_at name.1 >>= λ n. test (nat_lt 0 n.0 && nat_le n.0 15) name.1 >>= λ v. repeat next_name n.0 [] n.1 >>= λ columns. Ok (s ++ record { name = name.0; columns = columns.0 } ∷ [], columns.1)) x e in
-    let f = bind_ok (test (not (is_declared s m.0.0)) b) (λ u. byte_at m.0.1 >>= λ n. test (nat_lt 0 n.0 && nat_le n.0 15) m.0.1 >>= λ v. repeat next_name n.0 [] n.1 >>= λ columns. Ok (s ++ record { name = m.0.0; columns = columns.0 } ∷ [], columns.1)) x m.2 in
-    let n = bind_ok (byte_at m.0.1) (λ n. test (nat_lt 0 n.0 && nat_le n.0 15) m.0.1 >>= λ v. repeat next_name n.0 [] n.1 >>= λ columns. Ok (s ++ record { name = m.0.0; columns = columns.0 } ∷ [], columns.1)) x f.2 in
-    let g = bind_ok (test (nat_lt 0 n.0.0 && nat_le n.0.0 15) m.0.1) (λ v. repeat next_name n.0.0 [] n.0.1 >>= λ columns. Ok (s ++ record { name = m.0.0; columns = columns.0 } ∷ [], columns.1)) x n.2 in
-    let c = bind_ok (repeat next_name n.0.0 [] n.0.1) (λ columns. Ok (s ++ record { name = m.0.0; columns = columns.0 } ∷ [], columns.1)) x g.2 in
+next_relation_takes format s b x fits e =
+    let m = bind_ok (name_at b) (λ name. test (not (is_declared s name.0)) b >>= λ u. byte_at name.1 >>= λ n. test (nat_lt 0 n.0 && nat_le n.0 15) name.1 >>= λ v. repeat (next_column format) n.0 [] n.1 >>= λ columns. Ok (s ++ record { name = name.0; columns = columns.0 } ∷ [], columns.1)) x e in
+    let f = bind_ok (test (not (is_declared s m.0.0)) b) (λ u. byte_at m.0.1 >>= λ n. test (nat_lt 0 n.0 && nat_le n.0 15) m.0.1 >>= λ v. repeat (next_column format) n.0 [] n.1 >>= λ columns. Ok (s ++ record { name = m.0.0; columns = columns.0 } ∷ [], columns.1)) x m.2 in
+    let n = bind_ok (byte_at m.0.1) (λ n. test (nat_lt 0 n.0 && nat_le n.0 15) m.0.1 >>= λ v. repeat (next_column format) n.0 [] n.1 >>= λ columns. Ok (s ++ record { name = m.0.0; columns = columns.0 } ∷ [], columns.1)) x f.2 in
+    let g = bind_ok (test (nat_lt 0 n.0.0 && nat_le n.0.0 15) m.0.1) (λ v. repeat (next_column format) n.0.0 [] n.0.1 >>= λ columns. Ok (s ++ record { name = m.0.0; columns = columns.0 } ∷ [], columns.1)) x n.2 in
+    let c = bind_ok (repeat (next_column format) n.0.0 [] n.0.1) (λ columns. Ok (s ++ record { name = m.0.0; columns = columns.0 } ∷ [], columns.1)) x g.2 in
     let named = name_takes b m.0 fits m.1 in
     let t0 = named.0 in
     let t1 = byte_takes m.0.1 n.0 t0.rest_fits n.1 in
-    let t2 = from_none IsShort name_bytes n.0.0 n.0.1 c.0 (repeat_takes IsShort name_bytes next_name next_name_takes n.0.0 [] n.0.1 c.0 t1.rest_fits c.1) in
-    let e12 = Takes-then m.0.1 (n.0.0 ∷ []) n.0.1 (flat_map name_bytes c.0.0) c.0.1 t1 t2.1 in
-    let counted12 : Takes m.0.1 (length c.0.0 ∷ flat_map name_bytes c.0.0) c.0.1 = subst (λ k. Takes m.0.1 (k ∷ flat_map name_bytes c.0.0) c.0.1) (sym t2.0) e12 in
-    let whole = Takes-then b (name_bytes m.0.0) m.0.1 (length c.0.0 ∷ flat_map name_bytes c.0.0) c.0.1 t0 counted12 in
-    let few : n.0.0 ≤ 15 = leb-true n.0.0 15 (both_true (nat_lt 0 n.0.0) (nat_le n.0.0 15) (tested _ m.0.1 g.0 g.1)).1 in
-    subst (λ y. TakesOne FitsRelation relation_bytes s b y) (ok_is (s ++ record { name = m.0.0; columns = c.0.0 } ∷ [], c.0.1) x c.2)
-    (record { name = m.0.0; columns = c.0.0 }, refl, whole, record { name = named.1; few = omega (arith, few, t2.0); columns = t2.2 })
+    let t2 = from_none IsShort (column_bytes format) n.0.0 n.0.1 c.0 (repeat_takes IsShort (column_bytes format) (next_column format) (next_column_takes format) n.0.0 [] n.0.1 c.0 t1.rest_fits c.1) in
+    let e12 = Takes-then m.0.1 (n.0.0 ∷ []) n.0.1 (flat_map (column_bytes format) c.0.0) c.0.1 t1 t2.1 in
+    let counted12 : Takes m.0.1 (length c.0.0 ∷ flat_map (column_bytes format) c.0.0) c.0.1 = subst (λ k. Takes m.0.1 (k ∷ flat_map (column_bytes format) c.0.0) c.0.1) (sym t2.0) e12 in
+    let whole = Takes-then b (name_bytes m.0.0) m.0.1 (length c.0.0 ∷ flat_map (column_bytes format) c.0.0) c.0.1 t0 counted12 in
+    let counts = both_true (nat_lt 0 n.0.0) (nat_le n.0.0 15) (tested _ m.0.1 g.0 g.1) in
+    let wide : list_all (λ c. is_width c.width) c.0.0 ≡ true = columns_wide format n.0.0 [] n.0.1 c.0 refl c.1 in
+    let has : has_columns (record { name = m.0.0; columns = c.0.0 }) ≡ true = rw (t2.0, counts.0, counts.1, wide) refl in
+    subst (λ y. TakesOne FitsRelation (relation_bytes format) s b y) (ok_is (s ++ record { name = m.0.0; columns = c.0.0 } ∷ [], c.0.1) x c.2)
+    (record { name = m.0.0; columns = c.0.0 }, refl, whole, record { name = named.1; has = has; columns = t2.2 })
 
-pub relations_take : (b : List ℕ) (x : List Relation × List ℕ) → IsBytes b → relations_at b ≡ Ok x → Takes b (relations_bytes x.0) x.1 × (length x.0 ≤ 8) × All FitsRelation x.0
+pub relations_take : (format : Format) (b : List ℕ) (x : List Relation × List ℕ) → IsBytes b → relations_at format b ≡ Ok x → Takes b (relations_bytes format x.0) x.1 × (length x.0 ≤ 8) × All FitsRelation x.0
 unfolding relations_at
-relations_take b x fits e =
-    let n = bind_ok (byte_at b) (λ n. test (nat_lt 0 n.0 && nat_le n.0 8) b >>= λ u. repeat next_relation n.0 [] n.1) x e in
-    let g = bind_ok (test (nat_lt 0 n.0.0 && nat_le n.0.0 8) b) (λ u. repeat next_relation n.0.0 [] n.0.1) x n.2 in
+relations_take format b x fits e =
+    let n = bind_ok (byte_at b) (λ n. test (nat_lt 0 n.0 && nat_le n.0 8) b >>= λ u. repeat (next_relation format) n.0 [] n.1) x e in
+    let g = bind_ok (test (nat_lt 0 n.0.0 && nat_le n.0.0 8) b) (λ u. repeat (next_relation format) n.0.0 [] n.0.1) x n.2 in
     let t0 = byte_takes b n.0 fits n.1 in
-    let t1 = from_none FitsRelation relation_bytes n.0.0 n.0.1 x (repeat_takes FitsRelation relation_bytes next_relation next_relation_takes n.0.0 [] n.0.1 x t0.rest_fits g.2) in
-    let both = Takes-then b (n.0.0 ∷ []) n.0.1 (flat_map relation_bytes x.0) x.1 t0 t1.1 in
+    let t1 = from_none FitsRelation (relation_bytes format) n.0.0 n.0.1 x (repeat_takes FitsRelation (relation_bytes format) (next_relation format) (next_relation_takes format) n.0.0 [] n.0.1 x t0.rest_fits g.2) in
+    let both = Takes-then b (n.0.0 ∷ []) n.0.1 (flat_map (relation_bytes format) x.0) x.1 t0 t1.1 in
     let few : n.0.0 ≤ 8 = leb-true n.0.0 8 (both_true (nat_lt 0 n.0.0) (nat_le n.0.0 8) (tested _ b g.0 g.1)).1 in
-    (subst (λ k. Takes b (k ∷ flat_map relation_bytes x.0) x.1) (sym t1.0) both, omega (arith, few, t1.0), t1.2)
+    (subst (λ k. Takes b (k ∷ flat_map (relation_bytes format) x.0) x.1) (sym t1.0) both, omega (arith, few, t1.0), t1.2)
 
 -- ---- versions
 
@@ -306,32 +316,3 @@ next_row_takes lasts size s b x fits e =
     let t3 = repeat_takes FitsDelta delta_bytes (next_delta size) (next_delta_takes size) (last_of lasts n.0.0 - f.0.0) d.0.0 d.0.1 ds.0 t2.2.rest_fits ds.1 in
     subst (λ (y : List RowPart × List ℕ). TakesOne FitsRow row_bytes s b y) (ok_is (s ++ record { branch = n.0.0; from = f.0.0; deltas = ds.0.0 } ∷ [], ds.0.1) x ds.2)
     (row_text s b n.0.1 f.0.1 d.0.1 ds.0.1 n.0.0 f.0.0 (last_of lasts n.0.0 - f.0.0) d.0.0 ds.0.0 t0 t1 t2 t3)
-
--- ---- records
-
-signed_takes : (b : List ℕ) (x : Value × List ℕ) → IsBytes b → signed_at b ≡ Ok x → Takes b (value_bytes x.0) x.1
-unfolding value_bytes
-signed_takes b x fits e =
-    let g = short_ok (ltb (length b) 8) (cast_signed w64 (from_le_bytes w64 (take 8 b)), drop 8 b) x e in
-    let long : 8 ≤ length b = ltb-false _ _ g.0 in
-    let below : from_le_bytes w64 (take 8 b) < 2 ^ 64 = wide64.below (take 8 b) (IsBytes-take 8 b fits) in
-    let same_number : cast_unsigned w64 (cast_signed w64 (from_le_bytes w64 (take 8 b))) ≡ from_le_bytes w64 (take 8 b) = of_z-to_z w64 (from_le_bytes w64 (take 8 b)) below in
-    let front : to_le_bytes w64 (from_le_bytes w64 (take 8 b)) ≡ take 8 b = wide64.back (take 8 b) (omega (arith, length-take 8 b)) (IsBytes-take 8 b fits) in
-    let text : value_bytes (cast_signed w64 (from_le_bytes w64 (take 8 b))) ≡ take 8 b = ap (λ (k : ℕ). to_le_bytes w64 k) same_number ∙ front in
-    let parts : b ≡ value_bytes (cast_signed w64 (from_le_bytes w64 (take 8 b))) ++ drop 8 b = sym (ap (λ (t : List ℕ). t ++ drop 8 b) text ∙ take-append-drop 8 b) in
-    subst (λ (y : Value × List ℕ). Takes b (value_bytes y.0) y.1) g.1 (record { parts = parts; rest_fits = IsBytes-drop 8 b fits })
-
-pub next_value_takes : (s : List Value) (b : List ℕ) (x : List Value × List ℕ) → IsBytes b → next_value s b ≡ Ok x → TakesOne Always value_bytes s b x
-next_value_takes s b x fits e =
-    let v = bind_ok (signed_at b) (λ v. Ok (s ++ v.0 ∷ [], v.1)) x e in
-    subst (λ (y : List Value × List ℕ). TakesOne Always value_bytes s b y) (ok_is (s ++ v.0.0 ∷ [], v.0.1) x v.2) (v.0.0, refl, signed_takes b v.0 fits v.1, tt)
-
-pub next_record_takes : (columns : ℕ) (s : List Record) (b : List ℕ) (x : List Record × List ℕ) → IsBytes b → next_record columns s b ≡ Ok x → TakesOne Always record_bytes s b x
-unfolding next_record
-next_record_takes columns s b x fits e =
-    let key = bind_ok (number_at w64 b) (λ key. repeat next_value columns [] key.1 >>= λ fields. Ok (s ++ record { key = key.0; fields = fields.0 } ∷ [], fields.1)) x e in
-    let f = bind_ok (repeat next_value columns [] key.0.1) (λ fields. Ok (s ++ record { key = key.0.0; fields = fields.0 } ∷ [], fields.1)) x key.2 in
-    let t0 = (number_takes w64 (2 ^ 64) wide64 b key.0 fits key.1).0 in
-    let t1 = from_none Always value_bytes columns key.0.1 f.0 (repeat_takes Always value_bytes next_value next_value_takes columns [] key.0.1 f.0 t0.rest_fits f.1) in
-    let whole = Takes-then b (to_le_bytes w64 key.0.0) key.0.1 (flat_map value_bytes f.0.0) f.0.1 t0 t1.1 in
-    subst (λ (y : List Record × List ℕ). TakesOne Always record_bytes s b y) (ok_is (s ++ record { key = key.0.0; fields = f.0.0 } ∷ [], f.0.1) x f.2) (record { key = key.0.0; fields = f.0.0 }, refl, whole, tt)

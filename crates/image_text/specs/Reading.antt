@@ -1,15 +1,18 @@
--- The grammar of an image: what bytes are read as from left to right, or where the first fault is.
+-- The grammar of an image in either format: what bytes are read as from left to right, or where the first fault is.
 use Rattle.std.specs.Prelude.{◌≡◌, ℕ, zero, suc, ◌+◌, ◌-◌, ◌*◌, ◌/◌, ◌%◌, ◌^◌, ◌==◌, ◌&&◌, ◌||◌, not, nat_lt, nat_le, cond, Bool, true, List, [], ◌∷◌, ◌++◌, length, take, drop, set, codes, replicate, Option, Some, None, Result, Ok, Err}
 use Rattle.std.specs.List.{list_any, list_all}
-use Rattle.std.specs.Int.{Width, w16, w32, w64, byte_len, from_le_bytes, cast_signed}
+use Rattle.std.specs.Int.{Width, w32, w64, byte_len, from_le_bytes}
 use Rattle.std.proofs.Common.{get_or}
 use Rattle.db_value.specs.Text.{same, is_name}
 use Rattle.db_value.specs.Schema.{is_declared}
-use Rattle.db_value.specs.Relations.{columns_at}
-use Rattle.db_value.specs.Value.{Value}
+use Rattle.db_value.specs.Relations.{widths_at}
 use Rattle.db_value.specs.declared.record.Record.{Record}
+use Rattle.db_value.specs.declared.schema.Column.{Column}
 use Rattle.db_value.specs.declared.schema.Relation.{Relation}
 use Rattle.db_value.specs.declared.version.VersionPlace.{VersionPlace}
+use Rattle.record_page.specs.Page.{capacity, is_page, rows_in}
+use Rattle.image_text.specs.declared.image.Format.{Format}
+use Rattle.image_text.specs.declared.image.Format.TheVariants.{One, Two}
 use Rattle.image_text.specs.declared.image.BranchPart.{BranchPart}
 use Rattle.image_text.specs.declared.image.MadeVersion.{MadeVersion}
 use Rattle.image_text.specs.declared.image.Delta.{Delta}
@@ -65,10 +68,6 @@ byte_at (b ∷ bs) = Ok (b, bs)
 abbrev pub number_at : Width → List ℕ → Read ℕ
 number_at w bytes = cond (nat_lt (length bytes) (byte_len w)) (Err 0) (Ok (from_le_bytes w (take (byte_len w) bytes), drop (byte_len w) bytes))
 
--- a number with a sign
-abbrev pub signed_at : List ℕ → Read Value
-signed_at bytes = cond (nat_lt (length bytes) 8) (Err 0) (Ok (cast_signed w64 (from_le_bytes w64 (take 8 bytes)), drop 8 bytes))
-
 -- ---- relations
 
 -- a length of 1 to 32, and a name of so many bytes
@@ -80,29 +79,42 @@ name_at bytes = do
   named ← test (is_name (take n.0 n.1)) bytes
   Ok (take n.0 n.1, drop n.0 n.1)
 
--- one name more, which none of those before it is
-unfoldable pub next_name : List (List ℕ) → List ℕ → Read (List (List ℕ))
-next_name seen bytes = do
+-- the width of a column: none stands in format one, and in format two a 0
+unfoldable pub width_at : Format → List ℕ → Read ℕ
+width_at One bytes = Ok (0, bytes)
+width_at Two bytes = do
+  w ← byte_at bytes
+  number ← test (w.0 == 0) bytes
+  Ok (w.0, w.1)
+
+-- a column before has the name
+abbrev pub has_column : List Column → List ℕ → Bool
+has_column seen name = list_any (λ c. same c.name name) seen
+
+-- one column more: a name that none of those before it has, and its width
+unfoldable pub next_column : Format → List Column → List ℕ → Read (List Column)
+next_column format seen bytes = do
   n ← name_at bytes
-  fresh ← test (not (list_any (same n.0) seen)) bytes
-  Ok (seen ++ n.0 ∷ [], n.1)
+  fresh ← test (not (has_column seen n.0)) bytes
+  w ← width_at format n.1
+  Ok (seen ++ record { name = n.0; width = w.0 } ∷ [], w.1)
 
 -- a name, and one to 15 columns
-unfoldable pub next_relation : List Relation → List ℕ → Read (List Relation)
-next_relation seen bytes = do
+unfoldable pub next_relation : Format → List Relation → List ℕ → Read (List Relation)
+next_relation format seen bytes = do
   name ← name_at bytes
   fresh ← test (not (is_declared seen name.0)) bytes
   n ← byte_at name.1
   counted ← test (nat_lt 0 n.0 && nat_le n.0 15) name.1
-  columns ← repeat next_name n.0 [] n.1
+  columns ← repeat (next_column format) n.0 [] n.1
   Ok (seen ++ record { name = name.0; columns = columns.0 } ∷ [], columns.1)
 
 -- one to 8 relations
-unfoldable pub relations_at : List ℕ → Read (List Relation)
-relations_at bytes = do
+unfoldable pub relations_at : Format → List ℕ → Read (List Relation)
+relations_at format bytes = do
   n ← byte_at bytes
   counted ← test (nat_lt 0 n.0 && nat_le n.0 8) bytes
-  repeat next_relation n.0 [] n.1
+  repeat (next_relation format) n.0 [] n.1
 
 -- ---- branches
 
@@ -193,59 +205,24 @@ versions_at bases bytes = do
 
 -- ---- pages
 
--- one value more
-abbrev pub next_value : List Value → List ℕ → Read (List Value)
-next_value seen bytes = do
-  v ← signed_at bytes
-  Ok (seen ++ v.0 ∷ [], v.1)
-
--- one record more: its key, and so many fields
-unfoldable pub next_record : ℕ → List Record → List ℕ → Read (List Record)
-next_record columns seen bytes = do
-  key ← number_at w64 bytes
-  fields ← repeat next_value columns [] key.1
-  Ok (seen ++ record { key = key.0; fields = fields.0 } ∷ [], fields.1)
-
--- no byte is anything but zero
-abbrev pub are_zero : List ℕ → Bool
-are_zero bytes = list_all (λ b. b == 0) bytes
-
--- so many records with so many fields each, as a page has them
-unfoldable pub page_in : ℕ → ℕ → List Record → List ℕ → Read (List Record)
-page_in columns count seen bytes = do
-  n ← number_at w16 bytes
-  counted ← test (n.0 == count) bytes
-  f ← byte_at n.1
-  fields ← test (f.0 == columns) n.1
-  there ← enough 13 f.1
-  blank ← test (are_zero (take 13 f.1)) f.1
-  rows ← repeat (next_record columns) count seen (drop 13 f.1)
-  ended ← test (are_zero rows.1) rows.1
-  Ok (rows.0, [])
-
--- the whole page is at fault
-abbrev pub at_fault : {A : Type 0} → List ℕ → List ℕ → Read A → Read A
-at_fault bytes rest (Ok x) = Ok (x.0, rest)
-at_fault bytes rest (Err e) = Err (length bytes)
-
--- how many records a page holds: 4,080 bytes, 8 for the key and for each field
-abbrev pub capacity : ℕ → ℕ
-capacity columns = 4080 / (8 * (columns + 1))
-
 -- how many of those that are still to come stand on the next page
-abbrev pub on_page : ℕ → ℕ → ℕ
-on_page columns more = cond (nat_lt more (capacity columns)) more (capacity columns)
+abbrev pub on_page : List ℕ → ℕ → ℕ
+on_page ws more = cond (nat_lt more (capacity ws)) more (capacity ws)
+
+-- a page of these widths that has so many records
+abbrev pub is_page_of : List ℕ → ℕ → List ℕ → Bool
+is_page_of ws count bytes = is_page ws bytes && (length (rows_in ws bytes).records == count)
 
 -- a page with the next records, where so many are still to come
-unfoldable pub next_page : ℕ → ℕ × List Record → List ℕ → Read (ℕ × List Record)
-next_page columns seen bytes = do
+unfoldable pub next_page : List ℕ → ℕ × List Record → List ℕ → Read (ℕ × List Record)
+next_page ws seen bytes = do
   there ← enough 4096 bytes
-  rows ← at_fault bytes (drop 4096 bytes) (page_in columns (on_page columns seen.0) seen.1 (take 4096 bytes))
-  Ok ((seen.0 - on_page columns seen.0, rows.0), rows.1)
+  page ← test (is_page_of ws (on_page ws seen.0) (take 4096 bytes)) bytes
+  Ok ((seen.0 - on_page ws seen.0, seen.1 ++ (rows_in ws (take 4096 bytes)).records), drop 4096 bytes)
 
 -- how many pages so many records stand on
-abbrev pub pages_for : ℕ → ℕ → ℕ
-pages_for columns count = (count + (capacity columns - 1)) / capacity columns
+abbrev pub pages_for : List ℕ → ℕ → ℕ
+pages_for ws count = (count + (capacity ws - 1)) / capacity ws
 
 -- ---- rows
 
@@ -312,13 +289,13 @@ has_room lasts zero count = true
 has_room lasts (suc b) count = nat_le count (65536 * last_of lasts b)
 
 -- a segment: whose head it is, its records on pages, and at most one row for each branch
-unfoldable pub next_segment : ℕ → List ℕ → List SegmentPart → List ℕ → Read (List SegmentPart)
-next_segment columns lasts seen bytes = do
+unfoldable pub next_segment : List ℕ → List ℕ → List SegmentPart → List ℕ → Read (List SegmentPart)
+next_segment ws lasts seen bytes = do
   h ← number_at w32 bytes
   head ← test (nat_le h.0 (length lasts)) bytes
   n ← number_at w32 h.1
   few ← test (has_room lasts h.0 n.0) h.1
-  p ← repeat (next_page columns) (pages_for columns n.0) (n.0, []) n.1
+  p ← repeat (next_page ws) (pages_for ws n.0) (n.0, []) n.1
   k ← number_at w32 p.1
   rows_few ← test (nat_le k.0 (length lasts)) p.1
   rows ← repeat (next_row lasts n.0) k.0 [] k.1
@@ -329,15 +306,15 @@ unfoldable pub next_segments : List Relation → List ℕ → List (List Segment
 next_segments relations lasts seen bytes = do
   n ← number_at w32 bytes
   few ← test (nat_lt n.0 (2 * length lasts)) bytes
-  ss ← repeat (next_segment (length (columns_at relations (length seen))) lasts) n.0 [] n.1
+  ss ← repeat (next_segment (widths_at relations (length seen)) lasts) n.0 [] n.1
   Ok (seen ++ ss.0 ∷ [], ss.1)
 
 -- ---- the parts, with what the rules over the whole want to know, and no bytes behind them
 
 -- relations, branches, versions and segments, with the last position of each branch
-unfoldable pub parts_at : List ℕ → Result (Image × List ℕ) ℕ
-parts_at bytes = do
-  relations ← relations_at bytes
+unfoldable pub parts_at : Format → List ℕ → Result (Image × List ℕ) ℕ
+parts_at format bytes = do
+  relations ← relations_at format bytes
   branches ← branches_at relations.1
   versions ← versions_at branches.0.1 branches.1
   segments ← repeat (next_segments relations.0 versions.0.0) (length relations.0) [] versions.1

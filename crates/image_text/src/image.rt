@@ -6,6 +6,14 @@ use crate::records::PagedRecords;
 use db_value::{ListOf, Name, Relation, VersionPlace};
 use std::alloc::{AllocError, AllocFailed};
 
+/// The format of an image, which the file's name tells. An image in format one has columns of numbers
+/// alone, and no widths.
+#[derive(Clone, Copy)]
+pub enum Format {
+    One,
+    Two,
+}
+
 /// A branch: its name, and the version from which it was made.
 #[derive(Clone, Copy)]
 pub struct BranchPart {

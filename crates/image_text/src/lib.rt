@@ -1,6 +1,6 @@
 //! The text of an image of a dataset: its grammar, its one spelling, and how its parts are read.
 //!
-//! The layer above relies on one statement: `parts` gives what the grammar makes of the bytes, or
+//! The layer above relies on one statement: `parts` gives what the grammar of a format makes of the bytes, or
 //! how many bytes are left at the first fault (`parts_at` in `specs/Reading.antt`). What is read
 //! stands in its one spelling (`spelling` in `specs/Spelling.antt`).
 //!
@@ -8,7 +8,7 @@
 //! |---|---|
 //! | `specs/Reading.antt` | the grammar: what bytes are read as, or where the first fault is |
 //! | `specs/Spelling.antt` | the one spelling of each image |
-//! | `src/image.rt` | the parts of an image |
+//! | `src/image.rt` | the parts of an image, and its two formats |
 //! | `src/numbers.rt` | a reader, and how it reads numbers |
 //! | `src/names.rt`, `src/versions.rt` | how relations, branches and versions are read |
 //! | `src/records.rt` | the records of a segment, on its pages |
@@ -27,7 +27,7 @@ mod records;
 mod rows;
 mod versions;
 
-pub use image::{BranchPart, Delta, Image, MadeVersion, RowPart, SegmentPart, Stop};
+pub use image::{BranchPart, Delta, Format, Image, MadeVersion, RowPart, SegmentPart, Stop};
 pub use pages::{on_page, pages_for};
 pub use reading::parts;
 pub use records::PagedRecords;

@@ -1,13 +1,11 @@
 //! How names, relations and branches are read.
 ghost use Rattle.std.specs.Prelude.{◌≡◌, ◌≤◌, ◌<◌, [], length, IfOk};
-ghost use Rattle.std.specs.List.{list_any};
 ghost use Rattle.db_value.specs.Schema.{is_declared};
-ghost use Rattle.image_text.specs.Reading.{Gives, repeat, name_at, next_name, next_relation, relations_at, is_named, has_turn, is_earlier, is_position, base_of, next_branch, branches_at};
+ghost use Rattle.image_text.specs.Reading.{Gives, repeat, name_at, width_at, has_column, next_column, next_relation, relations_at, is_named, has_turn, is_earlier, is_position, base_of, next_branch, branches_at};
 
-use crate::image::{BranchPart, Stop};
+use crate::image::{BranchPart, Format, Stop};
 use crate::numbers::Reader;
-use db_value::name::is_among;
-use db_value::{ListOf, Name, Relation, VersionPlace};
+use db_value::{Column, ListOf, Name, Relation, VersionPlace};
 use std::alloc::Global;
 
 const MOST_BYTES: usize = 32;
@@ -22,6 +20,12 @@ fn is_declared(relations: &[Relation], name: &Name) -> bool
     ensures { result ≡ is_declared relations.now name.now }
 {
     relations.iter().any(|r| r.name == *name)
+}
+
+fn has_column(columns: &[Column], name: &Name) -> bool
+    ensures { result ≡ has_column columns.now name.now }
+{
+    columns.iter().any(|c| c.name == *name)
 }
 
 fn is_named(branches: &[BranchPart], name: &Name) -> bool
@@ -94,36 +98,61 @@ impl<'a> Reader<'a> {
         }
     }
 
-    #[tactic(auto, unfolding(crate::specs::Reading::next_name))]
-    fn next_name(&mut self, names: &mut Vec<Name>) -> Result<(), Stop>
-        ensures { Gives (λ x. (names.new.items, self.new.rest.now)) result
-            (next_name names.old.items self.old.rest.now) }
+    // The width of a column. Columns of texts can't be made yet.
+    #[tactic(auto, unfolding(crate::specs::Reading::width_at))]
+    fn width(&mut self, format: Format) -> Result<u8, Stop>
+        ensures { Gives (λ x. (x, self.new.rest.now)) result
+            (width_at format self.old.rest.now) }
+    {
+        match format {
+            Format::One => Ok(0),
+            Format::Two => {
+                let left = self.left();
+                let width = self.u8()?;
+                if width != 0 {
+                    return Err(Stop::Fault(left));
+                }
+                Ok(width)
+            }
+        }
+    }
+
+    #[tactic(auto, unfolding(crate::specs::Reading::next_column))]
+    fn next_column(&mut self, format: Format, columns: &mut Vec<Column>) -> Result<(), Stop>
+        ensures { Gives (λ x. (columns.new.items, self.new.rest.now)) result
+            (next_column format columns.old.items self.old.rest.now) }
     {
         let left = self.left();
         let name = self.name()?;
-        if is_among(name.as_bytes(), names) {
+        if has_column(columns, &name) {
             return Err(Stop::Fault(left));
         }
-        names.push(name)?;
+        let width = self.width(format)?;
+        columns.push(Column { name, width })?;
         Ok(())
     }
 
     #[tactic(auto, using(crate::proofs::Loop::goes_on, crate::proofs::Loop::ends, crate::proofs::Loop::is_done))]
-    fn names(&mut self, alloc: Global, count: u8) -> Result<Vec<Name>, Stop>
+    fn columns(&mut self, alloc: Global, format: Format, count: u8) -> Result<Vec<Column>, Stop>
         ensures { Gives (λ x. (x.items, self.new.rest.now)) result
-            (repeat next_name count [] self.old.rest.now) }
+            (repeat (next_column format) count [] self.old.rest.now) }
     {
-        let mut names: Vec<Name> = Vec::new(alloc);
+        let mut columns: Vec<Column> = Vec::new(alloc);
         for _ in 0..count {
-            self.next_name(&mut names)?;
+            self.next_column(format, &mut columns)?;
         }
-        Ok(names)
+        Ok(columns)
     }
 
     #[tactic(auto, unfolding(crate::specs::Reading::next_relation))]
-    fn next_relation(&mut self, alloc: Global, relations: &mut Vec<Relation>) -> Result<(), Stop>
+    fn next_relation(
+        &mut self,
+        alloc: Global,
+        format: Format,
+        relations: &mut Vec<Relation>,
+    ) -> Result<(), Stop>
         ensures { Gives (λ x. (relations.new.items, self.new.rest.now)) result
-            (next_relation relations.old.items self.old.rest.now) }
+            (next_relation format relations.old.items self.old.rest.now) }
     {
         let left = self.left();
         let name = self.name()?;
@@ -135,35 +164,40 @@ impl<'a> Reader<'a> {
         if count == 0 || count > MOST_COLUMNS {
             return Err(Stop::Fault(left));
         }
-        let columns = ListOf::of(self.names(alloc, count)?);
+        let columns = ListOf::of(self.columns(alloc, format, count)?);
         relations.push(Relation { name, columns })?;
         Ok(())
     }
 
     #[tactic(auto, using(crate::proofs::Loop::goes_on, crate::proofs::Loop::ends, crate::proofs::Loop::is_done))]
-    fn relations_of(&mut self, alloc: Global, count: u8) -> Result<Vec<Relation>, Stop>
+    fn relations_of(
+        &mut self,
+        alloc: Global,
+        format: Format,
+        count: u8,
+    ) -> Result<Vec<Relation>, Stop>
         ensures { Gives (λ x. (x.items, self.new.rest.now)) result
-            (repeat next_relation count [] self.old.rest.now) }
+            (repeat (next_relation format) count [] self.old.rest.now) }
     {
         let mut relations: Vec<Relation> = Vec::new(alloc);
         for _ in 0..count {
-            self.next_relation(alloc, &mut relations)?;
+            self.next_relation(alloc, format, &mut relations)?;
         }
         Ok(relations)
     }
 
     /// One to 8 relations.
     #[tactic(auto, unfolding(crate::specs::Reading::relations_at))]
-    pub fn relations(&mut self, alloc: Global) -> Result<Vec<Relation>, Stop>
+    pub fn relations(&mut self, alloc: Global, format: Format) -> Result<Vec<Relation>, Stop>
         ensures { Gives (λ x. (x.items, self.new.rest.now)) result
-            (relations_at self.old.rest.now) }
+            (relations_at format self.old.rest.now) }
     {
         let left = self.left();
         let count = self.u8()?;
         if count == 0 || count > MOST_RELATIONS {
             return Err(Stop::Fault(left));
         }
-        self.relations_of(alloc, count)
+        self.relations_of(alloc, format, count)
     }
 
     #[tactic(auto, unfolding(crate::specs::Reading::next_branch))]

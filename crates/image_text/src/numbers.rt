@@ -1,7 +1,7 @@
 //! A reader of bytes, and how it reads numbers.
 ghost use Rattle.std.specs.Prelude.{◌≡◌, length};
-ghost use Rattle.std.specs.Int.{w16, w32, w64};
-ghost use Rattle.image_text.specs.Reading.{Gives, byte_at, number_at, signed_at};
+ghost use Rattle.std.specs.Int.{w32, w64};
+ghost use Rattle.image_text.specs.Reading.{Gives, byte_at, number_at};
 
 use crate::image::Stop;
 
@@ -54,32 +54,6 @@ impl<'a> Reader<'a> {
         let (front, rest) = self.rest.split_at(8);
         self.rest = rest;
         Ok(u64::from_le_bytes([
-            front[0], front[1], front[2], front[3], front[4], front[5], front[6], front[7],
-        ]))
-    }
-
-    /// A number of 2 bytes, the lowest first.
-    pub fn u16(&mut self) -> Result<u16, Stop>
-        ensures { Gives (λ x. (x, self.new.rest.now)) result (number_at w16 self.old.rest.now) }
-    {
-        if self.rest.len() < 2 {
-            return Err(Stop::Fault(0));
-        }
-        let (front, rest) = self.rest.split_at(2);
-        self.rest = rest;
-        Ok(u16::from_le_bytes([front[0], front[1]]))
-    }
-
-    /// A value of 8 bytes in two's complement, the lowest first.
-    pub fn i64(&mut self) -> Result<i64, Stop>
-        ensures { Gives (λ x. (x, self.new.rest.now)) result (signed_at self.old.rest.now) }
-    {
-        if self.rest.len() < 8 {
-            return Err(Stop::Fault(0));
-        }
-        let (front, rest) = self.rest.split_at(8);
-        self.rest = rest;
-        Ok(i64::from_le_bytes([
             front[0], front[1], front[2], front[3], front[4], front[5], front[6], front[7],
         ]))
     }

@@ -1,164 +1,71 @@
 //! How pages of records are read.
-ghost use Rattle.std.specs.Prelude.{◌≡◌, ◌≤◌, ◌<◌, ◌-◌, ◌+◌, ◌^◌, [], length, IfOk};
-ghost use Rattle.image_text.specs.Reading.{Gives, repeat, next_value, next_record, are_zero, page_in, capacity, on_page, next_page, pages_for};
+ghost use Rattle.std.specs.Prelude.{◌≡◌, ◌≤◌, ◌<◌, ◌-◌, ◌+◌, ◌^◌, [], length, true, false, IfOk, IfSome, IfNone};
+ghost use Rattle.record_page.specs.Page.{rows_in};
+ghost use Rattle.image_text.specs.Reading.{Gives, repeat, is_page_of, on_page, next_page, pages_for};
 
 use crate::image::Stop;
 use crate::numbers::Reader;
-use crate::records::{PagedRecords, put_rows};
-use db_value::{Fields, Record};
+use crate::records::{PagedRecords, put_page};
+use db_value::Widths;
+use record_page::{Page, capacity_of};
 use segment::{LongerSegment, Segment};
-use std::alloc::Global;
+use std::alloc::{AllocError, Global};
 
 const PAGE: usize = 4096;
 
-const BLANK: usize = 13;
-
-fn are_zero(bytes: &[u8]) -> bool
-    ensures { result ≡ are_zero bytes.now }
-{
-    bytes.iter().all(|b| *b == 0)
-}
-
-fn capacity_of(columns: u8) -> u32
-    ensures { result ≡ capacity columns }
-{
-    4080 / (8 * (columns as u32 + 1))
-}
-
 /// How many of the records that are still to come stand on the next page.
-pub fn on_page(columns: u8, more: u32) -> u32
-    ensures exact { result ≡ on_page columns more }
+pub fn on_page(widths: &Widths, more: u32) -> u32
+    ensures exact { result ≡ on_page widths.now more }
     ensures within { result ≤ more }
-    ensures few { result ≤ 510 }
 {
-    let capacity = capacity_of(columns);
+    let capacity = capacity_of(widths.as_slice()) as u32;
     if more < capacity { more } else { capacity }
 }
 
 /// How many pages so many records take.
-pub fn pages_for(columns: u8, count: u32) -> u32
-    requires { columns ≤ 15 }
-    ensures { result ≡ pages_for columns count }
+#[tactic(auto, using(record_page::proofs::Pages::capacity_some))]
+pub fn pages_for(widths: &Widths, count: u32) -> u32
+    ensures { result ≡ pages_for widths.now count }
 {
-    let capacity = capacity_of(columns) as u64;
+    let capacity = capacity_of(widths.as_slice()) as u64;
     ((count as u64 + (capacity - 1)) / capacity) as u32
 }
 
+// The page that bytes are, if they are one with so many records.
+fn page_of(
+    alloc: Global,
+    widths: &Widths,
+    count: u32,
+    bytes: &[u8],
+) -> Result<Option<Page>, AllocError>
+    ensures none { IfOk result (λ o. IfNone o (is_page_of widths.now count bytes.now ≡ false)) }
+    ensures is { IfOk result (λ o. IfSome o (λ _. is_page_of widths.now count bytes.now ≡ true)) }
+    ensures page { IfOk result (λ o. IfSome o (λ page. page ≡ rows_in widths.now bytes.now)) }
+{
+    let Some(page) = Page::of(alloc, widths, bytes)? else {
+        return Ok(None);
+    };
+    if u32::from(page.len()) != count {
+        return Ok(None);
+    }
+    Ok(Some(page))
+}
+
 impl<'a> Reader<'a> {
-    fn next_value(&mut self, values: &mut Vec<i64>) -> Result<(), Stop>
-        ensures { Gives (λ x. (values.new.items, self.new.rest.now)) result
-            (next_value values.old.items self.old.rest.now) }
-    {
-        let value = self.i64()?;
-        values.push(value)?;
-        Ok(())
-    }
-
-    #[tactic(auto, using(crate::proofs::Loop::goes_on, crate::proofs::Loop::ends, crate::proofs::Loop::is_done))]
-    fn values(&mut self, columns: u8, values: &mut Vec<i64>) -> Result<(), Stop>
-        ensures { Gives (λ x. (values.new.items, self.new.rest.now)) result
-            (repeat next_value columns [] self.old.rest.now) }
-    {
-        values.clear();
-        for _ in 0..columns {
-            self.next_value(values)?;
-        }
-        Ok(())
-    }
-
-    #[tactic(auto, unfolding(crate::specs::Reading::next_record), using(crate::proofs::Loop::values_counted))]
-    fn next_record(
-        &mut self,
-        columns: u8,
-        values: &mut Vec<i64>,
-        records: &mut Vec<Record>,
-    ) -> Result<(), Stop>
-        requires { (0 < columns) × (columns ≤ 15) }
-        ensures { Gives (λ x. (records.new.items, self.new.rest.now)) result
-            (next_record columns records.old.items self.old.rest.now) }
-    {
-        let key = self.u64()?;
-        self.values(columns, values)?;
-        match Fields::of(values) {
-            None => unreachable!(),
-            Some(fields) => records.push(Record { key, fields })?,
-        }
-        Ok(())
-    }
-
-    #[tactic(auto, using(crate::proofs::Loop::goes_on, crate::proofs::Loop::ends, crate::proofs::Loop::is_done))]
-    fn records(
-        &mut self,
-        columns: u8,
-        count: u32,
-        values: &mut Vec<i64>,
-        records: &mut Vec<Record>,
-    ) -> Result<(), Stop>
-        requires { (0 < columns) × (columns ≤ 15) }
-        ensures { Gives (λ x. (records.new.items, self.new.rest.now)) result
-            (repeat (next_record columns) count records.old.items self.old.rest.now) }
-    {
-        for _ in 0..count {
-            self.next_record(columns, values, records)?;
-        }
-        Ok(())
-    }
-
-    // What a page has. The reader has just its bytes.
-    #[tactic(auto, unfolding(crate::specs::Reading::page_in))]
-    fn page_in(
-        &mut self,
-        columns: u8,
-        count: u32,
-        values: &mut Vec<i64>,
-        records: &mut Vec<Record>,
-    ) -> Result<(), Stop>
-        requires { (0 < columns) × (columns ≤ 15) }
-        ensures { Gives (λ x. (records.new.items, [])) result
-            (page_in columns count records.old.items self.old.rest.now) }
-    {
-        let left = self.left();
-        let counted = self.u16()?;
-        if counted as u32 != count {
-            return Err(Stop::Fault(left));
-        }
-        let left = self.left();
-        let fields = self.u8()?;
-        if fields != columns {
-            return Err(Stop::Fault(left));
-        }
-        let left = self.left();
-        if self.rest.len() < BLANK {
-            return Err(Stop::Fault(0));
-        }
-        let (blank, rest) = self.rest.split_at(BLANK);
-        if !are_zero(blank) {
-            return Err(Stop::Fault(left));
-        }
-        self.rest = rest;
-        self.records(columns, count, values, records)?;
-        if !are_zero(self.rest) {
-            return Err(Stop::Fault(self.left()));
-        }
-        Ok(())
-    }
-
     // Puts the records of the next page after others, and tells how many are still to come behind it.
     #[tactic(auto, using(crate::proofs::Seen::page_ended))]
     fn next_page(
         &mut self,
-        columns: u8,
+        alloc: Global,
+        widths: &Widths,
         more: u32,
-        values: &mut Vec<i64>,
-        rows: &mut Vec<Record>,
         longer: LongerSegment,
     ) -> Result<(u32, LongerSegment), Stop>
-        requires columns { (0 < columns) × (columns ≤ 15) }
-        requires fields { longer.fields ≡ columns }
+        requires widths { longer.widths ≡ widths.now }
         requires few { length longer.records + more < 2 ^ 32 }
         ensures exact { Gives (λ x. ((x.0, x.1.records), self.new.rest.now)) result
-            (next_page columns (more, longer.records) self.old.rest.now) }
-        ensures fields { IfOk result (λ x. x.1.fields ≡ columns) }
+            (next_page widths.now (more, longer.records) self.old.rest.now) }
+        ensures widths { IfOk result (λ x. x.1.widths ≡ widths.now) }
         ensures count { IfOk result (λ x.
             length x.1.records + x.0 ≡ length longer.records + more) }
     {
@@ -166,24 +73,19 @@ impl<'a> Reader<'a> {
         if left < PAGE {
             return Err(Stop::Fault(0));
         }
-        let (page, rest) = self.rest.split_at(PAGE);
-        let count = on_page(columns, more);
-        let mut reader = Reader { rest: page };
-        rows.clear();
-        match reader.page_in(columns, count, values, rows) {
-            Err(Stop::Memory) => Err(Stop::Memory),
-            Err(Stop::Fault(_)) => Err(Stop::Fault(left)),
-            Ok(()) => {
-                self.rest = rest;
-                let all = put_rows(longer, rows)?;
-                Ok((more - count, all))
-            }
-        }
+        let (bytes, rest) = self.rest.split_at(PAGE);
+        let count = on_page(widths, more);
+        let Some(page) = page_of(alloc, widths, count, bytes)? else {
+            return Err(Stop::Fault(left));
+        };
+        self.rest = rest;
+        let all = put_page(longer, &page)?;
+        Ok((more - count, all))
     }
 
     // No more of so many records than the bytes that are left can have.
     fn room_for(&self, count: u32) -> usize {
-        let most = self.left() / 16;
+        let most = self.left() / 9;
         if most < count as usize {
             most
         } else {
@@ -196,21 +98,18 @@ impl<'a> Reader<'a> {
     pub fn pages(
         &mut self,
         alloc: Global,
-        columns: u8,
+        widths: &Widths,
         pages: u32,
         count: u32,
     ) -> Result<(u32, PagedRecords), Stop>
-        requires { (0 < columns) × (columns ≤ 15) }
         ensures { Gives (λ x. ((x.0, x.1), self.new.rest.now)) result
-            (repeat (next_page columns) pages (count, []) self.old.rest.now) }
+            (repeat (next_page widths.now) pages (count, []) self.old.rest.now) }
     {
-        let mut values: Vec<i64> = Vec::new(alloc);
-        let mut rows: Vec<Record> = Vec::new(alloc);
         let room = self.room_for(count);
-        let mut longer = Segment::new(alloc, columns)?.longer(room)?;
+        let mut longer = Segment::new(alloc, widths)?.longer(room)?;
         let mut more = count;
         for _ in 0..pages {
-            let (after, all) = self.next_page(columns, more, &mut values, &mut rows, longer)?;
+            let (after, all) = self.next_page(alloc, widths, more, longer)?;
             more = after;
             longer = all;
         }

@@ -1,13 +1,14 @@
 //! How segments, and the whole image, are read.
 ghost use Rattle.std.specs.Prelude.{◌≡◌, ◌≤◌, ◌<◌, ◌*◌, ◌+◌, [], length, true, OnOk};
-ghost use Rattle.db_value.specs.Relations.{columns_at, is_counted};
+ghost use Rattle.db_value.specs.Relations.{widths_at, is_counted};
 ghost use Rattle.image_text.specs.Reading.{Gives, repeat, has_room, next_segment, next_segments, parts_at};
 
-use crate::image::{Image, SegmentPart, Stop};
+use crate::image::{Format, Image, SegmentPart, Stop};
 use crate::numbers::Reader;
 use crate::pages::pages_for;
 use crate::versions::last_of;
-use db_value::{ListOf, Relation};
+use db_value::schema::widths_of;
+use db_value::{ListOf, Relation, Widths};
 use std::alloc::Global;
 
 const VERSIONS: u64 = 65536;
@@ -26,13 +27,12 @@ impl<'a> Reader<'a> {
     fn next_segment(
         &mut self,
         alloc: Global,
-        columns: u8,
+        widths: &Widths,
         lasts: &[u32],
         segments: &mut Vec<SegmentPart>,
     ) -> Result<(), Stop>
-        requires { (0 < columns) × (columns ≤ 15) }
         ensures { Gives (λ x. (segments.new.items, self.new.rest.now)) result
-            (next_segment columns lasts.now segments.old.items self.old.rest.now) }
+            (next_segment widths.now lasts.now segments.old.items self.old.rest.now) }
     {
         let left = self.left();
         let head = self.u32()?;
@@ -44,7 +44,7 @@ impl<'a> Reader<'a> {
         if !has_room(lasts, head, count) {
             return Err(Stop::Fault(left));
         }
-        let (_more, records) = self.pages(alloc, columns, pages_for(columns, count), count)?;
+        let (_more, records) = self.pages(alloc, widths, pages_for(widths, count), count)?;
         let left = self.left();
         let rows = self.u32()?;
         if rows as usize > lasts.len() {
@@ -63,17 +63,16 @@ impl<'a> Reader<'a> {
     fn segments_of(
         &mut self,
         alloc: Global,
-        columns: u8,
+        widths: &Widths,
         lasts: &[u32],
         count: u32,
     ) -> Result<Vec<SegmentPart>, Stop>
-        requires { (0 < columns) × (columns ≤ 15) }
         ensures { Gives (λ x. (x.items, self.new.rest.now)) result
-            (repeat (next_segment columns lasts.now) count [] self.old.rest.now) }
+            (repeat (next_segment widths.now lasts.now) count [] self.old.rest.now) }
     {
         let mut segments: Vec<SegmentPart> = Vec::new(alloc);
         for _ in 0..count {
-            self.next_segment(alloc, columns, lasts, &mut segments)?;
+            self.next_segment(alloc, widths, lasts, &mut segments)?;
         }
         Ok(segments)
     }
@@ -97,8 +96,8 @@ impl<'a> Reader<'a> {
         if count as usize >= 2 * lasts.len() {
             return Err(Stop::Fault(left));
         }
-        let columns = columns_of(relations, segments.len());
-        let made = self.segments_of(alloc, columns, lasts, count)?;
+        let widths = widths_at(relations, segments.len());
+        let made = self.segments_of(alloc, &widths, lasts, count)?;
         segments.push(ListOf::of(made))?;
         Ok(())
     }
@@ -124,26 +123,24 @@ impl<'a> Reader<'a> {
     }
 }
 
-// The number of columns of a relation.
-#[tactic(auto, using(crate::proofs::Counted::some_columns))]
-fn columns_of(relations: &[Relation], at: usize) -> u8
+// The widths of a relation.
+#[tactic(auto, using(db_value::proofs::SchemaLemmas::relation_widths))]
+fn widths_at(relations: &[Relation], at: usize) -> Widths
     requires counted { is_counted relations.now ≡ true }
     requires within { at < length relations.now }
-    ensures value { result ≡ length (columns_at relations.now at) }
-    ensures some { 0 < result }
-    ensures few { result ≤ 15 }
+    ensures { result ≡ widths_at relations.now at }
 {
-    relations[at].columns.as_slice().len() as u8
+    widths_of(relations[at].columns.as_slice())
 }
 
-/// The parts of an image that the bytes are, and the last position of each branch. The rules over the
-/// whole are not tried.
+/// The parts of an image in a format that the bytes are, and the last position of each branch. The
+/// rules over the whole are not tried.
 #[tactic(auto, unfolding(crate::specs::Reading::parts_at), using(crate::proofs::Counted::relations_counted))]
-pub fn parts(alloc: Global, bytes: &[u8]) -> Result<(Image, Vec<u32>), Stop>
-    ensures { Gives (λ x. (x.0, x.1.items)) result (parts_at bytes.now) }
+pub fn parts(alloc: Global, bytes: &[u8], format: Format) -> Result<(Image, Vec<u32>), Stop>
+    ensures { Gives (λ x. (x.0, x.1.items)) result (parts_at format bytes.now) }
 {
     let mut reader = Reader { rest: bytes };
-    let relations = reader.relations(alloc)?;
+    let relations = reader.relations(alloc, format)?;
     let (branches, bases) = reader.branches(alloc)?;
     let (lasts, versions) = reader.versions(alloc, &bases)?;
     let segments = reader.segments(alloc, &relations, &lasts)?;

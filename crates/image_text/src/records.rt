@@ -3,14 +3,15 @@ ghost use Rattle.std.specs.Prelude.{◌≡◌, ◌+◌, ◌^◌, ◌<◌, ◌≤
 ghost use Rattle.db_value.specs.declared.record.Record.{Record};
 ghost use Rattle.segment.specs.Pages.{AreWide};
 
-use db_value::{Fields, ListOf, Record, Records, Steps};
+use db_value::{Record, Records, Steps, Widths};
+use record_page::Page;
 use segment::{LongerSegment, Segment};
 use std::alloc::{AllocError, Global};
 use std::marker::{Brand, Model};
 use std::sync::ledger::{Blank, Ledger};
 
-/// Paged records are those of a segment, which stand on its pages: a list of them would take 136 bytes
-/// for each.
+/// Paged records are those of a segment, which stand on its pages: a list of them would take 16 bytes
+/// more for each.
 #[derive(Drop)]
 pub struct PagedRecords {
     segment: Segment,
@@ -23,14 +24,6 @@ impl Model for PagedRecords {
     ghost Value = { List Record };
 
     ghost view = { λ p. p.segment.records };
-}
-
-// A record that is read into.
-fn blank_record() -> Record {
-    match Fields::of(&[0]) {
-        Some(fields) => Record { key: 0, fields },
-        None => unreachable!(),
-    }
 }
 
 // Puts the keys of a segment after others, where nobody counts the steps.
@@ -46,7 +39,7 @@ fn put_keys_of<L: Ledger>(
         ≡ keys.old.items ++ map (λ (x : Record). x.key) segment.now.records) }
 {
     let mut steps = Steps::<L>::open(blank);
-    let mut row = blank_record();
+    let mut row = Record::blank();
     for slot in 0..segment.len() {
         segment.read(slot, &mut row, &mut steps);
         keys.push(row.key)?;
@@ -59,18 +52,18 @@ fn list_of<L: Ledger>(
     alloc: Global,
     segment: &Segment,
     blank: Blank,
-) -> Result<Vec<Record>, AllocError>
+) -> Result<Records, AllocError>
     requires name { blank.name ≡ L.name }
     requires parts { blank.parts ≡ L.parts }
     requires some { 0 < L.parts }
-    ensures { IfOk result (λ rows. rows.items ≡ segment.now.records) }
+    ensures { IfOk result (λ rows. rows ≡ segment.now.records) }
 {
     let mut steps = Steps::<L>::open(blank);
-    let mut row = blank_record();
-    let mut rows = Vec::with_capacity(alloc, segment.len() as usize)?;
+    let mut row = Record::blank();
+    let mut rows = Records::new(alloc);
     for slot in 0..segment.len() {
         segment.read(slot, &mut row, &mut steps);
-        rows.push(row)?;
+        rows.push(&row)?;
     }
     Ok(rows)
 }
@@ -102,35 +95,53 @@ impl PagedRecords {
     pub fn listed(&self, alloc: Global) -> Result<Records, AllocError>
         ensures { IfOk result (λ rows. rows ≡ self.now) }
     {
-        let rows = list_of::<Brand>(alloc, &self.segment, Blank::new(1))?;
-        Ok(ListOf::of(rows))
+        list_of::<Brand>(alloc, &self.segment, Blank::new(1))
     }
 
-    /// The segment of these records, each of which has so many fields. It shares their pages.
-    pub fn as_segment(&self, alloc: Global, fields: u8) -> Result<Segment, AllocError>
-        requires some { 0 < fields }
-        requires few { fields ≤ 15 }
-        requires wide { AreWide fields self.now }
-        ensures { IfOk result (λ s. s ≡ record { fields = fields; records = self.now }) }
+    /// The segment of these records, each of which meets the widths. It shares their pages.
+    pub fn as_segment(&self, alloc: Global, widths: &Widths) -> Result<Segment, AllocError>
+        requires { AreWide widths.now self.now }
+        ensures { IfOk result (λ s. s ≡ record { widths = widths.now; records = self.now }) }
     {
-        // Without a record nothing tells how many fields they have here.
-        if self.segment.len() == 0 {
-            return Segment::new(alloc, fields);
+        if self.segment.widths().are_same(widths) {
+            return self.segment.duplicate();
         }
-        self.segment.duplicate()
+        // Records may meet other widths than those of their pages. They are put on other pages then.
+        let rows = self.listed(alloc)?;
+        Segment::new(alloc, widths)?.extended(&rows)
     }
 }
 
-/// Puts records after those of a segment.
-pub(crate) fn put_rows(longer: LongerSegment, rows: &[Record]) -> Result<LongerSegment, AllocError>
-    requires fields { AreWide longer.fields rows.now }
-    requires few { length longer.records + length rows.now < 2 ^ 32 }
+// Puts the records of a page after those of a segment, where nobody counts the steps.
+fn put_records<L: Ledger>(
+    longer: LongerSegment,
+    page: &Page,
+    blank: Blank,
+) -> Result<LongerSegment, AllocError>
+    requires name { blank.name ≡ L.name }
+    requires parts { blank.parts ≡ L.parts }
+    requires some { 0 < L.parts }
+    requires widths { longer.widths ≡ page.now.widths }
+    requires few { length longer.records + length page.now.records < 2 ^ 32 }
     ensures { IfOk result (λ l. l
-        ≡ record longer { records = longer.records ++ rows.now }) }
+        ≡ record longer { records = longer.records ++ page.now.records }) }
 {
+    let mut steps = Steps::<L>::open(blank);
+    let mut row = Record::blank();
     let mut all = longer;
-    for row in rows {
-        all = all.with(row)?;
+    for slot in 0..page.len() {
+        page.read(slot, &mut row, &mut steps);
+        all = all.with(&row)?;
     }
     Ok(all)
+}
+
+/// Puts the records of a page after those of a segment.
+pub(crate) fn put_page(longer: LongerSegment, page: &Page) -> Result<LongerSegment, AllocError>
+    requires widths { longer.widths ≡ page.now.widths }
+    requires few { length longer.records + length page.now.records < 2 ^ 32 }
+    ensures { IfOk result (λ l. l
+        ≡ record longer { records = longer.records ++ page.now.records }) }
+{
+    put_records::<Brand>(longer, page, Blank::new(1))
 }

@@ -7,4 +7,4 @@ use Rattle.image_text.proofs.numbers.Reader.segments_of.Goals as goal
 pub returns-in_err-next_segment : goal.returns-in_err-next_segment
 returns-in_err-next_segment c =
     let p = err_from_is_err_and c.from_residual.result c.from_residual.ensures.1 in
-    rw (p.1, p.2) (ends c.in_err-next_segment.field-0.0 (next_segment c.args.columns c.args.lasts.now) c.args.count c.loop.counter c.loop.segments.items c.loop.self.rest.now (repeat (next_segment c.args.columns c.args.lasts.now) c.args.count [] c.args.self.now.rest.now) c.loop-test.true c.in_err-next_segment.ensures c.loop.invariant)
+    rw (p.1, p.2) (ends c.in_err-next_segment.field-0.0 (next_segment c.args.widths.now c.args.lasts.now) c.args.count c.loop.counter c.loop.segments.items c.loop.self.rest.now (repeat (next_segment c.args.widths.now c.args.lasts.now) c.args.count [] c.args.self.now.rest.now) c.loop-test.true c.in_err-next_segment.ensures c.loop.invariant)
