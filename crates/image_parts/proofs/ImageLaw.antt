@@ -1,5 +1,6 @@
 -- The bytes of an image are its one spelling.
 use Rattle.std.proofs.Common.{◌≡◌, ℕ, Bool, true, false, cond, List, Result, Ok, Err, refl, sym, ap, subst, ◌∙◌}
+use Rattle.image_text.specs.declared.image.Format.{Format}
 use Rattle.image_text.specs.declared.image.Image.{Image}
 use Rattle.image_text.specs.Reading.{parts_at}
 use Rattle.image_text.specs.Spelling.{spelling}
@@ -16,14 +17,14 @@ whole_ok true p i e = ok_is p i e
 whole_ok false p i e = absurd cc
 
 -- an image that is read has a spelling, and is spelled so
-pub image_is : (b : List ℕ) (i : Image) → IsBytes b → image_at b ≡ Ok i → IsSpelled b i
+pub image_is : (format : Format) (b : List ℕ) (i : Image) → IsBytes b → image_at format b ≡ Ok i → IsSpelled format b i
 unfolding image_at
-image_is b i fits e =
-    let p = bind_ok (parts_at b) (λ parts. cond (is_whole parts.0 parts.1) (done parts.0) (Err 0)) i e in
-    subst (λ (j : Image). IsSpelled b j) (whole_ok (is_whole p.0.0 p.0.1) p.0.0 i p.2) (parts_are b p.0 fits p.1)
+image_is format b i fits e =
+    let p = bind_ok (parts_at format b) (λ parts. cond (is_whole parts.0 parts.1) (done parts.0) (Err 0)) i e in
+    subst (λ (j : Image). IsSpelled format b j) (whole_ok (is_whole p.0.0 p.0.1) p.0.0 i p.2) (parts_are format b p.0 fits p.1)
 
-pub one_spelling : (a b : List ℕ) (i : Image) → IsBytes a → IsBytes b → image_at a ≡ Ok i → image_at b ≡ Ok i → a ≡ b
-one_spelling a b i fa fb ea eb = (image_is a i fa ea).same ∙ sym (image_is b i fb eb).same
+pub one_spelling : (format : Format) (a b : List ℕ) (i : Image) → IsBytes a → IsBytes b → image_at format a ≡ Ok i → image_at format b ≡ Ok i → a ≡ b
+one_spelling format a b i fa fb ea eb = (image_is format a i fa ea).same ∙ sym (image_is format b i fb eb).same
 
-pub read_again : (b : List ℕ) (i : Image) → IsBytes b → image_at b ≡ Ok i → image_at (spelling i) ≡ Ok i
-read_again b i fits e = subst (λ (t : List ℕ). image_at t ≡ Ok i) (image_is b i fits e).same e
+pub read_again : (format : Format) (b : List ℕ) (i : Image) → IsBytes b → image_at format b ≡ Ok i → image_at format (spelling format i) ≡ Ok i
+read_again format b i fits e = subst (λ (t : List ℕ). image_at format t ≡ Ok i) (image_is format b i fits e).same e

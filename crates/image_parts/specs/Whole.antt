@@ -1,8 +1,9 @@
--- The rules over the whole of an image, and what bytes are an image.
+-- The rules over the whole of an image, and what bytes are an image in a format.
 use Rattle.std.specs.Prelude.{◌≡◌, ℕ, suc, ◌-◌, ◌/◌, ◌%◌, ◌^◌, ◌==◌, ◌&&◌, ◌||◌, not, nat_le, cond, Bool, true, false, List, [], ◌∷◌, length, take, set, replicate, Result, Ok, Err}
 use Rattle.std.specs.List.{flat_map, list_any, list_all, range_with_len}
 use Rattle.std.proofs.Common.{get_or}
 use Rattle.db_value.specs.declared.record.Record.{Record}
+use Rattle.image_text.specs.declared.image.Format.{Format}
 use Rattle.image_text.specs.declared.image.BranchPart.{BranchPart}
 use Rattle.image_text.specs.declared.image.Delta.{Delta}
 use Rattle.image_text.specs.declared.image.RowPart.{RowPart}
@@ -119,9 +120,9 @@ unfoldable pub is_whole : Image → List ℕ → Bool
 is_whole i lasts = are_made lasts i.branches && list_all (λ ss. heads_once (length lasts) ss && keys_once lasts ss) i.segments
 
 -- the image that bytes are; or how many bytes are left at the first fault, none at a fault of the whole
-unfoldable pub image_at : List ℕ → Result Image ℕ
-image_at bytes = do
-  parts ← parts_at bytes
+unfoldable pub image_at : Format → List ℕ → Result Image ℕ
+image_at format bytes = do
+  parts ← parts_at format bytes
   cond (is_whole parts.0 parts.1) (Ok parts.0) (Err 0)
 
 -- a stop, and the place of its fault
@@ -130,7 +131,7 @@ stop_of len stops.Memory = Memory
 stop_of len (stops.Fault left) = NotAnImage (len - left)
 
 -- what a reader of images gave is that image, or the place of the fault, unless memory ran out
-abbrev pub Decodes : List ℕ → Result Image ImageStop → Type 0
-Decodes bytes (Ok i) = image_at bytes ≡ Ok i
-Decodes bytes (Err (NotAnImage at)) = (left : ℕ) × (image_at bytes ≡ Err left) × (at ≡ length bytes - left)
-Decodes bytes (Err Memory) = Unit {0}
+abbrev pub Decodes : Format → List ℕ → Result Image ImageStop → Type 0
+Decodes format bytes (Ok i) = image_at format bytes ≡ Ok i
+Decodes format bytes (Err (NotAnImage at)) = (left : ℕ) × (image_at format bytes ≡ Err left) × (at ≡ length bytes - left)
+Decodes format bytes (Err Memory) = Unit {0}

@@ -4,7 +4,7 @@ ghost use Rattle.image_text.specs.Laws.{IsSpelled};
 ghost use Rattle.image_parts.specs.Whole.{Decodes, stop_of};
 
 use crate::whole::is_whole;
-use image_text::{Image, Stop, parts};
+use image_text::{Format, Image, Stop, parts};
 use std::alloc::Global;
 
 /// Why there is no image.
@@ -27,14 +27,14 @@ fn stop_of(len: usize, stop: Stop) -> ImageStop
     }
 }
 
-/// The image that the bytes are, or the place of the first item that breaks a rule. The length of the
+/// The image in a format that the bytes are, or the place of the first item that breaks a rule. The length of the
 /// bytes is told if they end too early, or if a rule over the whole is broken.
 #[tactic(auto, unfolding(crate::specs::Whole::image_at))]
-pub fn decode(alloc: Global, bytes: &[u8]) -> Result<Image, ImageStop>
-    ensures exact { Decodes bytes.now result }
-    ensures spelled { IfOk result (λ image. IsSpelled bytes.now image) }
+pub fn decode(alloc: Global, bytes: &[u8], format: Format) -> Result<Image, ImageStop>
+    ensures exact { Decodes format bytes.now result }
+    ensures spelled { IfOk result (λ image. IsSpelled format bytes.now image) }
 {
-    let (image, lasts) = match parts(alloc, bytes) {
+    let (image, lasts) = match parts(alloc, bytes, format) {
         Err(stop) => return Err(stop_of(bytes.len(), stop)),
         Ok(found) => found,
     };

@@ -1,23 +1,15 @@
 //! How an image is written.
-ghost use Rattle.std.specs.Prelude.{◌≡◌, ◌<◌, ◌≤◌, ◌^◌, ◌++◌, ◌∷◌, ◌+◌, ◌*◌, ◌-◌, length, OnOk, IfOk, take, drop, replicate};
+ghost use Rattle.std.specs.Prelude.{◌≡◌, ◌<◌, ◌≤◌, ◌^◌, ◌++◌, length, OnOk, IfOk};
 ghost use Rattle.std.specs.List.{flat_map, All};
-ghost use Rattle.std.specs.Int.{w16, to_le_bytes};
+ghost use Rattle.image_text.specs.declared.image.Format.TheVariants.{Two};
 ghost use Rattle.image_text.specs.Reading.{pages_for};
-ghost use Rattle.image_text.specs.Spelling.{Fits, FitsRelation, FitsRow, FitsSegment, FitsSegments, counted, name_bytes, relation_bytes, relations_bytes, place_bytes, branch_bytes, second_bytes, version_bytes, value_bytes, record_bytes, page_bytes, pages_bytes, word_bytes, delta_bytes, row_bytes, segment_bytes, segments_bytes, spelling};
+ghost use Rattle.image_text.specs.Spelling.{Fits, FitsRelation, FitsRow, FitsSegment, FitsSegments, AllFit, widths_of, counted, name_bytes, column_bytes, relation_bytes, relations_bytes, place_bytes, branch_bytes, second_bytes, version_bytes, pages_bytes, word_bytes, delta_bytes, row_bytes, segment_bytes, segments_bytes, spelling};
 
-use db_value::{ListOf, Name, Record, Relation, VersionPlace};
-use image_text::{BranchPart, Delta, Image, MadeVersion, RowPart, SegmentPart, on_page, pages_for};
+use db_value::schema::widths_of;
+use db_value::{Column, ListOf, Name, Relation, VersionPlace, Widths};
+use image_text::{BranchPart, Delta, Image, MadeVersion, RowPart, SegmentPart};
+use segment::Segment;
 use std::alloc::{AllocError, Global};
-
-#[tactic(auto, using(crate::proofs::Write::one_zero))]
-fn put_zeros(out: &mut Vec<u8>, count: usize) -> Result<(), AllocError>
-    ensures { OnOk result (out.new.items ≡ out.old.items ++ replicate count 0) }
-{
-    for _ in 0..count {
-        out.push(0)?;
-    }
-    Ok(())
-}
 
 fn put_name(out: &mut Vec<u8>, name: &Name) -> Result<(), AllocError>
     requires { length name.now ≤ 32 }
@@ -28,29 +20,39 @@ fn put_name(out: &mut Vec<u8>, name: &Name) -> Result<(), AllocError>
     Ok(())
 }
 
-fn put_names(out: &mut Vec<u8>, names: &[Name]) -> Result<(), AllocError>
-    requires { All (λ n. length n ≤ 32) names.now }
-    ensures { OnOk result (out.new.items ≡ out.old.items ++ flat_map name_bytes names.now) }
+fn put_column(out: &mut Vec<u8>, column: &Column) -> Result<(), AllocError>
+    requires { length column.now.name ≤ 32 }
+    ensures { OnOk result (out.new.items ≡ out.old.items ++ column_bytes Two column.now) }
 {
-    for name in names {
-        put_name(out, name)?;
+    put_name(out, &column.name)?;
+    out.push(column.width)?;
+    Ok(())
+}
+
+fn put_columns(out: &mut Vec<u8>, columns: &[Column]) -> Result<(), AllocError>
+    requires { All (λ c. length c.name ≤ 32) columns.now }
+    ensures { OnOk result (out.new.items
+        ≡ out.old.items ++ flat_map (column_bytes Two) columns.now) }
+{
+    for column in columns {
+        put_column(out, column)?;
     }
     Ok(())
 }
 
 fn put_relation(out: &mut Vec<u8>, relation: &Relation) -> Result<(), AllocError>
     requires { FitsRelation relation.now }
-    ensures { OnOk result (out.new.items ≡ out.old.items ++ relation_bytes relation.now) }
+    ensures { OnOk result (out.new.items ≡ out.old.items ++ relation_bytes Two relation.now) }
 {
     put_name(out, &relation.name)?;
     out.push(relation.columns.as_slice().len() as u8)?;
-    put_names(out, relation.columns.as_slice())
+    put_columns(out, relation.columns.as_slice())
 }
 
 fn put_relations(out: &mut Vec<u8>, relations: &[Relation]) -> Result<(), AllocError>
     requires few { length relations.now ≤ 8 }
     requires each { All FitsRelation relations.now }
-    ensures { OnOk result (out.new.items ≡ out.old.items ++ relations_bytes relations.now) }
+    ensures { OnOk result (out.new.items ≡ out.old.items ++ relations_bytes Two relations.now) }
 {
     out.push(relations.len() as u8)?;
     for relation in relations {
@@ -112,23 +114,6 @@ fn put_versions(out: &mut Vec<u8>, versions: &[MadeVersion]) -> Result<(), Alloc
     Ok(())
 }
 
-#[tactic(auto, unfolding(image_text::specs::Spelling::value_bytes))]
-fn put_value(out: &mut Vec<u8>, value: &i64) -> Result<(), AllocError>
-    ensures { OnOk result (out.new.items ≡ out.old.items ++ value_bytes value.now) }
-{
-    out.extend_from_slice(&value.to_le_bytes())?;
-    Ok(())
-}
-
-fn put_values(out: &mut Vec<u8>, values: &[i64]) -> Result<(), AllocError>
-    ensures { OnOk result (out.new.items ≡ out.old.items ++ flat_map value_bytes values.now) }
-{
-    for value in values {
-        put_value(out, value)?;
-    }
-    Ok(())
-}
-
 fn put_words(out: &mut Vec<u8>, words: &[u64]) -> Result<(), AllocError>
     ensures { OnOk result (out.new.items ≡ out.old.items ++ flat_map word_bytes words.now) }
 {
@@ -148,59 +133,14 @@ fn put_deltas(out: &mut Vec<u8>, deltas: &[Delta]) -> Result<(), AllocError>
     Ok(())
 }
 
-fn put_records(out: &mut Vec<u8>, rows: &[Record]) -> Result<(), AllocError>
-    ensures { OnOk result (out.new.items ≡ out.old.items ++ flat_map record_bytes rows.now) }
+// The pages of a segment, which are full but the last.
+#[tactic(auto, using(crate::proofs::Write::page_next, crate::proofs::Write::no_page))]
+fn put_pages(out: &mut Vec<u8>, segment: &Segment) -> Result<(), AllocError>
+    ensures { OnOk result (out.new.items ≡ out.old.items ++ pages_bytes segment.now.widths
+        (pages_for segment.now.widths (length segment.now.records)) segment.now.records) }
 {
-    for row in rows {
-        put_record(out, row)?;
-    }
-    Ok(())
-}
-
-fn put_record(out: &mut Vec<u8>, row: &Record) -> Result<(), AllocError>
-    ensures { OnOk result (out.new.items ≡ out.old.items ++ record_bytes row.now) }
-{
-    out.extend_from_slice(&row.key.to_le_bytes())?;
-    put_values(out, row.fields.as_slice())
-}
-
-// What stands on a page before its last zero bytes.
-fn put_front(out: &mut Vec<u8>, columns: u8, rows: &[Record]) -> Result<(), AllocError>
-    requires { length rows.now ≤ 510 }
-    ensures { OnOk result (out.new.items ≡ out.old.items
-        ++ (to_le_bytes w16 (length rows.now) ++ (columns
-        ∷ (replicate 13 0 ++ flat_map record_bytes rows.now)))) }
-{
-    out.extend_from_slice(&(rows.len() as u16).to_le_bytes())?;
-    out.push(columns)?;
-    put_zeros(out, 13)?;
-    put_records(out, rows)
-}
-
-#[tactic(auto, using(crate::proofs::Write::filled), unfolding(image_text::specs::Spelling::page_bytes))]
-fn put_page(out: &mut Vec<u8>, columns: u8, rows: &[Record]) -> Result<(), AllocError>
-    requires { length rows.now ≤ 510 }
-    ensures { OnOk result (out.new.items ≡ out.old.items ++ page_bytes columns rows.now) }
-{
-    let begin = out.len();
-    put_front(out, columns, rows)?;
-    let used = out.len() - begin;
-    put_zeros(out, 4096usize.saturating_sub(used))
-}
-
-fn put_pages(out: &mut Vec<u8>, columns: u8, rows: &[Record]) -> Result<(), AllocError>
-    requires columns { columns ≤ 15 }
-    requires few { length rows.now < 2 ^ 32 }
-    ensures { OnOk result (out.new.items ≡ out.old.items ++ pages_bytes columns
-        (pages_for columns (length rows.now)) rows.now) }
-{
-    let pages = pages_for(columns, rows.len() as u32);
-    let mut rest = rows;
-    for _ in 0..pages {
-        let here = on_page(columns, rest.len() as u32) as usize;
-        let (front, behind) = rest.split_at(here);
-        put_page(out, columns, front)?;
-        rest = behind;
+    for index in 0..segment.pages() {
+        out.extend_from_slice(segment.page(index).bytes())?;
     }
     Ok(())
 }
@@ -235,50 +175,54 @@ fn put_rows(out: &mut Vec<u8>, rows: &[RowPart]) -> Result<(), AllocError>
     Ok(())
 }
 
-fn put_segment(out: &mut Vec<u8>, columns: u8, segment: &SegmentPart) -> Result<(), AllocError>
-    requires columns { columns ≤ 15 }
-    requires fits { FitsSegment segment.now }
-    ensures { OnOk result (out.new.items ≡ out.old.items ++ segment_bytes columns segment.now) }
+fn put_segment(
+    out: &mut Vec<u8>,
+    widths: &Widths,
+    segment: &SegmentPart,
+) -> Result<(), AllocError>
+    requires { FitsSegment widths.now segment.now }
+    ensures { OnOk result (out.new.items ≡ out.old.items ++ segment_bytes widths.now segment.now) }
 {
     out.extend_from_slice(&segment.head.to_le_bytes())?;
     out.extend_from_slice(&segment.records.len().to_le_bytes())?;
-    let rows = segment.records.listed(*out.allocator())?;
-    put_pages(out, columns, rows.as_slice())?;
+    let pages = segment.records.as_segment(*out.allocator(), widths)?;
+    put_pages(out, &pages)?;
     put_rows(out, segment.rows.as_slice())
 }
 
-fn put_segments(out: &mut Vec<u8>, columns: u8, segments: &[SegmentPart]) -> Result<(), AllocError>
-    requires columns { columns ≤ 15 }
-    requires fits { FitsSegments segments.now }
-    ensures { OnOk result (out.new.items ≡ out.old.items ++ counted (segment_bytes columns)
+fn put_segments(
+    out: &mut Vec<u8>,
+    widths: &Widths,
+    segments: &[SegmentPart],
+) -> Result<(), AllocError>
+    requires { FitsSegments widths.now segments.now }
+    ensures { OnOk result (out.new.items ≡ out.old.items ++ counted (segment_bytes widths.now)
         segments.now) }
 {
     out.extend_from_slice(&(segments.len() as u32).to_le_bytes())?;
     for segment in segments {
-        put_segment(out, columns, segment)?;
+        put_segment(out, widths, segment)?;
     }
     Ok(())
 }
 
 // The segments of one relation.
+#[tactic(auto, using(db_value::proofs::SchemaLemmas::columns_widths))]
 fn put_part(
     out: &mut Vec<u8>,
     relation: &Relation,
     segments: &ListOf<SegmentPart>,
 ) -> Result<(), AllocError>
     requires relation { FitsRelation relation.now }
-    requires fits { FitsSegments segments.now }
-    ensures { OnOk result (out.new.items ≡ out.old.items ++ counted
-        (segment_bytes (length relation.now.columns)) segments.now) }
+    requires fits { FitsSegments (widths_of relation.now) segments.now }
+    ensures { OnOk result (out.new.items ≡ out.old.items
+        ++ counted (segment_bytes (widths_of relation.now)) segments.now) }
 {
-    put_segments(
-        out,
-        relation.columns.as_slice().len() as u8,
-        segments.as_slice(),
-    )
+    let widths = widths_of(relation.columns.as_slice());
+    put_segments(out, &widths, segments.as_slice())
 }
 
-#[tactic(auto, using(crate::proofs::Write::part_more, crate::proofs::Write::no_part))]
+#[tactic(auto, using(crate::proofs::Write::part_more, crate::proofs::Write::no_part, crate::proofs::Write::fits_here))]
 fn put_all(
     out: &mut Vec<u8>,
     relations: &[Relation],
@@ -286,7 +230,7 @@ fn put_all(
 ) -> Result<(), AllocError>
     requires count { length segments.now ≡ length relations.now }
     requires relations { All FitsRelation relations.now }
-    requires fits { All FitsSegments segments.now }
+    requires fits { AllFit relations.now segments.now }
     ensures { OnOk result (out.new.items ≡ out.old.items ++ segments_bytes relations.now
         segments.now) }
 {
@@ -296,11 +240,11 @@ fn put_all(
     Ok(())
 }
 
-/// The one spelling of an image.
+/// The one spelling of an image in format two.
 #[tactic(auto, unfolding(image_text::specs::Spelling::spelling))]
 pub fn encode(alloc: Global, image: &Image) -> Result<Vec<u8>, AllocError>
     requires { Fits image.now }
-    ensures { IfOk result (λ out. out.items ≡ spelling image.now) }
+    ensures { IfOk result (λ out. out.items ≡ spelling Two image.now) }
 {
     let mut out = Vec::new(alloc);
     put_relations(&mut out, image.relations.as_slice())?;

@@ -5,4 +5,4 @@ use Rattle.image_text.specs.Spelling.{segment_bytes}
 use Rattle.image_parts.proofs.writing.put_segments.Given as goal
 
 abbrev pub invariant-loop-segment : goal.invariant-loop-segment
-invariant-loop-segment l = l.out.items ≡ (l.fn.out.items ++ to_le_bytes w32 (length l.segments)) ++ flat_map (segment_bytes l.columns) (take l.segment-index l.segments)
+invariant-loop-segment l = l.out.items ≡ (l.fn.out.items ++ to_le_bytes w32 (length l.segments)) ++ flat_map (segment_bytes l.widths) (take l.segment-index l.segments)
