@@ -4,7 +4,7 @@ use Rattle.std.specs.List.{filter, flat_map}
 use Rattle.std.specs.FinMap as finite
 use Rattle.db_value.specs.Value.{Value, fields_eq}
 use Rattle.db_value.specs.declared.record.Record.{Record}
-use Rattle.db_value.specs.declared.report.Pair.{Pair}
+use Rattle.db_value.specs.declared.pairs.Pair.{Pair}
 use Rattle.db_store.specs.Table.{Table, Contents, relation_at, rows_of}
 use Rattle.db_store.specs.Rows.{rows_where}
 

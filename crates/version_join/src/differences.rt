@@ -1,29 +1,44 @@
 //! Records that another version lacks or has changed.
-ghost use Rattle.std.specs.Prelude.{◌≡◌, ◌+◌, ◌<◌, ◌≤◌, length, map, IfOk};
+ghost use Rattle.std.specs.Prelude.{◌≡◌, ◌+◌, ◌++◌, ◌∷◌, ◌<◌, ◌≤◌, [], length, map, IfOk, OnOk};
 ghost use Rattle.db_store.specs.Table.{relation_at, rows_of};
 ghost use Rattle.db_store.specs.Rows.{marked, slots_of};
-ghost use Rattle.version_join.specs.Join.{differs, unlike, minus_of};
+ghost use Rattle.version_join.specs.Join.{unlike, minus_of};
 
-use crate::look::find_fields;
+use crate::look::find_record;
 use db_store::{View, list_all};
-use db_value::{Fields, Marked, Positions, Record, Rows, SharedList, Steps};
+use db_value::{Record, Records, Rows, Steps};
 use std::alloc::{AllocError, Global};
 use std::sync::ledger::Ledger;
 
-// Is there no record beside this one, or are its fields others?
-fn differs(row: &Record, other: Option<Fields>) -> bool
-    ensures { result ≡ differs row.now other }
+// The record behind others, if the relation lacks it or has changed it. The other record is one to
+// read into.
+fn keep_unlike<V: View, L: Ledger>(
+    kept: &mut Records,
+    row: &Record,
+    right: &V,
+    relation: u8,
+    other: &mut Record,
+    steps: &mut Steps<L>,
+) -> Result<(), AllocError>
+    requires { relation < length (V.table right.now) }
+    ensures kept { OnOk result (kept.new
+        ≡ kept.old ++ unlike (row.now ∷ []) (relation_at (V.table right.now) relation)) }
+    ensures cost { steps.new ≤ steps.old + 1 }
 {
-    match other {
-        None => true,
-        Some(fields) => row.fields != fields,
+    if !find_record(right, relation, row.key, other, steps) {
+        return Ok(kept.push(row)?);
     }
+    let same = row.fields == other.fields;
+    if same {
+        return Ok(());
+    }
+    Ok(kept.push(row)?)
 }
 
 // The rows that a relation lacks or has changed, as rows of the one view.
-fn keep_unlike<V: View, L: Ledger>(
+fn all_unlike<V: View, L: Ledger>(
     alloc: Global,
-    rows: &[Record],
+    rows: &Records,
     right: &V,
     relation: u8,
     steps: &mut Steps<L>,
@@ -33,17 +48,14 @@ fn keep_unlike<V: View, L: Ledger>(
         kept ≡ map marked (unlike rows.now (relation_at (V.table right.now) relation))) }
     ensures cost { steps.new ≤ steps.old + length rows.now }
 {
-    let mut kept = Vec::new(alloc);
-    for row in rows {
-        let other = find_fields(right, relation, row.key, steps);
-        if differs(row, other) {
-            kept.push(Marked {
-                row: *row,
-                positions: Positions::first_alone(alloc),
-            })?;
-        }
+    let mut row = Record::blank();
+    let mut other = Record::blank();
+    let mut kept = Records::new(alloc);
+    for at in 0..rows.len() {
+        rows.read(at, &mut row);
+        keep_unlike(&mut kept, &row, right, relation, &mut other, steps)?;
     }
-    Ok(SharedList::of(alloc, kept)?)
+    Rows::alone(alloc, kept)
 }
 
 /// The records of a relation of the left view whose record in the right one is absent or different,
@@ -64,6 +76,6 @@ pub fn minus<V: View, W: View, L: Ledger>(
         (rows_of (relation_at (V.table left.now) r)) }
 {
     let rows = list_all(alloc, left, r, steps)?;
-    let kept = keep_unlike(alloc, rows.as_slice(), right, r, steps)?;
+    let kept = all_unlike(alloc, &rows, right, r, steps)?;
     Ok(kept)
 }

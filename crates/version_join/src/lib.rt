@@ -18,4 +18,4 @@ mod look;
 
 pub use differences::minus;
 pub use joins::join;
-pub use look::find_fields;
+pub use look::find_record;

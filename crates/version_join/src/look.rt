@@ -1,29 +1,31 @@
 //! Looking up in the other version.
-ghost use Rattle.std.specs.Prelude.{◌≡◌, ◌+◌, ◌<◌, ◌≤◌, length};
+ghost use Rattle.std.specs.Prelude.{◌≡◌, ◌+◌, ◌<◌, ◌≤◌, is_some, length, IfSome};
 ghost use Rattle.std.specs.FinMap as finite;
 ghost use Rattle.db_store.specs.Table.{relation_at};
 
-use db_store::{View, blank_record};
-use db_value::{Fields, Steps};
+use db_store::View;
+use db_value::{Record, Steps};
 use std::sync::ledger::Ledger;
 
-/// The fields at a key, if there are any.
-pub fn find_fields<V: View, L: Ledger>(
+/// Has a relation a key? If so, its record is read.
+pub fn find_record<V: View, L: Ledger>(
     view: &V,
     relation: u8,
     key: u64,
+    into: &mut Record,
     steps: &mut Steps<L>,
-) -> Option<Fields>
+) -> bool
     requires { relation < length (V.table view.now) }
-    ensures fields { result ≡ finite.get (relation_at (V.table view.now) relation) key }
+    ensures there { result ≡ is_some (finite.get (relation_at (V.table view.now) relation) key) }
+    ensures fields { IfSome (finite.get (relation_at (V.table view.now) relation) key)
+        (λ fields. into.new.fields ≡ fields) }
     ensures cost { steps.new ≤ steps.old + 1 }
 {
     match view.find(relation, key) {
-        None => None,
+        None => false,
         Some(spot) => {
-            let mut row = blank_record();
-            view.read(relation, spot, &mut row, steps);
-            Some(row.fields)
+            view.read(relation, spot, into, steps);
+            true
         }
     }
 }
