@@ -5,7 +5,7 @@ use Rattle.db_value.specs.declared.record.Record.{Record}
 use Rattle.db_value.specs.declared.schema.Relation.{Relation}
 use Rattle.db_store.specs.declared.view.View.{Ghosts}
 use Rattle.db_store.specs.declared.work.Work.{Work}
-use Rattle.db_store.specs.declared.touch.Touch.{Touch}
+use Rattle.work_region.specs.declared.rows.RowFrame.{RowFrame as Touch}
 use Rattle.db_store.specs.Overlay.{untouched, count_touched}
 use Rattle.db_store.specs.Parts.{Part, part_at, records_in}
 use Rattle.db_store.specs.WorkParts.{own_slot, own_part, parts_over}

@@ -10,7 +10,7 @@ use Rattle.db_store.specs.declared.view.View.{Ghosts}
 use Rattle.db_store.specs.declared.seen.Seen.{Seen}
 use Rattle.db_store.specs.declared.seen.Seen.TheVariants.{Kept, Own}
 use Rattle.db_store.specs.declared.work.Work.{Work}
-use Rattle.db_store.specs.declared.touch.Touch.{Touch}
+use Rattle.work_region.specs.declared.rows.RowFrame.{RowFrame as Touch}
 use Rattle.db_store.specs.Touched.{touches_at}
 use Rattle.db_store.specs.Parts.{Part, part_at, records_in}
 use Rattle.db_store.specs.WorkParts.{masked_slot, own_part, parts_over}

@@ -9,8 +9,8 @@ ghost use Rattle.db_image.specs.Images.{row_image, rows_image, head_image, segme
 
 use crate::image_deltas::deltas_image;
 use crate::image_records::fits_its_types;
-use db_store::{Store, blank_record};
-use db_value::{ListOf, Steps};
+use db_store::Store;
+use db_value::{ListOf, Record, Steps};
 use hybrid_store::HybridStore;
 use image_text::{PagedRecords, RowPart as RowRead, SegmentPart as SegmentRead};
 use segment::Segment;
@@ -89,7 +89,7 @@ fn fit_their_types<L: Ledger>(segment: &Segment, blank: Blank)
     ensures { All IsRanged segment.now.records }
 {
     let mut steps = Steps::<L>::open(blank);
-    let mut row = blank_record();
+    let mut row = Record::blank();
     for slot in 0..segment.len() {
         segment.read(slot, &mut row, &mut steps);
         fits_its_types(&row);

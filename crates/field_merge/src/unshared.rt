@@ -8,7 +8,7 @@ ghost use Rattle.field_merge.specs.Shared.{live_row, IsSpot, AgreeWithLeft, IsSp
 
 use crate::sides::{Sides, are_same};
 use crate::turns::{Taken, Turn, next_turn};
-use db_store::{Spot, View, blank_record};
+use db_store::{Spot, View};
 use db_value::{Record, Steps};
 use std::alloc::{AllocError, Global};
 use std::marker::Brand;
@@ -24,7 +24,7 @@ fn read_counted<V: View, L: Ledger>(view: &V, relation: u8, spot: Spot, blank: B
     ensures { result ≡ (slot_at (V.parts_of view.now relation) spot.part spot.slot).0 }
 {
     let mut steps = Steps::<L>::open(blank);
-    let mut row = blank_record();
+    let mut row = Record::blank();
     view.read(relation, spot, &mut row, &mut steps);
     row
 }

@@ -5,8 +5,7 @@ ghost use Rattle.record_page.specs.Page.{record_at};
 ghost use Rattle.hybrid_view.specs.Spots.{places_anew, spots_in, spots_of_piece, spots_of_pieces};
 
 use crate::part::LivePart;
-use db_store::blank_record;
-use db_value::Steps;
+use db_value::{Record, Steps};
 use key_index::{KeyIndex, SpotChange, SpotChanges};
 use std::alloc::{AllocError, Global};
 use std::marker::Brand;
@@ -27,7 +26,7 @@ fn put_spot<L: Ledger>(
     if !part.live(slot) {
         return Ok(());
     }
-    let mut row = blank_record();
+    let mut row = Record::blank();
     part.read(slot, &mut row, steps);
     spots.push(SpotChange {
         key: row.key,

@@ -10,7 +10,7 @@ ghost use Rattle.multi_scan.specs.Places.{shown, part_of, slot_of, IsPlace, AreL
 ghost use Rattle.multi_scan.specs.Cost.{distinct_parts};
 
 use crate::places::{Place, count_id};
-use db_store::{Spot, View, blank_record};
+use db_store::{Spot, View};
 use db_value::{Marked, Positions, Pred, Record, Steps};
 use std::alloc::{AllocError, Global};
 use std::sync::ledger::Ledger;
@@ -54,7 +54,7 @@ fn read_slot<V: View, L: Ledger>(
     ensures cost { steps.new ≤ steps.old + 1 }
 {
     let view = &views[place.position as usize];
-    let mut row = blank_record();
+    let mut row = Record::blank();
     let spot = Spot {
         part: place.index,
         slot,

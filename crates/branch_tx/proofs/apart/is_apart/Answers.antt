@@ -1,6 +1,6 @@
 use Rattle.std.proofs.Common.{◌≡◌, ◌+◌, ◌-◌, ℕ, List, length, sym, subst, ◌∙◌, arith}
 use Rattle.db_store.specs.Parts.{Part}
-use Rattle.db_store.specs.declared.touch.Touch.{Touch}
+use Rattle.work_region.specs.declared.rows.RowFrame.{RowFrame as Touch}
 use Rattle.db_store.proofs.WorkLemmas.{length_parts}
 use Rattle.branch_tx.specs.SeenFrom.{IsApart}
 use Rattle.branch_tx.proofs.SeenAgree.{masked_ids}
