@@ -17,8 +17,7 @@ pub struct Pair {
     pub right: Fields,
 }
 
-/// Pairs of records with one key, in order, which several owners can have: two lists of records, side
-/// by side.
+/// Pairs of records with one key, in order: two lists of records, side by side.
 #[derive(Drop)]
 pub struct Pairs {
     left: Arc<Records>,
@@ -66,14 +65,5 @@ impl Pairs {
     {
         self.left.read(index, left);
         self.right.read(index, right);
-    }
-
-    /// The same pairs for another owner. No record is copied.
-    pub fn share(&self) -> Result<Pairs, AllocError>
-        ensures { IfOk result (λ p. p ≡ self.now) }
-    {
-        let left = Arc::try_clone(&self.left)?;
-        let right = Arc::try_clone(&self.right)?;
-        Ok(Pairs { left, right })
     }
 }

@@ -10,8 +10,8 @@ use std::alloc::{AllocError, Global};
 use std::marker::Model;
 use std::sync::Arc;
 
-/// Rows in order, each with the versions that have it, which several owners can have. Where no version
-/// was named, each is of the first version alone, and that takes no memory.
+/// Rows in order, each with the versions that have it. Where no version was named, each is of the first
+/// version alone, and that takes no memory.
 #[derive(Drop)]
 pub struct Rows {
     rows: Arc<Records>,
@@ -87,23 +87,6 @@ impl Rows {
         match &self.marks {
             None => (0, &[]),
             Some(marks) => positions_at(marks.as_slice(), index),
-        }
-    }
-
-    /// The same rows for another owner. No row is copied.
-    pub fn share(&self) -> Result<Rows, AllocError>
-        ensures { IfOk result (λ r. r ≡ self.now) }
-    {
-        let rows = Arc::try_clone(&self.rows)?;
-        match &self.marks {
-            None => Ok(Rows { rows, marks: None }),
-            Some(marks) => {
-                let marks = marks.share()?;
-                Ok(Rows {
-                    rows,
-                    marks: Some(marks),
-                })
-            }
         }
     }
 }

@@ -52,8 +52,7 @@ fn keeps_long_and_short_rows(rt: HostRuntime) -> Result<(), Fail> {
     let mut read = Record::blank();
     for expected in &[long, short] {
         let one = OneRow::some(rt.alloc(), expected)?;
-        let again = one.share()?;
-        holds(&rt, "a row", again.read(&mut read));
+        holds(&rt, "a row", one.read(&mut read));
         holds(&rt, "its key and fields", read == *expected);
     }
     holds(&rt, "no row", !OneRow::none().read(&mut read));
@@ -87,7 +86,7 @@ fn marks_rows_and_pairs_them(rt: HostRuntime) -> Result<(), Fail> {
     let left = three(alloc)?;
     let right = three(alloc)?;
     if left.len() == right.len() {
-        let pairs = Pairs::of(alloc, left, right)?.share()?;
+        let pairs = Pairs::of(alloc, left, right)?;
         let mut one = Record::blank();
         let mut other = Record::blank();
         if pairs.len() == 3 {
