@@ -281,11 +281,7 @@ fn made_commit(
 }
 
 // The commit behind its tag, which tells its kind, and how many bytes it has there.
-fn first_commit(
-    alloc: Global,
-    wide: bool,
-    b: &[u8],
-) -> Result<Option<(Entry, usize)>, AllocError>
+fn first_commit(alloc: Global, wide: bool, b: &[u8]) -> Result<Option<(Entry, usize)>, AllocError>
     ensures entry { IfOk result (λ o. option_map (λ r. r.0) o ≡ commit_in wide b.now) }
     ensures size { IfOk result (λ o. IfSome o (λ r. 1 + r.1 ≡ entry_size r.0)) }
     ensures within { IfOk result (λ o. IfSome o (λ r. r.1 ≤ length b.now)) }

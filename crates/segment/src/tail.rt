@@ -30,7 +30,7 @@ fn has_room(widths: &Widths, links: &[Arc<Page>]) -> bool
     ensures some { result ≡ true → 0 < length links.now }
     ensures room { result ≡ true →
         length (page_at (map arc_value links.now) (length links.now - 1)).records
-            < capacity widths.now }
+        < capacity widths.now }
     ensures full { result ≡ false → 0 < length links.now → capacity widths.now
         ≤ length (page_at (map arc_value links.now) (length links.now - 1)).records }
 {

@@ -108,7 +108,11 @@ fn tells_the_versions_of_a_row(rt: HostRuntime) -> Result<(), Fail> {
         let marked = Rows::marked(alloc, rows, marks)?;
         if marked.len() == 1 {
             let (first, others) = marked.positions(0);
-            holds(&rt, "three versions", first == 2 && others == [5u32, 9].as_slice());
+            holds(
+                &rt,
+                "three versions",
+                first == 2 && others == [5u32, 9].as_slice(),
+            );
         }
     }
     Ok(())

@@ -99,7 +99,11 @@ fn refuses_spoilt(
 ) -> Result<(), AllocError> {
     let widths = page.widths();
     for (name, place, byte, is) in spoilt {
-        holds(rt, name, are_page_with(alloc, &widths, page.bytes(), *place, *byte)? == *is);
+        holds(
+            rt,
+            name,
+            are_page_with(alloc, &widths, page.bytes(), *place, *byte)? == *is,
+        );
     }
     Ok(())
 }

@@ -42,15 +42,30 @@ fn rows_keep_to_their_frames(rt: HostRuntime) -> Result<(), Fail> {
     let first = region.place(3, &long, true).expect(&rt, "a first frame");
     let second = region.place(4, &long, true).expect(&rt, "a second frame");
     same(&rt, "frames by number", (first, second), (0, 1));
-    same(&rt, "a third", region.place(3, &short, true).err(), Some(RegionFull));
+    same(
+        &rt,
+        "a third",
+        region.place(3, &short, true).err(),
+        Some(RegionFull),
+    );
 
     region.set(0, 5, &short, false);
     let mut read = Record::blank();
     region.row(0, &mut read);
     holds(&rt, "the frame that was set", read == short);
-    same(&rt, "what it is", (region.relation(0), region.is_live(0), region.key(0)), (5, false, 2));
+    same(
+        &rt,
+        "what it is",
+        (region.relation(0), region.is_live(0), region.key(0)),
+        (5, false, 2),
+    );
     region.row(1, &mut read);
     holds(&rt, "the other frame", read == long);
-    same(&rt, "what that is", (region.relation(1), region.is_live(1)), (4, true));
+    same(
+        &rt,
+        "what that is",
+        (region.relation(1), region.is_live(1)),
+        (4, true),
+    );
     Ok(())
 }
