@@ -1,15 +1,15 @@
 //! What an entry has, and whether its changes fit a schema and a table.
-ghost use Rattle.std.specs.Prelude.{◌≡◌, ◌<◌, ◌≤◌, ◌-◌, ◌^◌, ◌&&◌, true, nat_le, length};
+ghost use Rattle.std.specs.Prelude.{◌≡◌, ◌+◌, ◌<◌, ◌≤◌, ◌-◌, ◌^◌, ◌&&◌, true, nat_le, length, drop};
 ghost use Rattle.std.specs.FinMap as finite;
 ghost use Rattle.std.specs.List.{list_all};
-ghost use Rattle.db_value.specs.Relations.{columns_at};
-ghost use Rattle.db_store.specs.Fits.{changes_of, second_of, IsCommit, IsBranch, makes_version, is_before, first_is_before, ascends, has_fields, change_fits, changes_fit, is_within, most_keys};
+ghost use Rattle.db_value.specs.PackedChanges.{change_here};
+ghost use Rattle.db_store.specs.Fits.{changes_of, second_of, IsCommit, IsBranch, makes_version, first_is_before, ascends, has_fields, has_widths, change_fits, changes_fit, is_within, most_keys};
 ghost use Rattle.db_store.specs.Table.{with_changes, relation_at};
 ghost use Rattle.store_catalogue.specs.Entries.{branch_of, name_of, origin_of};
 ghost use Rattle.db_store.specs.Counts.{recounted};
 
 use crate::KeyedTable;
-use db_value::{Change, Entry, Fields, Name, Relation, VersionPlace};
+use db_value::{Changes, Entry, Name, Record, Schema, VersionPlace, Widths};
 
 /// The most changes of an entry.
 const MOST_CHANGES: usize = 65_536;
@@ -17,8 +17,9 @@ const MOST_CHANGES: usize = 65_536;
 /// The most keys of a relation.
 const MOST_KEYS: usize = 262_144;
 
-/// The changes of an entry.
-pub fn changes_of(entry: &Entry) -> &[Change]
+/// The changes of a commit.
+pub fn changes_of(entry: &Entry) -> &Changes
+    requires { IsCommit entry.now }
     ensures { result.now ≡ changes_of entry.now }
 {
     match entry {
@@ -26,8 +27,8 @@ pub fn changes_of(entry: &Entry) -> &[Change]
             branch: _,
             second: _,
             changes,
-        } => changes.as_slice(),
-        Entry::Branch { .. } => &[],
+        } => changes,
+        Entry::Branch { .. } => unreachable!(),
     }
 }
 
@@ -83,74 +84,81 @@ pub fn origin_of(entry: &Entry) -> VersionPlace
 }
 
 /// Is there a change or a second parent?
-pub fn makes_version(second: &Option<VersionPlace>, changes: &[Change]) -> bool
+pub fn makes_version(second: &Option<VersionPlace>, changes: &Changes) -> bool
     ensures { result ≡ makes_version second.now changes.now }
 {
-    second.is_some() || !changes.is_empty()
+    second.is_some() || changes.len() > 0
 }
 
-fn stands_before(a: &Change, b: &Change) -> bool
-    ensures { result ≡ is_before a.now b.now }
+// Stands a change before the next one in order, if there is a next one?
+#[tactic(auto, using(crate::proofs::FitLemmas::before_next, crate::proofs::FitLemmas::before_none))]
+fn stands_before_next(changes: &Changes, at: usize) -> bool
+    requires { at < length changes.now }
+    ensures { result ≡ first_is_before (drop at changes.now) }
 {
-    a.relation < b.relation || (a.relation == b.relation && a.key < b.key)
-}
-
-fn first_stands_before(changes: &[Change]) -> bool
-    ensures { result ≡ first_is_before changes.now }
-{
-    match changes {
-        [] => true,
-        [_] => true,
-        [first, second, ..] => stands_before(first, second),
+    if changes.len() - at <= 1 {
+        return true;
     }
+    let next = at + 1;
+    let first = changes.relation(at);
+    let second = changes.relation(next);
+    first < second || (first == second && changes.key(at) < changes.key(next))
 }
 
-fn has_count(fields: &Option<Fields>, count: usize) -> bool
-    ensures { result ≡ has_fields count fields.now }
+// Does a change put fields that meet these widths, and tell the same widths, or does it delete? The row
+// is one to read into.
+fn change_meets(widths: &Widths, changes: &Changes, at: usize, row: &mut Record) -> bool
+    requires { at < length changes.now }
+    ensures { result ≡ (has_fields widths.now (change_here changes.now at).fields && has_widths
+        widths.now (change_here changes.now at).fields (change_here changes.now at).widths) }
 {
-    match fields {
-        None => true,
-        Some(fields) => fields.count() == count,
-    }
-}
-
-fn column_count(relations: &[Relation], relation: usize) -> usize
-    requires { relation < length relations.now }
-    ensures { result ≡ length (columns_at relations.now relation) }
-{
-    relations[relation].columns.as_slice().len()
-}
-
-fn change_fits(relations: &[Relation], change: &Change) -> bool
-    ensures { result ≡ change_fits relations.now change.now }
-{
-    let relation = change.relation as usize;
-    if relation >= relations.len() {
+    let puts = changes.read(at, row);
+    let Some(own) = changes.widths(at) else {
+        return !puts;
+    };
+    if !puts {
         return false;
     }
-    has_count(&change.fields, column_count(relations, relation))
+    if !own.are_same(widths) {
+        return false;
+    }
+    widths.meets(&row.fields)
 }
 
-// Do changes ascend, and does each fit the relations of a schema? It goes over them once.
-fn ascend_and_fit(relations: &[Relation], changes: &[Change]) -> bool
-    ensures { result ≡ (ascends changes.now && list_all (change_fits relations.now) changes.now) }
+fn change_fits(schema: &Schema, changes: &Changes, at: usize, row: &mut Record) -> bool
+    requires { at < length changes.now }
+    ensures { result ≡ change_fits schema.now (change_here changes.now at) }
 {
-    for i in 0..changes.len() {
-        if !first_stands_before(&changes[i..]) {
+    let relation = changes.relation(at);
+    if relation as usize >= schema.relations().len() {
+        return false;
+    }
+    change_meets(&schema.widths(relation), changes, at, row)
+}
+
+// Do changes ascend, and does each fit a schema? It goes over them once.
+#[tactic(auto, using(crate::proofs::FitLemmas::fit_next, crate::proofs::FitLemmas::unordered, crate::proofs::FitLemmas::unfit))]
+fn ascend_and_fit(schema: &Schema, changes: &Changes) -> bool
+    ensures { result ≡ (ascends changes.now && list_all (change_fits schema.now) changes.now) }
+{
+    let mut row = Record::blank();
+    for at in 0..changes.len() {
+        if !stands_before_next(changes, at) {
             return false;
         }
-        if !change_fits(relations, &changes[i]) {
+        if !change_fits(schema, changes, at, &mut row) {
             return false;
         }
     }
     true
 }
 
-/// Are there few enough changes, ascending, and does each fit the relations of a schema?
-pub fn changes_fit(relations: &[Relation], changes: &[Change]) -> bool
-    ensures { result ≡ changes_fit relations.now changes.now }
+/// Are there few enough changes, ascending, and does each fit a schema: is it of one of its relations,
+/// with the widths of that one and fields that meet them?
+pub fn changes_fit(schema: &Schema, changes: &Changes) -> bool
+    ensures { result ≡ changes_fit schema.now changes.now }
 {
-    changes.len() <= MOST_CHANGES && ascend_and_fit(relations, changes)
+    changes.len() <= MOST_CHANGES && ascend_and_fit(schema, changes)
 }
 
 /// The count after a change of a key that was there or wasn't, and is put or deleted.
@@ -167,7 +175,7 @@ pub fn recount(count: usize, was_there: bool, is_put: bool) -> usize
 }
 
 // How many keys a relation has after changes. It takes no memory.
-fn count_after<T: KeyedTable>(table: &T, relation: u8, changes: &[Change]) -> usize
+fn count_after<T: KeyedTable>(table: &T, relation: u8, changes: &Changes) -> usize
     requires few { length changes.now ≤ MOST_CHANGES }
     requires ascending { ascends changes.now ≡ true }
     requires relation { relation < length (T.table_of table.now) }
@@ -175,21 +183,20 @@ fn count_after<T: KeyedTable>(table: &T, relation: u8, changes: &[Change]) -> us
         ≡ finite.len (relation_at (with_changes (T.table_of table.now) changes.now) relation) }
 {
     let mut count = table.keys(relation) as usize;
-    for change in changes {
-        if change.relation == relation {
-            count = recount(
-                count,
-                table.has(relation, change.key),
-                change.fields.is_some(),
-            );
+    for at in 0..changes.len() {
+        let own = changes.relation(at);
+        if own != relation {
+            continue;
         }
+        let key = changes.key(at);
+        count = recount(count, table.has(relation, key), changes.puts(at));
     }
     count
 }
 
 // Has a relation few enough keys after changes? They are counted only if there were too many, should each
 // change put a new key.
-fn stays_within<T: KeyedTable>(table: &T, relation: u8, changes: &[Change]) -> bool
+fn stays_within<T: KeyedTable>(table: &T, relation: u8, changes: &Changes) -> bool
     requires few { length changes.now ≤ MOST_CHANGES }
     requires ascending { ascends changes.now ≡ true }
     requires relation { relation < length (T.table_of table.now) }
@@ -205,7 +212,7 @@ fn stays_within<T: KeyedTable>(table: &T, relation: u8, changes: &[Change]) -> b
 
 /// Has every relation of a table, which has so many relations, few enough keys after changes? It
 /// counts them where there could be too many, and takes no memory.
-pub fn is_within<T: KeyedTable>(table: &T, width: u8, changes: &[Change]) -> bool
+pub fn is_within<T: KeyedTable>(table: &T, width: u8, changes: &Changes) -> bool
     requires few { length changes.now ≤ MOST_CHANGES }
     requires ascending { ascends changes.now ≡ true }
     requires width { width ≡ length (T.table_of table.now) }
