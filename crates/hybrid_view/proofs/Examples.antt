@@ -1,6 +1,8 @@
 -- Layouts after a few entries, computed.
 use Rattle.std.proofs.Common.{◌≡◌, ℕ, true, false, List, [], ◌∷◌, length, map, Option, Some, None, refl, get_or}
 use Rattle.std.specs.Prelude.{pos, codes}
+use Rattle.db_value.specs.Relations.{number_column}
+use Rattle.db_value.specs.declared.value.Value.TheVariants.{Number}
 use Rattle.db_value.specs.declared.schema.Relation.{Relation}
 use Rattle.db_value.specs.declared.entry.Change.{Change}
 use Rattle.db_value.specs.declared.entry.Entry.{Entry}
@@ -9,10 +11,10 @@ use Rattle.db_store.specs.Layout.{Segment, Row, Layout, new_layout, lane_at, bit
 use Rattle.db_store.specs.LayoutGrowth.{grow_layout}
 
 items : List Relation
-items = record { name = codes "items"; columns = codes "a" ∷ codes "b" ∷ [] } ∷ []
+items = record { name = codes "items"; columns = number_column (codes "a") ∷ number_column (codes "b") ∷ [] } ∷ []
 
 abbrev put : ℕ → ℕ → ℕ → Change
-put key a b = record { relation = 0; key = key; fields = Some (pos a ∷ pos b ∷ []) }
+put key a b = record { relation = 0; key = key; fields = Some (Number (pos a) ∷ Number (pos b) ∷ []); widths = Some (0 ∷ 0 ∷ []) }
 
 abbrev one : ℕ → Change → Entry
 one b c = Commit b None (c ∷ [])

@@ -227,7 +227,7 @@ pub next_head : (places : List (Option (ℕ × ℕ))) (more : List Record) (p q 
     → Next places p.segment more p q
 next_head places more p q from cut segment rows is cut_bits bits long covers = record {
   segment = segment;
-  fields = ap (λ (r : Rows). r.fields) rows;
+  widths = ap (λ (r : Rows). r.widths) rows;
   records = records ∙ ap (λ b. p.rows.records ++ cond b more []) (sym (eq-eqb p.segment p.segment refl));
   bits = λ slot.
       bits slot

@@ -1,11 +1,11 @@
 -- A key has a place exactly where there is a record with it.
-use Rattle.std.proofs.Common.{◌≡◌, ◌==◌, ◌<◌, ◌+◌, ℕ, Bool, true, false, cond, List, [], ◌∷◌, ◌++◌, length, take, drop, get_or, ap, sym, ◌∙◌, refl, Option, Some, None}
+use Rattle.std.proofs.Common.{◌≡◌, ◌==◌, ◌<◌, ◌+◌, ℕ, Bool, true, false, cond, List, [], ◌∷◌, ◌++◌, length, take, ap, sym, ◌∙◌, refl, Option, Some, None}
 use Rattle.std.specs.Prelude.{is_some}
-use Rattle.std.proofs.lemmas.List.{drop_more, take_more, map-append}
+use Rattle.std.proofs.lemmas.List.{take_more, map-append}
 use Rattle.db_value.specs.Value.{Value}
 use Rattle.db_value.specs.declared.entry.Change.{Change}
-use Rattle.db_store.specs.Counts.{recounted, counted}
-use Rattle.db_store.specs.Table.{Contents}
+use Rattle.db_value.specs.PackedChanges.{change_here}
+use Rattle.db_store.specs.Counts.{recounted}
 use Rattle.hybrid_view.specs.Struck.{touched_place, touched_places}
 use Rattle.std.specs.FinMap.{get}
 use Rattle.db_store.proofs.BitLemmas.{get_contents}
@@ -27,11 +27,9 @@ keys_more l r c n = by (c.relation == r)
     by true = ap (λ (w : Bool). recounted n w (is_some c.fields)) (has_place l c.key)
     by false = refl
 
--- one change more is counted
-pub counted_drop : (r : ℕ) (m : Contents) (cs : List Change) (i : ℕ) (z : Change) (n : ℕ) → i < length cs
-    → counted r m n (drop i cs) ≡ counted r m (cond ((get_or cs i z).relation == r) (recounted n (is_some (get m (get_or cs i z).key)) (is_some (get_or cs i z).fields)) n) (drop (i + 1) cs)
-counted_drop r m cs i z n h = ap (counted r m n) (drop_more cs i z h)
+abbrev no_change : Change
+no_change = record { relation = 0; key = 0; fields = None; widths = None }
 
 -- one change more touches a place
-pub touched_more : (ps : List Piece) (cs : List Change) (r i : ℕ) (z : Change) → i < length cs → touched_places ps (take (i + 1) cs) r ≡ touched_places ps (take i cs) r ++ touched_place ps r (get_or cs i z) ∷ []
-touched_more ps cs r i z h = ap (λ (ds : List Change). touched_places ps ds r) (take_more cs i z h) ∙ map-append (touched_place ps r) (take i cs) (get_or cs i z ∷ [])
+pub touched_more : (ps : List Piece) (cs : List Change) (r i : ℕ) → i < length cs → touched_places ps (take (i + 1) cs) r ≡ touched_places ps (take i cs) r ++ touched_place ps r (change_here cs i) ∷ []
+touched_more ps cs r i h = ap (λ (ds : List Change). touched_places ps ds r) (take_more cs i no_change h) ∙ map-append (touched_place ps r) (take i cs) (change_here cs i ∷ [])

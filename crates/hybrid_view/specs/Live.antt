@@ -57,7 +57,7 @@ place_of (p ∷ ps) key = place_or p.segment (slot_in 0 p.rows.records (bit_of p
 
 -- what stands past the last piece
 abbrev pub no_piece : Piece
-no_piece = record { segment = 0; rows = record { fields = 0; records = [] }; bits = [] }
+no_piece = record { segment = 0; rows = record { widths = []; records = [] }; bits = [] }
 
 -- a piece by its number
 abbrev pub piece_at : List Piece → ℕ → Piece

@@ -50,7 +50,7 @@ spots head next (c ∷ cs) r = spot_before (c.relation == r) head next c.key c.f
 -- a piece after a commit: its segment has the new records behind its own where it is the head, and the bits are those of untouched keys and of new records
 pub record Next (places : List (Option (ℕ × ℕ))) (head : ℕ) (more : List Record) (p q : Piece) : Type 0 where
   pub segment : q.segment ≡ p.segment
-  pub fields : q.rows.fields ≡ p.rows.fields
+  pub widths : q.rows.widths ≡ p.rows.widths
   pub records : q.rows.records ≡ p.rows.records ++ cond (p.segment == head) more []
   pub bits : (slot : ℕ) → bit_of q.bits slot ≡ cond (nat_lt slot (length p.rows.records)) (bit_of p.bits slot && not (struck places p.segment slot)) (nat_lt slot (length q.rows.records))
   pub covered : length q.bits ≤ length q.rows.records

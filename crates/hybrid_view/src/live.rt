@@ -1,5 +1,6 @@
 //! What a version has of a relation.
 ghost use Rattle.std.specs.Prelude.{◌≡◌, ℕ, List, ◌<◌, ◌≤◌, ◌+◌, ◌^◌, ◌==◌, ◌++◌, ◌∷◌, [], cond, OnOk, length, position, IfOk, IfSome, IfNone, Some, None, true};
+ghost use Rattle.db_value.specs.PackedChanges.{change_here};
 ghost use Rattle.segment.specs.Pages.{AreWide};
 ghost use Rattle.hybrid_view.specs.Struck.{touched_place, touched_places};
 ghost use Rattle.hybrid_view.specs.RowPlaces.{AllNext};
@@ -14,7 +15,7 @@ use crate::part::LivePart;
 use crate::puts::PutRows;
 use crate::spots::index_anew;
 use db_store::Spot;
-use db_value::Change;
+use db_value::Changes;
 use key_index::{KeyIndex, SpotChanges};
 use std::alloc::{AllocError, Global};
 use std::marker::Model;
@@ -203,11 +204,13 @@ impl LiveRelation {
     }
 
     /// The segment and the slot of the key that a change of the relation touches.
-    pub(crate) fn place_at(&self, change: &Change, relation: u8) -> Option<(u32, u32)>
-        ensures { result ≡ touched_place self.now.pieces relation change.now }
+    pub(crate) fn place_at(&self, changes: &Changes, at: usize, relation: u8) -> Option<(u32, u32)>
+        requires { at < length changes.now }
+        ensures { result ≡ touched_place self.now.pieces relation (change_here changes.now at) }
     {
-        if change.relation == relation {
-            self.live_place(change.key)
+        let own = changes.relation(at);
+        if own == relation {
+            self.live_place(changes.key(at))
         } else {
             None
         }
@@ -222,7 +225,7 @@ impl LiveRelation {
         head: u32,
         rows: &PutRows<'_>,
     ) -> Result<Vec<LivePart>, AllocError>
-        requires fields { EachOf head self.now.pieces (λ p. AreWide p.rows.fields rows.now) }
+        requires wide { EachOf head self.now.pieces (λ p. AreWide p.rows.widths rows.now) }
         requires few { EachOf head self.now.pieces (λ p.
             length p.rows.records + length rows.now < 2 ^ 32) }
         ensures { IfOk result (λ v. AllNext places.now head rows.now self.now.pieces v.items) }
@@ -246,7 +249,7 @@ impl LiveRelation {
         spots: &SpotChanges,
         count: u32,
     ) -> Result<LiveRelation, AllocError>
-        requires fields { EachOf head self.now.pieces (λ p. AreWide p.rows.fields rows.now) }
+        requires wide { EachOf head self.now.pieces (λ p. AreWide p.rows.widths rows.now) }
         requires few { EachOf head self.now.pieces (λ p.
             length p.rows.records + length rows.now < 2 ^ 32) }
         requires lived { (qs : List Piece) → AllNext places.now head rows.now self.now.pieces qs →
@@ -280,7 +283,7 @@ impl LiveRelation {
         rows: &PutRows<'_>,
         count: u32,
     ) -> Result<LiveRelation, AllocError>
-        requires fields { EachOf head self.now.pieces (λ p. AreWide p.rows.fields rows.now) }
+        requires wide { EachOf head self.now.pieces (λ p. AreWide p.rows.widths rows.now) }
         requires few { EachOf head self.now.pieces (λ p.
             length p.rows.records + length rows.now < 2 ^ 32) }
         requires lived { (qs : List Piece) → AllNext places.now head rows.now self.now.pieces qs

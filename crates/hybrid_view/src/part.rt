@@ -186,7 +186,7 @@ impl LivePart {
         rows: &PutRows<'_>,
     ) -> Result<LivePart, AllocError>
         requires covers { length self.now.bits ≤ length self.now.rows.records }
-        requires fields { AreWide self.now.rows.fields rows.now }
+        requires wide { AreWide self.now.rows.widths rows.now }
         requires few { length self.now.rows.records + length rows.now < 2 ^ 32 }
         ensures { IfOk result (λ p. Next places.now self.now.segment rows.now self.now p) }
     {
@@ -210,7 +210,7 @@ impl LivePart {
         rows: &PutRows<'_>,
     ) -> Result<LivePart, AllocError>
         requires covers { length self.now.bits ≤ length self.now.rows.records }
-        requires fields { self.now.segment ≡ head → AreWide self.now.rows.fields rows.now }
+        requires wide { self.now.segment ≡ head → AreWide self.now.rows.widths rows.now }
         requires few { self.now.segment ≡ head
             → length self.now.rows.records + length rows.now < 2 ^ 32 }
         ensures { IfOk result (λ p. Next places.now head rows.now self.now p) }

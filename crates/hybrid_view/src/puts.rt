@@ -1,9 +1,10 @@
 //! The records that a commit puts into a relation.
 ghost use Rattle.std.specs.Prelude.{◌≡◌, ◌+◌, ◌<◌, ◌≤◌, ◌^◌, ◌++◌, ◌∷◌, [], length, IfOk};
+ghost use Rattle.db_value.specs.PackedChanges.{change_here};
 ghost use Rattle.segment.specs.Pages.{AreWide};
 ghost use Rattle.db_store.specs.LayoutGrowth.{puts};
 
-use db_value::{Change, Record};
+use db_value::{Changes, Record};
 use segment::{LongerSegment, Segment};
 use std::alloc::AllocError;
 use std::marker::Model;
@@ -12,7 +13,7 @@ use std::marker::Model;
 /// room is taken at once. Each is read where its change stands, so no list of them takes memory.
 #[derive(Drop)]
 pub struct PutRows<'a> {
-    changes: &'a [Change],
+    changes: &'a Changes,
     relation: u8,
     count: usize,
 }
@@ -28,64 +29,66 @@ impl<'a> Model for PutRows<'a> {
 }
 
 /// How many records a change puts into a relation.
-pub(crate) fn count_put(change: &Change, relation: u8) -> usize
-    ensures count { result ≡ length (puts (change.now ∷ []) relation) }
+pub(crate) fn count_put(changes: &Changes, at: usize, relation: u8) -> usize
+    requires { at < length changes.now }
+    ensures count { result ≡ length (puts (change_here changes.now at ∷ []) relation) }
     ensures few { result ≤ 1 }
 {
-    if change.relation != relation {
+    let own = changes.relation(at);
+    if own != relation {
         return 0;
     }
-    match change.fields {
-        None => 0,
-        Some(_) => 1,
-    }
+    if changes.puts(at) { 1 } else { 0 }
 }
 
-// Puts what a change puts into a relation after the records of a segment.
+// Puts what a change puts into a relation after the records of a segment. The row is one to read into.
 fn with_put(
     longer: LongerSegment,
-    change: &Change,
+    changes: &Changes,
+    at: usize,
     relation: u8,
+    row: &mut Record,
 ) -> Result<LongerSegment, AllocError>
-    requires fields { AreWide longer.fields (puts (change.now ∷ []) relation) }
-    requires few { length longer.records + length (puts (change.now ∷ []) relation) < 2 ^ 32 }
-    ensures { IfOk result (λ l. l
-        ≡ record longer { records = longer.records ++ puts (change.now ∷ []) relation }) }
+    requires at { at < length changes.now }
+    requires wide { AreWide longer.widths (puts (change_here changes.now at ∷ []) relation) }
+    requires few { length longer.records
+        + length (puts (change_here changes.now at ∷ []) relation) < 2 ^ 32 }
+    ensures { IfOk result (λ l. l ≡ record longer
+        { records = longer.records ++ puts (change_here changes.now at ∷ []) relation }) }
 {
-    if change.relation != relation {
+    let own = changes.relation(at);
+    if own != relation {
         return Ok(longer);
     }
-    match change.fields {
-        None => Ok(longer),
-        Some(fields) => {
-            let key = change.key;
-            longer.with(&Record { key, fields })
-        }
+    if !changes.read(at, row) {
+        return Ok(longer);
     }
+    longer.with(row)
 }
 
 // A segment with what changes put into a relation after its records, which are told to be so many.
 fn with_puts(
     segment: &Segment,
-    changes: &[Change],
+    changes: &Changes,
     relation: u8,
     count: usize,
 ) -> Result<Segment, AllocError>
-    requires fields { AreWide segment.now.fields (puts changes.now relation) }
+    requires wide { AreWide segment.now.widths (puts changes.now relation) }
     requires few { length segment.now.records + length (puts changes.now relation) < 2 ^ 32 }
     ensures { IfOk result (λ s. s
         ≡ record segment.now { records = segment.now.records ++ puts changes.now relation }) }
 {
     let mut longer = segment.longer(count)?;
-    for change in changes {
-        longer = with_put(longer, change, relation)?;
+    let mut row = Record::blank();
+    for at in 0..changes.len() {
+        longer = with_put(longer, changes, at, relation, &mut row)?;
     }
     longer.closed()
 }
 
 impl<'a> PutRows<'a> {
     /// Those of these changes, of which there are so many.
-    pub fn of(changes: &'a [Change], relation: u8, count: usize) -> PutRows<'a>
+    pub fn of(changes: &'a Changes, relation: u8, count: usize) -> PutRows<'a>
         ensures { result ≡ puts changes.now relation }
     {
         PutRows {
@@ -97,7 +100,7 @@ impl<'a> PutRows<'a> {
 
     /// A segment with these records after its own.
     pub fn behind(&self, segment: &Segment) -> Result<Segment, AllocError>
-        requires fields { AreWide segment.now.fields self.now }
+        requires wide { AreWide segment.now.widths self.now }
         requires few { length segment.now.records + length self.now < 2 ^ 32 }
         ensures { IfOk result (λ s.
             s ≡ record segment.now { records = segment.now.records ++ self.now }) }

@@ -1,6 +1,7 @@
 //! What changes touch of a relation.
 ghost use Rattle.std.specs.Prelude.{◌≡◌, ◌==◌, ◌+◌, ◌-◌, ◌<◌, ◌≤◌, ◌^◌, cond, is_some, length, IfOk};
 ghost use Rattle.std.specs.FinMap as finite;
+ghost use Rattle.db_value.specs.PackedChanges.{change_here};
 ghost use Rattle.db_store.specs.Counts.{counted, recounted};
 ghost use Rattle.db_store.specs.LayoutGrowth.{puts};
 ghost use Rattle.hybrid_view.specs.Live.{contents_in};
@@ -8,7 +9,7 @@ ghost use Rattle.hybrid_view.specs.Struck.{touched_places};
 
 use crate::live::LiveRelation;
 use crate::puts::count_put;
-use db_value::Change;
+use db_value::Changes;
 use std::alloc::{AllocError, Global};
 use store_catalogue::recount;
 
@@ -25,16 +26,18 @@ pub struct TouchedKeys {
 }
 
 // How many keys a relation has after a change, whose key was there or wasn't.
-fn keys_with(keys: usize, change: &Change, relation: u8, was_there: bool) -> usize
-    requires { keys < 2 ^ 64 - 1 }
-    ensures keys { result ≡ cond (change.now.relation == relation)
-        (recounted keys was_there (is_some change.now.fields)) keys }
+fn keys_with(keys: usize, changes: &Changes, at: usize, relation: u8, was_there: bool) -> usize
+    requires at { at < length changes.now }
+    requires keys { keys < 2 ^ 64 - 1 }
+    ensures keys { result ≡ cond ((change_here changes.now at).relation == relation)
+        (recounted keys was_there (is_some (change_here changes.now at).fields)) keys }
     ensures few { result ≤ keys + 1 }
 {
-    if change.relation != relation {
+    let own = changes.relation(at);
+    if own != relation {
         return keys;
     }
-    recount(keys, was_there, change.fields.is_some())
+    recount(keys, was_there, changes.puts(at))
 }
 
 impl LiveRelation {
@@ -42,7 +45,7 @@ impl LiveRelation {
     pub fn touched(
         &self,
         alloc: Global,
-        changes: &[Change],
+        changes: &Changes,
         relation: u8,
     ) -> Result<TouchedKeys, AllocError>
         requires { length changes.now ≤ MOST_CHANGES }
@@ -55,10 +58,10 @@ impl LiveRelation {
         let mut places = Vec::with_capacity(alloc, changes.len())?;
         let mut keys = self.count() as usize;
         let mut puts = 0;
-        for change in changes {
-            let place = self.place_at(change, relation);
-            keys = keys_with(keys, change, relation, place.is_some());
-            puts += count_put(change, relation);
+        for at in 0..changes.len() {
+            let place = self.place_at(changes, at, relation);
+            keys = keys_with(keys, changes, at, relation, place.is_some());
+            puts += count_put(changes, at, relation);
             places.push(place)?;
         }
         Ok(TouchedKeys { places, keys, puts })

@@ -4,8 +4,8 @@ use Rattle.db_value.specs.declared.record.Record.{Record}
 use Rattle.segment.specs.Pages.{AreWide}
 use Rattle.hybrid_view.proofs.puts.PutRows.behind.Goals as goal
 
-pub with_puts-requires-clause-fields : goal.with_puts-requires-clause-fields
-with_puts-requires-clause-fields c = subst (AreWide c.args.segment.now.fields) (sym c.self.view_is) c.requires.fields
+pub with_puts-requires-clause-wide : goal.with_puts-requires-clause-wide
+with_puts-requires-clause-wide c = subst (AreWide c.args.segment.now.widths) (sym c.self.view_is) c.requires.wide
 
 pub with_puts-requires-clause-few : goal.with_puts-requires-clause-few
 with_puts-requires-clause-few c = subst (λ (xs : List Record). length c.args.segment.now.records + length xs < 2 ^ 32) (sym c.self.view_is) c.requires.few
