@@ -1,12 +1,13 @@
 -- What changes make of an index, and the deltas of rows.
 use Rattle.std.proofs.Common.{◌≡◌, ◌⊎◌, inl, inr, ℕ, zero, suc, ◌+◌, ◌<◌, ◌≤◌, ◌==◌, ◌&&◌, nat_lt, not, cond, Bool, true, false, List, [], ◌∷◌, ◌++◌, length, drop, get_or, Option, Some, None, refl, arith, ap, sym, ◌∙◌, subst}
-use Rattle.std.proofs.lemmas.List.{get_or_append_left, get_or_push, get_or_past}
+use Rattle.std.proofs.lemmas.List.{get_or_append_left, get_or_push, get_or_past, drop_all}
 use Rattle.std.proofs.lemmas.Bool.{cases_lt, lt-ltb, le-ltb}
 use Rattle.hybrid_view.specs.Live.{Piece, piece_at}
 use Rattle.plain_bits.specs.Truth.{differ as differ_bits}
 use Rattle.db_store.specs.Layout.{differ}
 use Rattle.hybrid_view.proofs.DeltaLemmas.{slots_by, slots_stop}
 use Rattle.db_value.specs.Value.{Value}
+use Rattle.db_value.specs.PackedChanges.{change_here}
 use Rattle.db_value.specs.declared.record.Record.{Record}
 use Rattle.db_value.specs.declared.entry.Change.{Change}
 use Rattle.plain_bits.specs.Truth.{bit_of}
@@ -26,12 +27,20 @@ spot_first true head next key (Some f) cs r = let one : suc next ≡ next + 1 = 
 spot_first true head next key None cs r = let one : next ≡ next + 0 = omega arith in ap (λ k. record { key = key; place = None } ∷ spots head k cs r) one
 spot_first false head next key f cs r = let one : next ≡ next + 0 = omega arith in ap (λ k. spots head k cs r) one
 
-pub spots_drop : (cs : List Change) (head next r i : ℕ) (z : Change) → i < length cs → spots head next (drop i cs) r ≡ spots head next (get_or cs i z ∷ []) r ++ spots head (next + length (puts (get_or cs i z ∷ []) r)) (drop (i + 1) cs) r
-spots_drop [] head next r i z h = absurd (omega (arith, h))
-spots_drop (c ∷ cs) head next r zero z h = spot_first (c.relation == r) head next c.key c.fields cs r
-spots_drop (c ∷ cs) head next r (suc i) z h =
+spots_from : (cs : List Change) (head next r i : ℕ) (z : Change) → i < length cs → spots head next (drop i cs) r ≡ spots head next (get_or cs i z ∷ []) r ++ spots head (next + length (puts (get_or cs i z ∷ []) r)) (drop (i + 1) cs) r
+spots_from [] head next r i z h = absurd (omega (arith, h))
+spots_from (c ∷ cs) head next r zero z h = spot_first (c.relation == r) head next c.key c.fields cs r
+spots_from (c ∷ cs) head next r (suc i) z h =
     let one : suc (i + 1) ≡ suc i + 1 = omega arith in
-    spots_drop cs head next r i z (omega (arith, h)) ∙ ap (λ k. spots head next (get_or cs i z ∷ []) r ++ spots head (next + length (puts (get_or cs i z ∷ []) r)) (drop k (c ∷ cs)) r) one
+    spots_from cs head next r i z (omega (arith, h)) ∙ ap (λ k. spots head next (get_or cs i z ∷ []) r ++ spots head (next + length (puts (get_or cs i z ∷ []) r)) (drop k (c ∷ cs)) r) one
+
+-- what one change makes of an index stands in front of what the later ones make
+pub spots_drop : (cs : List Change) (head next r i : ℕ) → i < length cs → spots head next (drop i cs) r ≡ spots head next (change_here cs i ∷ []) r ++ spots head (next + length (puts (change_here cs i ∷ []) r)) (drop (i + 1) cs) r
+spots_drop cs head next r i h = spots_from cs head next r i (record { relation = 0; key = 0; fields = None; widths = None }) h
+
+-- past the last change nothing is made of it
+pub spots_past : (cs : List Change) (head next r i : ℕ) → length cs ≤ i → spots head next (drop i cs) r ≡ []
+spots_past cs head next r i h = ap (λ (ds : List Change). spots head next ds r) (drop_all i cs h)
 
 -- ---- the bits in which two bitmaps differ
 

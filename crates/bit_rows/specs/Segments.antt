@@ -24,7 +24,7 @@ kept_list_code = code_by (List KeptRecords × ℕ) (coded× (coded_list kept_rec
 
 -- what stands past the last segment
 abbrev pub no_rows : KeptRecords
-no_rows = record { head = None; rows = record { fields = 0; records = [] } }
+no_rows = record { head = None; rows = record { widths = []; records = [] } }
 
 -- and past the last relation
 abbrev pub no_list : KeptList

@@ -1,5 +1,6 @@
 //! What a commit changes of one relation of a branch.
 ghost use Rattle.std.specs.Prelude.{◌≡◌, ℕ, ◌+◌, ◌-◌, ◌<◌, ◌≤◌, ◌^◌, ◌++◌, ◌∷◌, [], true, length, IfOk, OnOk};
+ghost use Rattle.db_value.specs.PackedChanges.{change_here};
 ghost use Rattle.db_store.specs.LayoutGrowth.{puts};
 ghost use Rattle.commit_history.specs.Runs.{next_of};
 ghost use Rattle.hybrid_view.specs.RowPlaces.{spots};
@@ -9,7 +10,7 @@ ghost use Rattle.bit_rows.specs.Differences.{difference_of, IsNext, AreNext, Are
 
 use crate::rows::{BitRow, BitRows, NextDeltas};
 use commit_history::NextDelta;
-use db_value::Change;
+use db_value::Changes;
 use hybrid_view::{LivePart, LiveRelation, difference, strikes};
 use key_index::{SpotChange, SpotChanges};
 use plain_bits::Bits;
@@ -21,41 +22,40 @@ fn put_spot(
     all: &mut Vec<SpotChange>,
     head: u32,
     next: u32,
-    change: &Change,
+    changes: &Changes,
+    at: usize,
     relation: u8,
 ) -> Result<u32, AllocError>
-    requires { next < 2 ^ 32 - 1 }
-    ensures spots { OnOk result
-        (all.new.items ≡ all.old.items ++ spots head next (change.now ∷ []) relation) }
-    ensures next { IfOk result (λ n. n ≡ next + length (puts (change.now ∷ []) relation)) }
+    requires next { next < 2 ^ 32 - 1 }
+    requires at { at < length changes.now }
+    ensures spots { OnOk result (all.new.items
+        ≡ all.old.items ++ spots head next (change_here changes.now at ∷ []) relation) }
+    ensures next { IfOk result
+        (λ n. n ≡ next + length (puts (change_here changes.now at ∷ []) relation)) }
     ensures more { IfOk result (λ n. n ≤ next + 1) }
 {
-    if change.relation != relation {
+    let own = changes.relation(at);
+    if own != relation {
         return Ok(next);
     }
-    let key = change.key;
-    match change.fields {
-        None => {
-            all.push(SpotChange { key, place: None })?;
-            Ok(next)
-        }
-        Some(_) => {
-            all.push(SpotChange {
-                key,
-                place: Some((head, next)),
-            })?;
-            Ok(next + 1)
-        }
+    let key = changes.key(at);
+    if !changes.puts(at) {
+        all.push(SpotChange { key, place: None })?;
+        return Ok(next);
     }
+    all.push(SpotChange {
+        key,
+        place: Some((head, next)),
+    })?;
+    Ok(next + 1)
 }
 
 /// What changes make of the index of a relation, where what they put stands in the head from a slot on.
-#[tactic(auto, using(crate::proofs::ChangedLemmas::spots_drop))]
 pub fn spots_of(
     alloc: Global,
     head: u32,
     from: u32,
-    changes: &[Change],
+    changes: &Changes,
     relation: u8,
 ) -> Result<SpotChanges, AllocError>
     requires { from + length changes.now < 2 ^ 32 }
@@ -63,8 +63,8 @@ pub fn spots_of(
 {
     let mut all = Vec::new(alloc);
     let mut next = from;
-    for change in changes {
-        next = put_spot(&mut all, head, next, change, relation)?;
+    for at in 0..changes.len() {
+        next = put_spot(&mut all, head, next, changes, at, relation)?;
     }
     Ok(SpotChanges::of(all))
 }
