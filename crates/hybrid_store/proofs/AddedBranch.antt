@@ -4,7 +4,7 @@ use Rattle.std.specs.Prelude.{IfSome}
 use Rattle.std.specs.List.{All}
 use Rattle.std.specs.FinMap.{insert}
 use Rattle.std.proofs.lemmas.List.{length-map, length-set, map-append}
-use Rattle.db_value.specs.Relations.{columns_at}
+use Rattle.db_value.specs.Relations.{widths_at}
 use Rattle.db_value.specs.Schema.{most_relations}
 use Rattle.db_value.specs.declared.schema.Relation.{Relation}
 use Rattle.db_value.specs.declared.version.VersionPlace.{VersionPlace}
@@ -38,7 +38,7 @@ use Rattle.hybrid_store.proofs.LayoutLemmas.{lane_kept, segments_kept, rows_kept
 use Rattle.hybrid_store.proofs.StoredLemmas.{kept_count}
 use Rattle.hybrid_store.proofs.BranchLayout.{branch_layout}
 use Rattle.hybrid_store.proofs.BranchStored.{branch_stored}
-use Rattle.hybrid_store.proofs.TurnedLemmas.{IsAfter, can_take, is_after, pushed_fields}
+use Rattle.hybrid_store.proofs.TurnedLemmas.{IsAfter, can_take, is_after, pushed_widths}
 
 -- what is ready for an entry is ready for a new branch
 pub record ReadyNew (l : Layout) (b : ℕ) (k : KeptLane) (owns : List Rows) (turned : Option Turn) (e : Entry) : Type 0 where
@@ -116,17 +116,17 @@ module _ (schema : List Relation) (lanes : List KeptLane) (order : List VersionP
         All-same (HasRoom 0) _ _ after.others (All-set (HasRoom 0) lanes from new (omega (arith, old, count, room)) (All-weaker (HasRoom n) (HasRoom 0) (λ k h. omega (arith, h)) lanes rooms))
 
     begun_at : (q : ℕ) → q < length schema
-        → IsBegunAt (map segment_of (list_at segments q)) (is_last (kept_layout schema lanes order segments) parts.origin) (length (columns_at schema q)) parts.origin.branch (length lanes) parts.origin.position (map laid_row (kept_rows (get_or lanes parts.origin.branch no_kept) q))
+        → IsBegunAt (map segment_of (list_at segments q)) (is_last (kept_layout schema lanes order segments) parts.origin) (widths_at schema q) parts.origin.branch (length lanes) parts.origin.position (map laid_row (kept_rows (get_or lanes parts.origin.branch no_kept) q))
         (kept_rows k q) (lived_at k.head q) (get_or owns q no_own)
     begun_at q g =
-        let columns : ℕ = length (columns_at schema q) in
+        let ws : List ℕ = widths_at schema q in
         let last = is_last l parts.origin in
         let from : ℕ = parts.origin.branch in
         let n : ℕ = parts.origin.position in
-        subst (λ (xs : List Segment). IsBegunAt xs last columns from (length lanes) n (map laid_row (kept_rows (get_or lanes from no_kept) q)) (kept_rows k q) (lived_at k.head q) (get_or owns q no_own)) (segments_kept schema lanes order segments q g)
-        (subst (λ (rows : List Row). IsBegunAt (segments_at l.segments q) last columns from (length lanes) n rows (kept_rows k q) (lived_at k.head q) (get_or owns q no_own))
+        subst (λ (xs : List Segment). IsBegunAt xs last ws from (length lanes) n (map laid_row (kept_rows (get_or lanes from no_kept) q)) (kept_rows k q) (lived_at k.head q) (get_or owns q no_own)) (segments_kept schema lanes order segments q g)
+        (subst (λ (rows : List Row). IsBegunAt (segments_at l.segments q) last ws from (length lanes) n rows (kept_rows k q) (lived_at k.head q) (get_or owns q no_own))
         (ap (λ (x : Lane). rows_at x q) (lane_kept schema lanes order segments from origin_there) ∙ rows_kept schema (get_or lanes from no_kept) q g)
-        (subst (λ c. IsBegunAt (segments_at l.segments q) last columns from c n (rows_at (lane_at l from) q) (kept_rows k q) (lived_at k.head q) (get_or owns q no_own)) (length-map lanes (lane_of schema)) (parts.begun.at q g)))
+        (subst (λ c. IsBegunAt (segments_at l.segments q) last ws from c n (rows_at (lane_at l from) q) (kept_rows k q) (lived_at k.head q) (get_or owns q no_own)) (length-map lanes (lane_of schema)) (parts.begun.at q g)))
 
     module _ (long : length lasts ≡ length lists) (put : (q : ℕ) → q < length lists → get_or lasts q no_list ≡ with_head (get_or lists q no_list) (length lanes) (get_or owns q no_own)) where
       abbrev old : KeptLane
@@ -142,20 +142,20 @@ module _ (schema : List Relation) (lanes : List KeptLane) (order : List VersionP
           ∙ ap (λ (x : Rows). map segment_of (list_at lists q) ++ record { head = Some (length lanes); records = x.records } ∷ []) (begun_at q g).empty
           ∙ after.put q g
 
-      fields : (q s : ℕ) → q < length schema → s < length (list_at lasts q) → (kept_at (list_at lasts q) s).rows.fields ≡ length (columns_at schema q)
-      fields q s g lt =
+      widths : (q s : ℕ) → q < length schema → s < length (list_at lasts q) → (kept_at (list_at lasts q) s).rows.widths ≡ widths_at schema q
+      widths q s g lt =
           let n = ap (λ (x : KeptList). length x.all) (put q (in_lists q g)) in
-          ap (λ (x : KeptList). (kept_at x.all s).rows.fields) (put q (in_lists q g))
-          ∙ pushed_fields (list_at lists q) (record { head = Some (length lanes); rows = get_or owns q no_own }) (length (columns_at schema q)) (λ i h. after.fields q i g h) (ap (λ (x : Rows). x.fields) (begun_at q g).empty) s (omega (arith, lt, n))
+          ap (λ (x : KeptList). (kept_at x.all s).rows.widths) (put q (in_lists q g))
+          ∙ pushed_widths (list_at lists q) (record { head = Some (length lanes); rows = get_or owns q no_own }) (widths_at schema q) (λ i h. after.widths q i g h) (ap (λ (x : Rows). x.widths) (begun_at q g).empty) s (omega (arith, lt, n))
 
       old_kept : IsKept schema lasts parts.origin.branch (get_or news parts.origin.branch no_kept)
       old_kept = record {
         rows = after.rows_count;
         head = after.head_count;
         at = λ q g.
-            let columns : ℕ = length (columns_at schema q) in
-            subst (λ (xs : List Segment). IsKeptAt xs columns parts.origin.branch (length old.seconds - 1) (kept_rows old q) (lived_at old.head q)) (sym (lists_put q g))
-            (subst (λ n. IsKeptAt (segments_with (is_last l parts.origin) parts.origin.branch (length lanes) (map segment_of (list_at segments q))) columns parts.origin.branch n (kept_rows old q) (lived_at old.head q)) (sym (ap (λ (x : KeptLane). length x.seconds - 1) after.lane)) (after.kept q g));
+            let ws : List ℕ = widths_at schema q in
+            subst (λ (xs : List Segment). IsKeptAt xs ws parts.origin.branch (length old.seconds - 1) (kept_rows old q) (lived_at old.head q)) (sym (lists_put q g))
+            (subst (λ n. IsKeptAt (segments_with (is_last l parts.origin) parts.origin.branch (length lanes) (map segment_of (list_at segments q))) ws parts.origin.branch n (kept_rows old q) (lived_at old.head q)) (sym (ap (λ (x : KeptLane). length x.seconds - 1) after.lane)) (after.kept q g));
       }
 
       new_kept : IsKept schema lasts (length lanes) k
@@ -163,9 +163,9 @@ module _ (schema : List Relation) (lanes : List KeptLane) (order : List VersionP
         rows = parts.begun.rows;
         head = parts.begun.head;
         at = λ q g.
-            let columns : ℕ = length (columns_at schema q) in
-            subst (λ (xs : List Segment). IsKeptAt xs columns (length lanes) (length k.seconds - 1) (kept_rows k q) (lived_at k.head q)) (sym (lists_put q g))
-            (subst (λ n. IsKeptAt (segments_with (is_last l parts.origin) parts.origin.branch (length lanes) (map segment_of (list_at segments q))) columns (length lanes) n (kept_rows k q) (lived_at k.head q)) (sym (ap (λ (x : KeptLane). length x.seconds - 1) parts.begun.lane)) (begun_at q g).kept);
+            let ws : List ℕ = widths_at schema q in
+            subst (λ (xs : List Segment). IsKeptAt xs ws (length lanes) (length k.seconds - 1) (kept_rows k q) (lived_at k.head q)) (sym (lists_put q g))
+            (subst (λ n. IsKeptAt (segments_with (is_last l parts.origin) parts.origin.branch (length lanes) (map segment_of (list_at segments q))) ws (length lanes) n (kept_rows k q) (lived_at k.head q)) (sym (ap (λ (x : KeptLane). length x.seconds - 1) parts.begun.lane)) (begun_at q g).kept);
       }
 
       -- what is kept
@@ -173,7 +173,7 @@ module _ (schema : List Relation) (lanes : List KeptLane) (order : List VersionP
       branch_is_stored =
           subst (λ (ks : List KeptLane). IsStored schema (ks ++ k ∷ []) lasts) (sym after.others)
           (branch_stored schema lanes order segments lasts (is_last l parts.origin) parts.origin.branch old k origin_there is whole (long ∙ after.long)
-          (λ q g. let x = after.room q g in let y = ap (λ (z : KeptList). z.room) (put q (in_lists q g)) in omega (arith, x, y)) lists_put fields old_kept new_kept)
+          (λ q g. let x = after.room q g in let y = ap (λ (z : KeptList). z.room) (put q (in_lists q g)) in omega (arith, x, y)) lists_put widths old_kept new_kept)
 
       pub branch_layout_is : kept_layout schema (news ++ k ∷ []) order lasts ≡ grow_layout (kept_layout schema lanes order segments) e
       branch_layout_is =

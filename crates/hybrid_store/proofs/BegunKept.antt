@@ -50,7 +50,7 @@ whole_empty ss n head rows ps none show i h e =
     let p : Piece = piece_at ps i in
     sym s.front ∙ ap (λ k. take (length p.rows.records) (records_at ss k)) (sym s.segment ∙ e) ∙ ap (take (length p.rows.records)) none ∙ take_nil (length p.rows.records) ∙ sym none
 
-module _ (q : Bool) (b c n count columns : ℕ) (ss : List Segment) (apart : b ≢ c) where
+module _ (q : Bool) (b c n count : ℕ) (ws : List ℕ) (ss : List Segment) (apart : b ≢ c) where
   abbrev after : List Segment
   after = segments_with q b c ss
 
@@ -65,32 +65,32 @@ module _ (q : Bool) (b c n count columns : ℕ) (ss : List Segment) (apart : b �
 
   module _ (free : (s : ℕ) → s < length ss → is_head_of c (head_at ss s) ≡ false) (few : length (segments_with q b c ss) < 2 ^ 32 - 1) (rows : List Row) (l : Lived) (below : n < count)
       (before : AreRows ss count rows) (behind : AreRowsOf (segments_with q b c ss) c 1 (rows_begun q n ss rows)) (lived : IsLived l) (show : Show ss n rows l.pieces)
-      (small : AreSmall l) (fields : (i : ℕ) → i < length l.pieces → (piece_at l.pieces i).rows.fields ≡ columns) where
+      (small : AreSmall l) (widths : (i : ℕ) → i < length l.pieces → (piece_at l.pieces i).rows.widths ≡ ws) where
     abbrev head : Piece
-    head = empty_head (new_head q ss) columns
+    head = empty_head (new_head q ss) ws
 
     abbrev news : List KeptRow
-    news = map begun_row (begun_pieces l.pieces (empty_head (new_head q ss) columns))
+    news = map begun_row (begun_pieces l.pieces (empty_head (new_head q ss) ws))
 
     all : AllShow ss n rows l.pieces
     all = show_all ss n rows l.pieces show.count show.each
 
-    pub begun_rows : map laid_row (map begun_row (begun_pieces l.pieces (empty_head (new_head q ss) columns))) ≡ rows_begun q n ss rows
-    begun_rows = begun_all q ss n columns rows l.pieces all lived.covered
+    pub begun_rows : map laid_row (map begun_row (begun_pieces l.pieces (empty_head (new_head q ss) ws))) ≡ rows_begun q n ss rows
+    begun_rows = begun_all q ss n ws rows l.pieces all lived.covered
 
-    begun_show : AllShow (segments_with q b c ss) 0 (rows_begun q n ss rows) (begun_pieces l.pieces (empty_head (new_head q ss) columns))
+    begun_show : AllShow (segments_with q b c ss) 0 (rows_begun q n ss rows) (begun_pieces l.pieces (empty_head (new_head q ss) ws))
     begun_show = pieces_begun q b c n count ss has_live rows l.pieces head before all (all_tell l.pieces lived.covered) refl refl refl
 
-    covered : AreCovered (begun_pieces l.pieces (empty_head (new_head q ss) columns))
+    covered : AreCovered (begun_pieces l.pieces (empty_head (new_head q ss) ws))
     covered = kept_all (λ p. length p.bits ≤ length p.rows.records) has_live l.pieces head lived.covered (omega arith)
 
-    pieces_few : length (begun_pieces l.pieces (empty_head (new_head q ss) columns)) < 2 ^ 32 - 1
+    pieces_few : length (begun_pieces l.pieces (empty_head (new_head q ss) ws)) < 2 ^ 32 - 1
     pieces_few =
         let k = show_count after 0 (rows_begun q n ss rows) (begun_pieces l.pieces head) begun_show in
         let m = rows_few 0 (length after) (rows_begun q n ss rows) behind.ascend (omega arith) (λ i h. (behind.are i h).there) in
         omega (arith, k, m, few)
 
-    pub begun_is_lived : IsLived (lived_begun l (empty_head (new_head q ss) columns))
+    pub begun_is_lived : IsLived (lived_begun l (empty_head (new_head q ss) ws))
     begun_is_lived = begun_lived q b c n count ss rows l head below before behind lived all (all_tell l.pieces lived.covered) refl refl refl pieces_few covered
 
     headed : (s : ℕ) → s < length (segments_with q b c ss) → is_head_of c (head_at (segments_with q b c ss) s) ≡ (s == new_head q ss)
@@ -107,7 +107,7 @@ module _ (q : Bool) (b c n count columns : ℕ) (ss : List Segment) (apart : b �
     head_is : head_in c (segments_with q b c ss) ≡ new_head q ss
     head_is = head_in_is c (new_head q ss) (segments_with q b c ss) (new_there q b c ss) headed
 
-    pub begun_kept : IsKeptAt (segments_with q b c ss) columns c 0 (map begun_row (begun_pieces l.pieces (empty_head (new_head q ss) columns))) (lived_begun l (empty_head (new_head q ss) columns))
+    pub begun_kept : IsKeptAt (segments_with q b c ss) ws c 0 (map begun_row (begun_pieces l.pieces (empty_head (new_head q ss) ws))) (lived_begun l (empty_head (new_head q ss) ws))
     begun_kept =
         let ps : List Piece = begun_pieces l.pieces head in
         let m = length-map ps begun_row in
@@ -123,13 +123,13 @@ module _ (q : Bool) (b c n count columns : ℕ) (ss : List Segment) (apart : b �
           whole = subst (λ k. IsWhole after k ps) (sym head_is) (whole_empty after 0 (new_head q ss) (rows_begun q n ss rows) ps (head_new q b c ss) shown);
           lived = begun_is_lived;
           small = kept_all (λ p. length p.rows.records < 2 ^ 32) has_live l.pieces head small (omega arith);
-          fields = kept_all (λ p. p.rows.fields ≡ columns) has_live l.pieces head fields refl;
+          widths = kept_all (λ p. p.rows.widths ≡ ws) has_live l.pieces head widths refl;
         }
 
   -- ---- the others
 
   module _ (x m : ℕ) (rows : List KeptRow) (l : Lived) (other : x ≢ c) (away : q ≡ true → x ≢ b)
-      (there : (i : ℕ) → i < length (map laid_row rows) → (row_at (map laid_row rows) i).segment < length ss) (at : IsKeptAt ss columns x m rows l) where
+      (there : (i : ℕ) → i < length (map laid_row rows) → (row_at (map laid_row rows) i).segment < length ss) (at : IsKeptAt ss ws x m rows l) where
     head_there : head_in x ss < length ss
     head_there = own_there (length ss) (head_in x ss) rows at.own there
 
@@ -155,7 +155,7 @@ module _ (q : Bool) (b c n count columns : ℕ) (ss : List Segment) (apart : b �
     head_kept : head_in x (segments_with q b c ss) ≡ head_in x ss
     head_kept = let h = head_there in let a = above in let n = new_there q b c ss in head_in_is x (head_in x ss) (segments_with q b c ss) (omega (arith, h, a, n)) headed_on
 
-    pub kept_with : IsKeptAt (segments_with q b c ss) columns x m rows l
+    pub kept_with : IsKeptAt (segments_with q b c ss) ws x m rows l
     kept_with = record {
       own = ap (λ k. has_row k rows) head_kept ∙ at.own;
       headed = λ s h. headed_on s h ∙ ap (λ k. s == k) (sym head_kept);
@@ -174,32 +174,32 @@ module _ (q : Bool) (b c n count columns : ℕ) (ss : List Segment) (apart : b �
       whole = λ i h e. at.whole i h (e ∙ head_kept) ∙ sym (with_same q b c ss (head_in x ss) head_there) ∙ ap (records_at (segments_with q b c ss)) (sym head_kept);
       lived = at.lived;
       small = at.small;
-      fields = at.fields;
+      widths = at.widths;
     }
 
 -- ---- another head
 
-live_more : (ps : List Piece) (segment columns : ℕ) → live_pieces (ps ++ empty_head segment columns ∷ []) ≡ live_pieces ps
-live_more ps segment columns = flat_map-append live_piece ps (empty_head segment columns ∷ []) ∙ append-nil (live_pieces ps)
+live_more : (ps : List Piece) (segment : ℕ) (ws : List ℕ) → live_pieces (ps ++ empty_head segment ws ∷ []) ≡ live_pieces ps
+live_more ps segment ws = flat_map-append live_piece ps (empty_head segment ws ∷ []) ∙ append-nil (live_pieces ps)
 
-place_more : (ps : List Piece) (segment columns key : ℕ) → place_of (ps ++ empty_head segment columns ∷ []) key ≡ place_of ps key
-place_more [] segment columns key = refl
-place_more (p ∷ ps) segment columns key = ap (place_or p.segment (slot_in 0 p.rows.records (bit_of p.bits) key)) (place_more ps segment columns key)
+place_more : (ps : List Piece) (segment : ℕ) (ws : List ℕ) (key : ℕ) → place_of (ps ++ empty_head segment ws ∷ []) key ≡ place_of ps key
+place_more [] segment ws key = refl
+place_more (p ∷ ps) segment ws key = ap (place_or p.segment (slot_in 0 p.rows.records (bit_of p.bits) key)) (place_more ps segment ws key)
 
-rises_more : (low m columns : ℕ) (ps : List Piece) → rises low ps ≡ true → low ≤ m → ((i : ℕ) → i < length ps → (piece_at ps i).segment < m) → rises low (ps ++ empty_head m columns ∷ []) ≡ true
-rises_more low m columns [] e h f = and_from _ _ (le-leb low m h) refl
-rises_more low m columns (p ∷ ps) e h f =
+rises_more : (low m : ℕ) (ws : List ℕ) (ps : List Piece) → rises low ps ≡ true → low ≤ m → ((i : ℕ) → i < length ps → (piece_at ps i).segment < m) → rises low (ps ++ empty_head m ws ∷ []) ≡ true
+rises_more low m ws [] e h f = and_from _ _ (le-leb low m h) refl
+rises_more low m ws (p ∷ ps) e h f =
     let two = and_parts _ _ e in
     let here = f 0 (omega arith) in
-    and_from _ _ two.0 (rises_more (suc p.segment) m columns ps two.1 (omega (arith, here)) (λ i g. f (suc i) (omega (arith, g))))
+    and_from _ _ two.0 (rises_more (suc p.segment) m ws ps two.1 (omega (arith, here)) (λ i g. f (suc i) (omega (arith, g))))
 
 from_last : (n : ℕ) → suc n - n ≡ 1
 from_last n = omega arith
 
-module _ (b c n columns : ℕ) (ss : List Segment) (apart : b ≢ c) (rows : List KeptRow) (l : Lived) (few : length ss + 1 < 2 ^ 32 - 1) (ascend : row_rises 0 (map laid_row rows) ≡ true)
-    (there : (i : ℕ) → i < length (map laid_row rows) → (row_at (map laid_row rows) i).segment < length ss) (at : IsKeptAt ss columns b n rows l) where
+module _ (b c n : ℕ) (ws : List ℕ) (ss : List Segment) (apart : b ≢ c) (rows : List KeptRow) (l : Lived) (few : length ss + 1 < 2 ^ 32 - 1) (ascend : row_rises 0 (map laid_row rows) ≡ true)
+    (there : (i : ℕ) → i < length (map laid_row rows) → (row_at (map laid_row rows) i).segment < length ss) (at : IsKeptAt ss ws b n rows l) where
   abbrev turned_head : Piece
-  turned_head = empty_head (length ss) columns
+  turned_head = empty_head (length ss) ws
 
   abbrev row : KeptRow
   row = turned_row (length ss) n
@@ -220,14 +220,14 @@ module _ (b c n columns : ℕ) (ss : List Segment) (apart : b ≢ c) (rows : Lis
       let t = there i lt in
       omega (arith, e, t)
 
-  pub turned_lived : IsLived (lived_turned l (empty_head (length ss) columns))
+  pub turned_lived : IsLived (lived_turned l (empty_head (length ss) ws))
   turned_lived =
       let lived = at.lived in
       record {
-        ascend = rises_more 0 (length ss) columns l.pieces lived.ascend (omega arith) segments_below;
-        apart = λ key. subst (λ (xs : List Record). times key xs ≤ 1) (sym (live_more l.pieces (length ss) columns)) (lived.apart key);
-        placed = λ key. lived.placed key ∙ sym (place_more l.pieces (length ss) columns key);
-        counted = lived.counted ∙ ap (λ (xs : List Record). finite.len (contents_of xs)) (sym (live_more l.pieces (length ss) columns));
+        ascend = rises_more 0 (length ss) ws l.pieces lived.ascend (omega arith) segments_below;
+        apart = λ key. subst (λ (xs : List Record). times key xs ≤ 1) (sym (live_more l.pieces (length ss) ws)) (lived.apart key);
+        placed = λ key. lived.placed key ∙ sym (place_more l.pieces (length ss) ws key);
+        counted = lived.counted ∙ ap (λ (xs : List Record). finite.len (contents_of xs)) (sym (live_more l.pieces (length ss) ws));
         few =
             let k = at.shown.count in
             let m = rows_few 0 (length ss) (map laid_row rows) ascend (omega arith) there in
@@ -292,7 +292,7 @@ module _ (b c n columns : ℕ) (ss : List Segment) (apart : b ≢ c) (rows : Lis
       let r = length_push rows row in
       subst (λ (x : KeptRow). map shortest (map slots_of x.deltas) ≡ x.deltas) (sym (get_or_push rows row no_kept_row i (omega (arith, h, r, ge)))) refl
 
-  pub turned_kept : IsKeptAt (segments_with true b c ss) columns b n (rows ++ turned_row (length ss) n ∷ []) (lived_turned l (empty_head (length ss) columns))
+  pub turned_kept : IsKeptAt (segments_with true b c ss) ws b n (rows ++ turned_row (length ss) n ∷ []) (lived_turned l (empty_head (length ss) ws))
   turned_kept =
       let hi : head_in b wide ≡ length ss = (let n = new_there true b c ss in head_in_is b (length ss) wide (omega (arith, n)) turned_headed) in
       let ps : List Piece = l.pieces ++ turned_head ∷ [] in
@@ -304,5 +304,5 @@ module _ (b c n columns : ℕ) (ss : List Segment) (apart : b ≢ c) (rows : Lis
         whole = subst (λ k. IsWhole wide k ps) (sym hi) (whole_empty wide n (length ss) (map laid_row rows ++ laid_row row ∷ []) ps (first_new true b c ss) turned_show);
         lived = turned_lived;
         small = more_all (λ p. length p.rows.records < 2 ^ 32) l.pieces turned_head at.small (omega arith);
-        fields = more_all (λ p. p.rows.fields ≡ columns) l.pieces turned_head at.fields refl;
+        widths = more_all (λ p. p.rows.widths ≡ ws) l.pieces turned_head at.widths refl;
       }

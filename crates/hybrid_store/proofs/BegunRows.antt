@@ -69,10 +69,10 @@ carried_all ss n (row ∷ rows) (p ∷ ps) shown covered =
     joined false xs = refl
 
 -- all rows of a new branch
-pub begun_all : (q : Bool) (ss : List Segment) (n columns : ℕ) (rows : List Row) (ps : List Piece) → AllShow ss n rows ps → AreCovered ps
-    → map laid_row (map begun_row (begun_pieces ps (empty_head (new_head q ss) columns))) ≡ rows_begun q n ss rows
-begun_all q ss n columns rows ps shown covered =
-    let head : Piece = empty_head (new_head q ss) columns in
+pub begun_all : (q : Bool) (ss : List Segment) (n : ℕ) (ws : List ℕ) (rows : List Row) (ps : List Piece) → AllShow ss n rows ps → AreCovered ps
+    → map laid_row (map begun_row (begun_pieces ps (empty_head (new_head q ss) ws))) ≡ rows_begun q n ss rows
+begun_all q ss n ws rows ps shown covered =
+    let head : Piece = empty_head (new_head q ss) ws in
     ap (map laid_row) (map-append begun_row (filter has_live ps) (head ∷ []))
     ∙ map-append laid_row (map begun_row (filter has_live ps)) (begun_row head ∷ [])
     ∙ ap (λ (xs : List Row). xs ++ head_row (new_head q ss) 0 ∷ []) (sym (carried_all ss n rows ps shown covered))

@@ -2,7 +2,7 @@
 use Rattle.std.proofs.Common.{◌≡◌, ◌≢◌, ◌⊎◌, inl, inr, ℕ, ◌+◌, ◌-◌, ◌<◌, ◌≤◌, Bool, true, List, [], ◌∷◌, ◌++◌, length, map, set, get_or, arith, ap, sym, ◌∙◌, subst}
 use Rattle.std.proofs.lemmas.Bool.{cases_eq}
 use Rattle.std.proofs.lemmas.List.{length-map, length-set, length_push, get_or_push, get_or_append_left, get_or-set_same, get_or-set_other}
-use Rattle.db_value.specs.Relations.{columns_at}
+use Rattle.db_value.specs.Relations.{widths_at}
 use Rattle.db_value.specs.declared.schema.Relation.{Relation}
 use Rattle.db_value.specs.declared.version.VersionPlace.{VersionPlace}
 use Rattle.db_store.specs.Layout.{Segment, Row, Lane, Layout, lane_at, segments_at, rows_at}
@@ -40,7 +40,7 @@ pub store_head : (schema : List Relation) (lanes : List KeptLane) (order : List 
     → (b r : ℕ) → b < length lanes → r < length schema → HasHead b (list_at segments r) (kept_rows (get_or lanes b no_kept) r)
 store_head schema lanes order segments is laid b r h g =
     let k : KeptLane = get_or lanes b no_kept in
-    kept_head (list_at segments r) (length (columns_at schema r)) b (length k.seconds - 1) (kept_rows k r) (lived_at k.head r) (λ i lt. ((rows_of_lane schema lanes order segments laid b h r g).are i lt).there) ((is.each b h).at r g)
+    kept_head (list_at segments r) (widths_at schema r) b (length k.seconds - 1) (kept_rows k r) (lived_at k.head r) (λ i lt. ((rows_of_lane schema lanes order segments laid b h r g).are i lt).there) ((is.each b h).at r g)
 
 -- and it is there
 pub store_head_there : (schema : List Relation) (lanes : List KeptLane) (order : List VersionPlace) (segments : List KeptList) → IsStored schema lanes segments → IsLaid (kept_layout schema lanes order segments)
@@ -56,7 +56,7 @@ module _ (schema : List Relation) (lanes : List KeptLane) (order : List VersionP
     (is : IsStored schema lanes segments) (laid : IsLaid (kept_layout schema lanes order segments)) (wide : length news ≡ length schema)
     (rooms : (r : ℕ) → r < length schema → most_segments ≤ (get_or news r no_list).room)
     (put : (r : ℕ) → r < length schema → map segment_of (list_at news r) ≡ segments_with q b (length lanes) (map segment_of (list_at segments r)))
-    (fields : (r s : ℕ) → r < length schema → s < length (list_at news r) → (kept_at (list_at news r) s).rows.fields ≡ length (columns_at schema r))
+    (widths : (r s : ℕ) → r < length schema → s < length (list_at news r) → (kept_at (list_at news r) s).rows.widths ≡ widths_at schema r)
     (old_kept : IsKept schema news b old) (new_kept : IsKept schema news (length lanes) new) where
   abbrev c : ℕ
   c = length lanes
@@ -70,8 +70,8 @@ module _ (schema : List Relation) (lanes : List KeptLane) (order : List VersionP
         rows = was.rows;
         head = was.head;
         at = λ r g.
-            subst (λ (xs : List Segment). IsKeptAt xs (length (columns_at schema r)) x (length k.seconds - 1) (kept_rows k r) (lived_at k.head r)) (sym (put r g))
-            (kept_with q b (length lanes) 0 0 (length (columns_at schema r)) (map segment_of (list_at segments r)) (λ e. absurd (omega (arith, e, there))) x (length k.seconds - 1) (kept_rows k r) (lived_at k.head r)
+            subst (λ (xs : List Segment). IsKeptAt xs (widths_at schema r) x (length k.seconds - 1) (kept_rows k r) (lived_at k.head r)) (sym (put r g))
+            (kept_with q b (length lanes) 0 0 (widths_at schema r) (map segment_of (list_at segments r)) (λ e. absurd (omega (arith, e, there))) x (length k.seconds - 1) (kept_rows k r) (lived_at k.head r)
             (λ e. absurd (omega (arith, e, h))) away (λ i lt. ((rows_of_lane schema lanes order segments laid x h r g).are i lt).there) (was.at r g));
       }
 
@@ -89,7 +89,7 @@ module _ (schema : List Relation) (lanes : List KeptLane) (order : List VersionP
             let m = length-map (list_at segments r) segment_of in
             let w = with_count q b (length lanes) (map segment_of (list_at segments r)) in
             omega (arith, f, e, n, m, w, ls, lp);
-        fields = fields;
+        widths = widths;
         each = λ x h. each_kept x (omega (arith, h, ls, lp)) (cases_eq x (length lanes));
       }
     where

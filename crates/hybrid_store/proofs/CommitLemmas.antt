@@ -1,12 +1,12 @@
 -- What a branch has of one relation after a commit that fits.
-use Rattle.std.proofs.Common.{◌≡◌, ℕ, zero, suc, nat_le, ◌+◌, ◌-◌, ◌<◌, ◌≤◌, ◌==◌, ◌^◌, ◌⊎◌, inl, inr, Bool, true, false, List, [], ◌∷◌, ◌++◌, cond, length, map, get_or, Option, Some, None, refl, arith, ap, sym, ◌∙◌, subst}
+use Rattle.std.proofs.Common.{◌≡◌, ℕ, zero, suc, nat_le, nat_lt, ◌&&◌, ◌+◌, ◌-◌, ◌<◌, ◌≤◌, ◌==◌, ◌^◌, ◌⊎◌, inl, inr, Bool, true, false, List, [], ◌∷◌, ◌++◌, cond, length, map, get_or, Option, Some, None, refl, arith, ap, sym, ◌∙◌, subst}
 use Rattle.std.specs.FinMap as finite
 use Rattle.std.proofs.lemmas.List.{length-map, length-append, length_push, length-set, get_or-set_same, get_or-map, get_or_past}
 use Rattle.std.specs.List.{All, list_all}
 use Rattle.std.proofs.lemmas.List.Elements.{All-cons}
 use Rattle.std.proofs.lemmas.Bool.{and_parts, cases_Bool, eqb-true, eq-eqb, leb-true}
 use Rattle.db_value.specs.Value.{Value}
-use Rattle.db_value.specs.Relations.{columns_at}
+use Rattle.db_value.specs.Relations.{widths_at}
 use Rattle.db_value.specs.declared.schema.Relation.{Relation}
 use Rattle.db_value.specs.declared.version.VersionPlace.{VersionPlace}
 use Rattle.db_value.specs.declared.record.Record.{Record}
@@ -17,7 +17,8 @@ use Rattle.db_store.specs.Counts.{after}
 use Rattle.db_store.specs.Table.{Contents, Table, relation_at, with_changes as table_changes}
 use Rattle.db_store.specs.Dataset.{Dataset, head_of}
 use Rattle.hybrid_view.specs.Deltas.{slots_of}
-use Rattle.db_store.specs.Fits.{fits, ascends, has_fields, change_fits, is_within, most_keys}
+use Rattle.db_store.specs.Fits.{fits, ascends, has_fields, has_widths, change_fits, is_within, most_keys}
+use Rattle.db_value.specs.Widths.{meets}
 use Rattle.db_store.specs.LayoutGrowth.{put_before}
 use Rattle.db_store.specs.Growth.{commit_parts}
 use Rattle.db_store.specs.Layout.{Segment, Row, Lane, Layout, no_lane, no_segment, lane_at, differ, bit, slots_where, records_at, segments_at, rows_at, contents_of}
@@ -66,18 +67,19 @@ fit_few schema lanes order segments b second changes f =
     let parts = commit_parts (kept_dataset schema lanes order segments) b second changes f in
     leb-true _ _ (and_parts _ _ (and_parts _ _ parts.changes).0).0
 
--- what is put has a field for each column
-puts_one : (n : ℕ) (b : Bool) (key : ℕ) (f : Option (List Value)) (rest : List Record) → (b ≡ true → has_fields n f ≡ true) → All (λ (row : Record). length row.fields ≡ n) rest → All (λ (row : Record). length row.fields ≡ n) (put_before b key f rest)
-puts_one n true key (Some fs) rest e all = All-cons (λ (row : Record). length row.fields ≡ n) (record { key = key; fields = fs }) rest (eqb-true (length fs) n (e refl)) all
-puts_one n true key None rest e all = all
-puts_one n false key f rest e all = all
+-- what is put meets the widths of its relation
+puts_one : (ws : List ℕ) (b : Bool) (key : ℕ) (f : Option (List Value)) (rest : List Record) → (b ≡ true → has_fields ws f ≡ true) → All (λ (row : Record). meets ws row.fields ≡ true) rest → All (λ (row : Record). meets ws row.fields ≡ true) (put_before b key f rest)
+puts_one ws true key (Some fs) rest e all = All-cons (λ (row : Record). meets ws row.fields ≡ true) (record { key = key; fields = fs }) rest (e refl) all
+puts_one ws true key None rest e all = all
+puts_one ws false key f rest e all = all
 
-pub puts_fit : (schema : List Relation) (cs : List Change) (r : ℕ) → list_all (change_fits schema) cs ≡ true → All (λ (row : Record). length row.fields ≡ length (columns_at schema r)) (puts cs r)
+pub puts_fit : (schema : List Relation) (cs : List Change) (r : ℕ) → list_all (change_fits schema) cs ≡ true → All (λ (row : Record). meets (widths_at schema r) row.fields ≡ true) (puts cs r)
 puts_fit schema [] r e = λ k d lt. absurd (omega (arith, lt))
 puts_fit schema (c ∷ cs) r e =
     let two = and_parts (change_fits schema c) (list_all (change_fits schema) cs) e in
-    let one = and_parts _ _ two.0 in
-    puts_one (length (columns_at schema r)) (c.relation == r) c.key c.fields (puts cs r) (λ t. subst (λ q. has_fields (length (columns_at schema q)) c.fields ≡ true) (eqb-true c.relation r t) one.1) (puts_fit schema cs r two.1)
+    let one = and_parts (nat_lt c.relation (length schema)) (has_fields (widths_at schema c.relation) c.fields && has_widths (widths_at schema c.relation) c.fields c.widths) two.0 in
+    let here = and_parts (has_fields (widths_at schema c.relation) c.fields) (has_widths (widths_at schema c.relation) c.fields c.widths) one.1 in
+    puts_one (widths_at schema r) (c.relation == r) c.key c.fields (puts cs r) (λ t. subst (λ q. has_fields (widths_at schema q) c.fields ≡ true) (eqb-true c.relation r t) here.0) (puts_fit schema cs r two.1)
 
 put_few : (b : Bool) (key : ℕ) (f : Option (List Value)) (rest : List Record) → length (put_before b key f rest) ≤ suc (length rest)
 put_few true key (Some fs) rest = omega arith
@@ -162,7 +164,7 @@ module _ (schema : List Relation) (lanes : List KeptLane) (order : List VersionP
   abbrev lived : Lived
   lived = lived_at (get_or lanes b no_kept).head r
 
-  at : IsKeptAt ss (length (columns_at schema r)) b (count - 1) (kept_rows (get_or lanes b no_kept) r) (lived_at (get_or lanes b no_kept).head r)
+  at : IsKeptAt ss (widths_at schema r) b (count - 1) (kept_rows (get_or lanes b no_kept) r) (lived_at (get_or lanes b no_kept).head r)
   at = (is.each b h).at r g
 
   shown : AllShow ss (count - 1) rows (lived_at (get_or lanes b no_kept).head r).pieces
@@ -192,10 +194,10 @@ module _ (schema : List Relation) (lanes : List KeptLane) (order : List VersionP
   pub head_records : (kept_at (list_at segments r) (head_number segments b r)).rows.records ≡ records_at (map segment_of (list_at segments r)) (head_number segments b r)
   head_records = sym (ap (λ (x : Segment). x.records) (get_or-map segment_of (list_at segments r) (head_number segments b r) no_rows no_segment head_there))
 
-  pub put_fields : (i : ℕ) → i < length (lived_at (get_or lanes b no_kept).head r).pieces → AreWide (piece_at (lived_at (get_or lanes b no_kept).head r).pieces i).rows.fields (puts changes r)
-  put_fields i lt =
+  pub put_wide : (i : ℕ) → i < length (lived_at (get_or lanes b no_kept).head r).pieces → AreWide (piece_at (lived_at (get_or lanes b no_kept).head r).pieces i).rows.widths (puts changes r)
+  put_wide i lt =
       let parts = commit_parts (kept_dataset schema lanes order segments) b second changes fit in
-      subst (λ n. AreWide n (puts changes r)) (sym (at.fields i lt)) (λ j h. puts_fit schema changes r (and_parts _ _ parts.changes).1 j (record { key = 0; fields = [] }) h)
+      subst (λ (ws : List ℕ). AreWide ws (puts changes r)) (sym (at.widths i lt)) (λ j h. puts_fit schema changes r (and_parts _ _ parts.changes).1 j (record { key = 0; fields = [] }) h)
 
   pub put_room : length (records_at (map segment_of (list_at segments r)) (head_number segments b r)) + length changes < 2 ^ 32 → (i : ℕ) → i < length (lived_at (get_or lanes b no_kept).head r).pieces
       → (piece_at (lived_at (get_or lanes b no_kept).head r).pieces i).segment ≡ head_number segments b r → length (piece_at (lived_at (get_or lanes b no_kept).head r).pieces i).rows.records + length (puts changes r) < 2 ^ 32
@@ -296,9 +298,9 @@ module _ (schema : List Relation) (lanes : List KeptLane) (order : List VersionP
 
   -- all of it: what is ready in this relation
   pub made_at : (nexts : List Next) (m : Lived) (own : Rows) → AllNext (touched_places (lived_at (get_or lanes b no_kept).head r).pieces changes r) (head_number segments b r) (puts changes r) (lived_at (get_or lanes b no_kept).head r).pieces m.pieces
-      → AreDifferences (kept_rows (get_or lanes b no_kept) r) nexts (lived_at (get_or lanes b no_kept).head r).pieces m.pieces → IsLived m → own.records ≡ records_at news (head_number segments b r) → own.fields ≡ length (columns_at schema r) → AreSmall m
-      → IsMadeAt ss (length (columns_at schema r)) b (count - 1) r changes rows nexts m own
-  made_at nexts m own next ds is_lived put own_fields small =
+      → AreDifferences (kept_rows (get_or lanes b no_kept) r) nexts (lived_at (get_or lanes b no_kept).head r).pieces m.pieces → IsLived m → own.records ≡ records_at news (head_number segments b r) → own.widths ≡ widths_at schema r → AreSmall m
+      → IsMadeAt ss (widths_at schema r) b (count - 1) r changes rows nexts m own
+  made_at nexts m own next ds is_lived put own_widths small =
       let ps : List Piece = lived.pieces in
       let old : List Segment = ss in
       let new : List Segment = news in
@@ -332,20 +334,20 @@ module _ (schema : List Relation) (lanes : List KeptLane) (order : List VersionP
             ∙ sym (after_records b (puts changes r) old s h ∙ ap (λ x. records_at old s ++ cond x (puts changes r) []) t);
         lived = is_lived;
         small = small;
-        fields = λ i h. let lp : i < length ps = omega (arith, c, h) in (next.each i lp).fields ∙ at.fields i lp;
-        own_fields = own_fields;
+        widths = λ i h. let lp : i < length ps = omega (arith, c, h) in (next.each i lp).widths ∙ at.widths i lp;
+        own_widths = own_widths;
         put = λ s h t. put ∙ ap (records_at new) (sym (is_head s h t));
       }
 
   -- the same in the words of the layout
-  pub made_in : (nexts : List Next) (m : Lived) (own : Rows) → IsMadeAt ss (length (columns_at schema r)) b (count - 1) r changes rows nexts m own
-      → IsMadeAt (segments_at (kept_layout schema lanes order segments).segments r) (length (columns_at schema r)) b (last_in (lane_at (kept_layout schema lanes order segments) b)) r changes (rows_at (lane_at (kept_layout schema lanes order segments) b) r) nexts m own
+  pub made_in : (nexts : List Next) (m : Lived) (own : Rows) → IsMadeAt ss (widths_at schema r) b (count - 1) r changes rows nexts m own
+      → IsMadeAt (segments_at (kept_layout schema lanes order segments).segments r) (widths_at schema r) b (last_in (lane_at (kept_layout schema lanes order segments) b)) r changes (rows_at (lane_at (kept_layout schema lanes order segments) b) r) nexts m own
   made_in nexts m own made =
-      let columns : ℕ = length (columns_at schema r) in
+      let ws : List ℕ = widths_at schema r in
       let last : last_in (lane_at l b) ≡ count - 1 = ap (λ n. n - 1) counted in
-      subst (λ n. IsMadeAt (segments_at l.segments r) columns b n r changes (rows_at (lane_at l b) r) nexts m own) (sym last)
-      (subst (λ xs. IsMadeAt (segments_at l.segments r) columns b (count - 1) r changes xs nexts m own) (sym rows_eq)
-      (subst (λ s. IsMadeAt s columns b (count - 1) r changes rows nexts m own) (sym (segments_kept schema lanes order segments r g)) made))
+      subst (λ n. IsMadeAt (segments_at l.segments r) ws b n r changes (rows_at (lane_at l b) r) nexts m own) (sym last)
+      (subst (λ xs. IsMadeAt (segments_at l.segments r) ws b (count - 1) r changes xs nexts m own) (sym rows_eq)
+      (subst (λ s. IsMadeAt s ws b (count - 1) r changes rows nexts m own) (sym (segments_kept schema lanes order segments r g)) made))
 
   -- the piece of the head has its records
   pub own_put : (m : Lived) → AllNext (touched_places (lived_at (get_or lanes b no_kept).head r).pieces changes r) (head_number segments b r) (puts changes r) (lived_at (get_or lanes b no_kept).head r).pieces m.pieces
@@ -364,13 +366,13 @@ module _ (schema : List Relation) (lanes : List KeptLane) (order : List VersionP
       ∙ (λ j. at.whole i lp seg j ++ cond (eq-eqb (piece_at ps i).segment hd seg j) (puts changes r) [])
       ∙ sym (after_records b (puts changes r) ss hd there ∙ ap (λ x. records_at ss hd ++ cond x (puts changes r) []) (at.headed hd there ∙ eq-eqb hd hd refl))
 
-  -- and their number of fields
-  pub own_fields : (m : Lived) → AllNext (touched_places (lived_at (get_or lanes b no_kept).head r).pieces changes r) (head_number segments b r) (puts changes r) (lived_at (get_or lanes b no_kept).head r).pieces m.pieces
-      → (i : ℕ) → i < length m.pieces → (piece_at m.pieces i).rows.fields ≡ length (columns_at schema r)
-  own_fields m next i lt =
+  -- and their number of widths
+  pub own_widths : (m : Lived) → AllNext (touched_places (lived_at (get_or lanes b no_kept).head r).pieces changes r) (head_number segments b r) (puts changes r) (lived_at (get_or lanes b no_kept).head r).pieces m.pieces
+      → (i : ℕ) → i < length m.pieces → (piece_at m.pieces i).rows.widths ≡ widths_at schema r
+  own_widths m next i lt =
       let d = next.count in
       let lp : i < length lived.pieces = omega (arith, d, lt) in
-      (next.each i lp).fields ∙ at.fields i lp
+      (next.each i lp).widths ∙ at.widths i lp
 
 -- in each relation one piece is that of the head
 pub next_own : (schema : List Relation) (lanes : List KeptLane) (segments : List KeptList) (b : ℕ) (changes : List Change) (head : List Lived) → b < length lanes → IsStored schema lanes segments
@@ -412,6 +414,6 @@ prepared_is schema lanes order segments b second changes h is laid fit nexts hea
       made_in schema lanes order segments b r second changes h g is laid fit (nexts_at nexts r) (lived_at head r) own
       (made_at schema lanes order segments b r second changes h g is laid fit (nexts_at nexts r) (lived_at head r) own (next r g) (ds r g) (all r (omega (arith, g, w)))
       (ap (λ (x : Rows). x.records) (put r g).1.1.1 ∙ own_put schema lanes order segments b r second changes h g is laid fit (lived_at head r) (next r g) (put r g).0 (put r g).1.0 (put r g).1.1.0)
-      (ap (λ (x : Rows). x.fields) (put r g).1.1.1 ∙ own_fields schema lanes order segments b r second changes h g is laid fit (lived_at head r) (next r g) (put r g).0 (put r g).1.0)
+      (ap (λ (x : Rows). x.widths) (put r g).1.1.1 ∙ own_widths schema lanes order segments b r second changes h g is laid fit (lived_at head r) (next r g) (put r g).0 (put r g).1.0)
       (small r g));
 }

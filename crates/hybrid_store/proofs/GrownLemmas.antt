@@ -2,7 +2,7 @@
 use Rattle.std.proofs.Common.{◌≡◌, ◌≢◌, ◌⊎◌, inl, inr, ℕ, suc, ◌-◌, ◌<◌, ◌≤◌, List, [], ◌∷◌, ◌++◌, length, map, set, get_or, Option, refl, arith, ap, sym, ◌∙◌, subst}
 use Rattle.std.proofs.lemmas.Bool.{cases_eq}
 use Rattle.std.proofs.lemmas.List.{length-map, length-set, length_push, get_or-set_same, get_or-set_other}
-use Rattle.db_value.specs.Relations.{columns_at}
+use Rattle.db_value.specs.Relations.{widths_at}
 use Rattle.db_value.specs.declared.schema.Relation.{Relation}
 use Rattle.db_value.specs.declared.version.VersionPlace.{VersionPlace}
 use Rattle.db_value.specs.declared.entry.Change.{Change}
@@ -56,15 +56,15 @@ module _ (schema : List Relation) (lanes : List KeptLane) (order : List VersionP
       subst (λ (xs : List Segment). (i : ℕ) → i < length (map laid_row (kept_rows (get_or lanes c no_kept) r)) → (row_at (map laid_row (kept_rows (get_or lanes c no_kept) r)) i).segment < length xs) (segments_kept schema lanes order segments r g)
       (subst (λ (rows : List Row). (i : ℕ) → i < length rows → (row_at rows i).segment < length (segments_at l.segments r)) (rows_eq c r h g) (λ i lt. (((laid.lanes c (below c h)).rows r g).are i lt).there))
 
-  at : (r : ℕ) → r < length schema → IsKeptAt (map segment_of (list_at segments r)) (length (columns_at schema r)) b (length (get_or lanes b no_kept).seconds - 1) (kept_rows (get_or lanes b no_kept) r) (lived_at (get_or lanes b no_kept).head r)
+  at : (r : ℕ) → r < length schema → IsKeptAt (map segment_of (list_at segments r)) (widths_at schema r) b (length (get_or lanes b no_kept).seconds - 1) (kept_rows (get_or lanes b no_kept) r) (lived_at (get_or lanes b no_kept).head r)
   at r g = (is.each b there).at r g
 
-  made : (r : ℕ) → r < length schema → IsMadeAt (map segment_of (list_at segments r)) (length (columns_at schema r)) b (length (get_or lanes b no_kept).seconds - 1) r cs (map laid_row (kept_rows (get_or lanes b no_kept) r)) (nexts_at nexts r) (lived_at head r) (get_or owns r no_own)
+  made : (r : ℕ) → r < length schema → IsMadeAt (map segment_of (list_at segments r)) (widths_at schema r) b (length (get_or lanes b no_kept).seconds - 1) r cs (map laid_row (kept_rows (get_or lanes b no_kept) r)) (nexts_at nexts r) (lived_at head r) (get_or owns r no_own)
   made r g =
-      let columns : ℕ = length (columns_at schema r) in
-      subst (λ (xs : List Segment). IsMadeAt xs columns b (length k.seconds - 1) r cs (map laid_row (kept_rows k r)) (nexts_at nexts r) (lived_at head r) (get_or owns r no_own)) (segments_kept schema lanes order segments r g)
-      (subst (λ (rows : List Row). IsMadeAt (segments_at l.segments r) columns b (length k.seconds - 1) r cs rows (nexts_at nexts r) (lived_at head r) (get_or owns r no_own)) (rows_eq b r there g)
-      (subst (λ n. IsMadeAt (segments_at l.segments r) columns b n r cs (rows_at (lane_at l b) r) (nexts_at nexts r) (lived_at head r) (get_or owns r no_own)) last (m.at r g)))
+      let ws : List ℕ = widths_at schema r in
+      subst (λ (xs : List Segment). IsMadeAt xs ws b (length k.seconds - 1) r cs (map laid_row (kept_rows k r)) (nexts_at nexts r) (lived_at head r) (get_or owns r no_own)) (segments_kept schema lanes order segments r g)
+      (subst (λ (rows : List Row). IsMadeAt (segments_at l.segments r) ws b (length k.seconds - 1) r cs rows (nexts_at nexts r) (lived_at head r) (get_or owns r no_own)) (rows_eq b r there g)
+      (subst (λ n. IsMadeAt (segments_at l.segments r) ws b n r cs (rows_at (lane_at l b) r) (nexts_at nexts r) (lived_at head r) (get_or owns r no_own)) last (m.at r g)))
 
   -- the head of the branch is there
   pub head_there : (r : ℕ) → r < length schema → head_number segments b r < length (list_at segments r)
@@ -75,7 +75,7 @@ module _ (schema : List Relation) (lanes : List KeptLane) (order : List VersionP
 
   -- and one row of the branch is of it
   pub rows_head : (r : ℕ) → r < length schema → HasHead b (list_at segments r) (kept_rows (get_or lanes b no_kept) r)
-  rows_head r g = kept_head (list_at segments r) (length (columns_at schema r)) b (length k.seconds - 1) (kept_rows k r) (lived_at k.head r) (rows_there b r there g) (at r g)
+  rows_head r g = kept_head (list_at segments r) (widths_at schema r) b (length k.seconds - 1) (kept_rows k r) (lived_at k.head r) (rows_there b r there g) (at r g)
 
   -- ---- what is asked of what is ready
 
@@ -86,14 +86,14 @@ module _ (schema : List Relation) (lanes : List KeptLane) (order : List VersionP
   ready_counts r h =
       let w = (is.each b there).rows in
       let g : r < length schema = omega (arith, h, w) in
-      nexts_count (ss r) (length (columns_at schema r)) b (length k.seconds - 1) r cs (kept_rows k r) [] (nexts_at nexts r) (lived_at k.head r) (lived_at head r) (get_or owns r no_own) (at r g) (made r g)
+      nexts_count (ss r) (widths_at schema r) b (length k.seconds - 1) r cs (kept_rows k r) [] (nexts_at nexts r) (lived_at k.head r) (lived_at head r) (get_or owns r no_own) (at r g) (made r g)
 
   pub ready_each : (r i : ℕ) → r < length (get_or lanes b no_kept).rows → i < length (kept_rows (get_or lanes b no_kept) r)
       → next_at (nexts_at nexts r) i ≡ next_of (kept_row_at (kept_rows (get_or lanes b no_kept) r) i).deltas (next_at (nexts_at nexts r) i).delta.item
   ready_each r i h lt =
       let w = (is.each b there).rows in
       let g : r < length schema = omega (arith, h, w) in
-      next_is (ss r) (length (columns_at schema r)) b (length k.seconds - 1) r cs (kept_rows k r) [] (nexts_at nexts r) (lived_at k.head r) (lived_at head r) (get_or owns r no_own) (at r g) (made r g) i lt
+      next_is (ss r) (widths_at schema r) b (length k.seconds - 1) r cs (kept_rows k r) [] (nexts_at nexts r) (lived_at k.head r) (lived_at head r) (get_or owns r no_own) (at r g) (made r g) i lt
 
   -- ---- what is kept after it
 
@@ -113,7 +113,7 @@ module _ (schema : List Relation) (lanes : List KeptLane) (order : List VersionP
     lists_put : (r : ℕ) → r < length schema → map segment_of (list_at news r) ≡ map (segment_after b (puts cs r)) (map segment_of (list_at segments r))
     lists_put r g =
         ap (λ (x : KeptList). map segment_of x.all) (put r (in_lists r g))
-        ∙ segments_put (ss r) (length (columns_at schema r)) b (length k.seconds - 1) r cs (kept_rows k r) (kept_rows new r) (nexts_at nexts r) (lived_at k.head r) (lived_at head r) (get_or owns r no_own) (at r g) (made r g) (list_at segments r) refl (head_there r g)
+        ∙ segments_put (ss r) (widths_at schema r) b (length k.seconds - 1) r cs (kept_rows k r) (kept_rows new r) (nexts_at nexts r) (lived_at k.head r) (lived_at head r) (get_or owns r no_own) (at r g) (made r g) (list_at segments r) refl (head_there r g)
 
     rows_after : (r : ℕ) → r < length schema
         → map laid_row (kept_rows new r)
@@ -121,7 +121,7 @@ module _ (schema : List Relation) (lanes : List KeptLane) (order : List VersionP
     rows_after r g =
         let sk = segments_kept schema lanes order segments r g in
         let af : segments_at (segments_after l b cs) r ≡ map (segment_after b (puts cs r)) (ss r) = at_relation schema (λ q. map (segment_after b (puts cs q)) (segments_at l.segments q)) r [] g ∙ ap (map (segment_after b (puts cs r))) sk in
-        laid_after (ss r) (length (columns_at schema r)) b (length k.seconds - 1) r cs (kept_rows k r) (kept_rows new r) (nexts_at nexts r) (lived_at k.head r) (lived_at head r) (get_or owns r no_own) (at r g) (made r g) (counts r (in_rows r g)) (λ i h. each r i (in_rows r g) h)
+        laid_after (ss r) (widths_at schema r) b (length k.seconds - 1) r cs (kept_rows k r) (kept_rows new r) (nexts_at nexts r) (lived_at k.head r) (lived_at head r) (get_or owns r no_own) (at r g) (made r g) (counts r (in_rows r g)) (λ i h. each r i (in_rows r g) h)
         ∙ (λ i. map (row_after (sym sk i) (sym af i) (touches cs r) (sym last i)) (map laid_row (kept_rows k r)))
 
     pub layout_is : kept_layout schema (set lanes b new) (order ++ record { branch = b; position = length (get_or lanes b no_kept).seconds } ∷ []) news ≡ after_commit (kept_layout schema lanes order segments) b second cs
@@ -135,11 +135,11 @@ module _ (schema : List Relation) (lanes : List KeptLane) (order : List VersionP
       rows = wide ∙ (is.each b there).rows;
       head = ap (λ (x : KeptLane). length x.head) new_is ∙ m.wide;
       at = λ r g.
-          let columns : ℕ = length (columns_at schema r) in
-          subst (λ (xs : List Segment). IsKeptAt xs columns b (length new.seconds - 1) (kept_rows new r) (lived_at new.head r)) (sym (lists_put r g))
-          (subst (λ n. IsKeptAt (map (segment_after b (puts cs r)) (ss r)) columns b n (kept_rows new r) (lived_at new.head r)) seconds_is
-          (subst (λ (xs : List Lived). IsKeptAt (map (segment_after b (puts cs r)) (ss r)) columns b (suc (length k.seconds - 1)) (kept_rows new r) (lived_at xs r)) (sym (ap (λ (x : KeptLane). x.head) new_is))
-          (made_kept (ss r) columns b (length k.seconds - 1) r cs (kept_rows k r) (kept_rows new r) (nexts_at nexts r) (lived_at k.head r) (lived_at head r) (get_or owns r no_own) (at r g) (made r g) (counts r (in_rows r g)) (λ i h. each r i (in_rows r g) h))));
+          let ws : List ℕ = widths_at schema r in
+          subst (λ (xs : List Segment). IsKeptAt xs ws b (length new.seconds - 1) (kept_rows new r) (lived_at new.head r)) (sym (lists_put r g))
+          (subst (λ n. IsKeptAt (map (segment_after b (puts cs r)) (ss r)) ws b n (kept_rows new r) (lived_at new.head r)) seconds_is
+          (subst (λ (xs : List Lived). IsKeptAt (map (segment_after b (puts cs r)) (ss r)) ws b (suc (length k.seconds - 1)) (kept_rows new r) (lived_at xs r)) (sym (ap (λ (x : KeptLane). x.head) new_is))
+          (made_kept (ss r) ws b (length k.seconds - 1) r cs (kept_rows k r) (kept_rows new r) (nexts_at nexts r) (lived_at k.head r) (lived_at head r) (get_or owns r no_own) (at r g) (made r g) (counts r (in_rows r g)) (λ i h. each r i (in_rows r g) h))));
     }
 
     other_kept : (c : ℕ) → c < length lanes → c ≢ b → IsKept schema news c (get_or lanes c no_kept)
@@ -150,8 +150,8 @@ module _ (schema : List Relation) (lanes : List KeptLane) (order : List VersionP
           rows = old.rows;
           head = old.head;
           at = λ r g.
-              subst (λ (xs : List Segment). IsKeptAt xs (length (columns_at schema r)) c (length x.seconds - 1) (kept_rows x r) (lived_at x.head r)) (sym (lists_put r g))
-              (kept_stays (ss r) (length (columns_at schema r)) c b (length x.seconds - 1) (puts cs r) (kept_rows x r) (lived_at x.head r) n (rows_there c r h g) (old.at r g));
+              subst (λ (xs : List Segment). IsKeptAt xs (widths_at schema r) c (length x.seconds - 1) (kept_rows x r) (lived_at x.head r)) (sym (lists_put r g))
+              (kept_stays (ss r) (widths_at schema r) c b (length x.seconds - 1) (puts cs r) (kept_rows x r) (lived_at x.head r) n (rows_there c r h g) (old.at r g));
         }
 
     pub stored_is : IsStored schema (set lanes b new) news
@@ -165,7 +165,7 @@ module _ (schema : List Relation) (lanes : List KeptLane) (order : List VersionP
               let e = ap (λ (x : KeptList). length x.all) (put r (in_lists r g)) in
               let n = length-set (list_at segments r) (head_number segments b r) (record (kept_at (list_at segments r) (head_number segments b r)) { rows = get_or owns r no_own }) in
               omega (arith, f, e, n, ls);
-          fields = fields;
+          widths = widths;
           each = λ c h. each_kept c (omega (arith, h, ls)) (cases_eq b c);
         }
       where
@@ -173,22 +173,22 @@ module _ (schema : List Relation) (lanes : List KeptLane) (order : List VersionP
         each_kept c h (inl e) = subst (λ x. IsKept schema news x (get_or (set lanes b new) x no_kept)) e (subst (IsKept schema news b) (sym (get_or-set_same lanes b new no_kept there)) own_kept)
         each_kept c h (inr n) = subst (IsKept schema news c) (sym (get_or-set_other lanes b c new no_kept (λ e. n (sym e)))) (other_kept c h (λ e. n (sym e)))
 
-        fields : (r s : ℕ) → r < length schema → s < length (list_at news r) → (kept_at (list_at news r) s).rows.fields ≡ length (columns_at schema r)
-        fields r s g lt =
+        widths : (r s : ℕ) → r < length schema → s < length (list_at news r) → (kept_at (list_at news r) s).rows.widths ≡ widths_at schema r
+        widths r s g lt =
             let x : KeptRecords = record (kept_at (list_at segments r) (head_number segments b r)) { rows = get_or owns r no_own } in
             let e = put r (in_lists r g) in
             let n = ap (λ (y : KeptList). length y.all) e in
             let ls = length-set (list_at segments r) (head_number segments b r) x in
-            ap (λ (y : KeptList). (kept_at y.all s).rows.fields) e ∙ by (omega (arith, lt, n, ls)) (cases_eq (head_number segments b r) s)
+            ap (λ (y : KeptList). (kept_at y.all s).rows.widths) e ∙ by (omega (arith, lt, n, ls)) (cases_eq (head_number segments b r) s)
           where
             by : s < length (list_at segments r) → (head_number segments b r ≡ s) ⊎ (head_number segments b r ≢ s)
-                → (kept_at (set (list_at segments r) (head_number segments b r) (record (kept_at (list_at segments r) (head_number segments b r)) { rows = get_or owns r no_own })) s).rows.fields ≡ length (columns_at schema r)
+                → (kept_at (set (list_at segments r) (head_number segments b r) (record (kept_at (list_at segments r) (head_number segments b r)) { rows = get_or owns r no_own })) s).rows.widths ≡ widths_at schema r
             by q (inl t) =
                 let x : KeptRecords = record (kept_at (list_at segments r) (head_number segments b r)) { rows = get_or owns r no_own } in
-                ap (λ y. (kept_at (set (list_at segments r) (head_number segments b r) x) y).rows.fields) (sym t)
-                ∙ ap (λ (y : KeptRecords). y.rows.fields) (get_or-set_same (list_at segments r) (head_number segments b r) x no_rows (head_there r g))
-                ∙ (made r g).own_fields
+                ap (λ y. (kept_at (set (list_at segments r) (head_number segments b r) x) y).rows.widths) (sym t)
+                ∙ ap (λ (y : KeptRecords). y.rows.widths) (get_or-set_same (list_at segments r) (head_number segments b r) x no_rows (head_there r g))
+                ∙ (made r g).own_widths
             by q (inr t) =
                 let x : KeptRecords = record (kept_at (list_at segments r) (head_number segments b r)) { rows = get_or owns r no_own } in
-                ap (λ (y : KeptRecords). y.rows.fields) (get_or-set_other (list_at segments r) (head_number segments b r) s x no_rows (λ e. t (sym e)))
-                ∙ is.fields r s g q
+                ap (λ (y : KeptRecords). y.rows.widths) (get_or-set_other (list_at segments r) (head_number segments b r) s x no_rows (λ e. t (sym e)))
+                ∙ is.widths r s g q

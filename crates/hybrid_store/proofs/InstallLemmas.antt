@@ -31,8 +31,8 @@ heads_stay ss c new s h = ap (λ (x : Segment). x.head) (get_or-map (segment_aft
 
 -- ---- another branch
 
-module _ (ss : List Segment) (columns b c n : ℕ) (new : List Record) (rows : List KeptRow) (l : Lived) (apart : b ≢ c)
-    (there : (i : ℕ) → i < length (map laid_row rows) → (row_at (map laid_row rows) i).segment < length ss) (at : IsKeptAt ss columns b n rows l) where
+module _ (ss : List Segment) (ws : List ℕ) (b c n : ℕ) (new : List Record) (rows : List KeptRow) (l : Lived) (apart : b ≢ c)
+    (there : (i : ℕ) → i < length (map laid_row rows) → (row_at (map laid_row rows) i).segment < length ss) (at : IsKeptAt ss ws b n rows l) where
   long : length (map (segment_after c new) ss) ≡ length ss
   long = length-map ss (segment_after c new)
 
@@ -49,7 +49,7 @@ module _ (ss : List Segment) (columns b c n : ℕ) (new : List Record) (rows : L
       ∙ ap (λ x. records_at ss (head_in b ss) ++ cond x new []) (one_only c b (head_at ss (head_in b ss)) (λ e. apart (sym e)) mine)
       ∙ append-nil (records_at ss (head_in b ss))
 
-  pub kept_stays : IsKeptAt (map (segment_after c new) ss) columns b n rows l
+  pub kept_stays : IsKeptAt (map (segment_after c new) ss) ws b n rows l
   kept_stays = record {
     own = ap (λ k. has_row k rows) head_same ∙ at.own;
     headed = λ s h. let e = long in let lt : s < length ss = omega (arith, h, e) in ap (is_head_of b) (heads_stay ss c new s lt) ∙ at.headed s lt ∙ ap (λ k. s == k) (sym head_same);
@@ -73,13 +73,13 @@ module _ (ss : List Segment) (columns b c n : ℕ) (new : List Record) (rows : L
     whole = λ i h e. at.whole i h (e ∙ head_same) ∙ sym whole_stays ∙ ap (records_at (map (segment_after c new) ss)) (sym head_same);
     lived = at.lived;
     small = at.small;
-    fields = at.fields;
+    widths = at.widths;
   }
 
 -- ---- the branch itself
 
-module _ (ss : List Segment) (columns c n r : ℕ) (cs : List Change) (rows news : List KeptRow) (nexts : List Next) (l0 l : Lived) (own : Rows)
-    (at : IsKeptAt ss columns c n rows l0) (m : IsMadeAt ss columns c n r cs (map laid_row rows) nexts l own) where
+module _ (ss : List Segment) (ws : List ℕ) (c n r : ℕ) (cs : List Change) (rows news : List KeptRow) (nexts : List Next) (l0 l : Lived) (own : Rows)
+    (at : IsKeptAt ss ws c n rows l0) (m : IsMadeAt ss ws c n r cs (map laid_row rows) nexts l own) where
   abbrev after : List Segment
   after = map (segment_after c (puts cs r)) ss
 
@@ -125,7 +125,7 @@ module _ (ss : List Segment) (columns c n r : ℕ) (cs : List Change) (rows news
         let lt = own_at.1.0 in
         at_has (head_in c ss) news own_at.0 (omega (arith, lt, count)) (ap (λ (x : KeptRow). x.segment) (each own_at.0 own_at.1.0) ∙ own_at.1.1)
 
-    pub made_kept : IsKeptAt (map (segment_after c (puts cs r)) ss) columns c (suc n) news l
+    pub made_kept : IsKeptAt (map (segment_after c (puts cs r)) ss) ws c (suc n) news l
     made_kept =
         let long = length-map ss (segment_after c (puts cs r)) in
         let mc = m.count in
@@ -155,7 +155,7 @@ module _ (ss : List Segment) (columns c n r : ℕ) (cs : List Change) (rows news
           whole = λ i h e. m.whole (head_in c ss) there mine i h (e ∙ head_stays) ∙ ap (records_at after) (sym head_stays);
           lived = m.lived;
           small = m.small;
-          fields = λ i h. m.fields i (omega (arith, h, mc));
+          widths = λ i h. m.widths i (omega (arith, h, mc));
         }
 
   -- the segments whose head has the new records

@@ -1,10 +1,9 @@
 -- What a new store keeps is the new layout, and all that holds of what a store keeps holds of it.
 use Rattle.std.proofs.Common.{◌≡◌, ◌⊎◌, inl, inr, true, false, ◌++◌, ℕ, zero, suc, ◌+◌, ◌-◌, ◌^◌, ◌<◌, ◌≤◌, ◌==◌, List, [], ◌∷◌, length, map, get_or, refl, arith, ap, sym, ◌∙◌, subst, Some, None}
 use Rattle.std.specs.Prelude.{codes}
-use Rattle.std.proofs.lemmas.Bool.{cases_lt, cases_Bool, and_parts, ltb-true, leb-true, false≢true}
+use Rattle.std.proofs.lemmas.Bool.{cases_lt}
 use Rattle.std.proofs.lemmas.List.{get_or_append_left, get_or_push}
-use Rattle.std.proofs.lemmas.List.Folds.{list_all_at}
-use Rattle.db_value.specs.Relations.{columns_at, has_columns, is_counted}
+use Rattle.db_value.specs.Relations.{widths_at}
 use Rattle.db_value.specs.declared.schema.Relation.{Relation}
 use Rattle.db_value.specs.declared.version.VersionPlace.{VersionPlace}
 use Rattle.record_page.specs.Page.{Rows}
@@ -25,21 +24,6 @@ use Rattle.bit_rows.specs.Segments.{KeptRecords, KeptList, no_list, most_segment
 use Rattle.hybrid_store.specs.New.{first_lived}
 use Rattle.hybrid_store.specs.Stored.{head_in, IsKeptAt, IsKept, IsStored}
 
--- ---- the columns of a relation
-
-pub some_columns : (r : Relation) → has_columns r ≡ true → 0 < length r.columns
-some_columns r e = ltb-true _ _ (and_parts _ _ e).0
-
-pub few_columns : (r : Relation) → has_columns r ≡ true → length r.columns ≤ 15
-few_columns r e = leb-true _ _ (and_parts _ _ e).1
-
-pub columns_there : (rs : List Relation) (i : ℕ) (d : Relation) → is_counted rs ≡ true → i < length rs → has_columns (get_or rs i d) ≡ true
-columns_there rs i d e h = by (cases_Bool (has_columns (get_or rs i d)))
-  where
-    by : (has_columns (get_or rs i d) ≡ true) ⊎ (has_columns (get_or rs i d) ≡ false) → has_columns (get_or rs i d) ≡ true
-    by (inl t) = t
-    by (inr f) = absurd (false≢true (sym (list_all_at has_columns rs i d h f) ∙ (and_parts _ _ e).1))
-
 -- ---- one item more
 
 pub each_more : {X : Type 0} (P : ℕ → X → Type 0) (xs : List X) (x d : X) (i : ℕ) → length xs ≡ i → ((q : ℕ) → q < i → P q (get_or xs q d)) → P i x → (q : ℕ) → q < i + 1 → P q (get_or (xs ++ x ∷ []) q d)
@@ -52,52 +36,52 @@ each_more P xs x d i n f e q h = by (cases_lt q i)
 -- ---- what a new store keeps
 
 -- a head without records
-abbrev own : ℕ → Rows
-own columns = record { fields = columns; records = [] }
+abbrev own : List ℕ → Rows
+own ws = record { widths = ws; records = [] }
 
-abbrev first_segment : ℕ → KeptRecords
-first_segment columns = record { head = Some 0; rows = own columns }
+abbrev first_segment : List ℕ → KeptRecords
+first_segment ws = record { head = Some 0; rows = own ws }
 
 headed : (s : ℕ) → s < 1 → is_head_of 0 (head_at (head_segment 0 ∷ []) s) ≡ (s == head_in 0 (head_segment 0 ∷ []))
 headed zero h = refl
 headed (suc s) h = absurd (omega (arith, h))
 
-shown : (columns i : ℕ) → i < 1 → Shows (head_segment 0 ∷ []) 0 (row_at (map laid_row (first_row ∷ [])) i) (piece_at (first_lived (own columns)).pieces i)
-shown columns zero h = record { segment = refl; front = refl; bits = λ slot. refl; past = λ slot g. refl }
-shown columns (suc i) h = absurd (omega (arith, h))
+shown : (ws : List ℕ) (i : ℕ) → i < 1 → Shows (head_segment 0 ∷ []) 0 (row_at (map laid_row (first_row ∷ [])) i) (piece_at (first_lived (own ws)).pieces i)
+shown ws zero h = record { segment = refl; front = refl; bits = λ slot. refl; past = λ slot g. refl }
+shown ws (suc i) h = absurd (omega (arith, h))
 
-first_kept : (columns : ℕ) → IsKeptAt (head_segment 0 ∷ []) columns 0 0 (first_row ∷ []) (first_lived (own columns))
-first_kept columns = record {
+first_kept : (ws : List ℕ) → IsKeptAt (head_segment 0 ∷ []) ws 0 0 (first_row ∷ []) (first_lived (own ws))
+first_kept ws = record {
   own = refl;
   headed = headed;
   short = λ i h. short i h;
-  shown = record { count = refl; each = shown columns };
+  shown = record { count = refl; each = shown ws };
   whole = λ i h e. whole i h;
-  lived = empty_is_lived (record { segment = 0; rows = own columns; bits = [] }) refl refl;
+  lived = empty_is_lived (record { segment = 0; rows = own ws; bits = [] }) refl refl;
   small = λ i h. small i h;
-  fields = λ i h. fields i h;
+  widths = λ i h. widths i h;
 }
   where
     short : (i : ℕ) → i < 1 → map shortest (map slots_of (kept_row_at (first_row ∷ []) i).deltas) ≡ (kept_row_at (first_row ∷ []) i).deltas
     short zero h = refl
     short (suc i) h = absurd (omega (arith, h))
 
-    whole : (i : ℕ) → i < 1 → (piece_at (first_lived (own columns)).pieces i).rows.records ≡ []
+    whole : (i : ℕ) → i < 1 → (piece_at (first_lived (own ws)).pieces i).rows.records ≡ []
     whole zero h = refl
     whole (suc i) h = absurd (omega (arith, h))
 
-    small : (i : ℕ) → i < 1 → length (piece_at (first_lived (own columns)).pieces i).rows.records < 2 ^ 32
+    small : (i : ℕ) → i < 1 → length (piece_at (first_lived (own ws)).pieces i).rows.records < 2 ^ 32
     small zero h = omega arith
     small (suc i) h = absurd (omega (arith, h))
 
-    fields : (i : ℕ) → i < 1 → (piece_at (first_lived (own columns)).pieces i).rows.fields ≡ columns
-    fields zero h = refl
-    fields (suc i) h = absurd (omega (arith, h))
+    widths : (i : ℕ) → i < 1 → (piece_at (first_lived (own ws)).pieces i).rows.widths ≡ ws
+    widths zero h = refl
+    widths (suc i) h = absurd (omega (arith, h))
 
 module _ (schema : List Relation) (k : KeptLane) (order : List VersionPlace) (segments : List KeptList)
     (is : k ≡ record { name = codes "master"; origin = root; base = root; seconds = None ∷ []; rows = k.rows; head = k.head; room = k.room })
     (rows : (r : ℕ) → r < length schema → kept_rows k r ≡ first_row ∷ [])
-    (lists : (r : ℕ) → r < length schema → list_at segments r ≡ record { head = Some 0; rows = record { fields = length (columns_at schema r); records = [] } } ∷ []) where
+    (lists : (r : ℕ) → r < length schema → list_at segments r ≡ record { head = Some 0; rows = record { widths = widths_at schema r; records = [] } } ∷ []) where
   lane_is : lane_of schema k ≡ record { name = codes "master"; origin = root; base = root; seconds = None ∷ []; rows = by_relation schema (λ r. head_row 0 0 ∷ []) }
   lane_is = λ i. record {
     name = (is i).name;
@@ -116,23 +100,23 @@ module _ (schema : List Relation) (k : KeptLane) (order : List VersionPlace) (se
   }
 
   pub new_stored : length segments ≡ length schema → ((r : ℕ) → r < length schema → most_segments ≤ (get_or segments r no_list).room) → length k.rows ≡ length schema → length k.head ≡ length schema
-      → ((r : ℕ) → r < length schema → lived_at k.head r ≡ first_lived (record { fields = length (columns_at schema r); records = [] })) → IsStored schema (k ∷ []) segments
+      → ((r : ℕ) → r < length schema → lived_at k.head r ≡ first_lived (record { widths = widths_at schema r; records = [] })) → IsStored schema (k ∷ []) segments
   new_stored wide room rows_wide head_wide lived = record {
     wide = wide;
     room = room;
     few = λ r h. let e = ap (λ (ks : List KeptRecords). length ks) (lists r h) in omega (arith, e);
-    fields = λ r s h lt. let e = ap (λ (ks : List KeptRecords). length ks) (lists r h) in ap (λ (ks : List KeptRecords). (kept_at ks s).rows.fields) (lists r h) ∙ one (length (columns_at schema r)) s (omega (arith, e, lt));
+    widths = λ r s h lt. let e = ap (λ (ks : List KeptRecords). length ks) (lists r h) in ap (λ (ks : List KeptRecords). (kept_at ks s).rows.widths) (lists r h) ∙ one (widths_at schema r) s (omega (arith, e, lt));
     each = each;
   }
     where
-      one : (columns s : ℕ) → s < 1 → (kept_at (first_segment columns ∷ []) s).rows.fields ≡ columns
-      one columns zero h = refl
-      one columns (suc s) h = absurd (omega (arith, h))
+      one : (ws : List ℕ) (s : ℕ) → s < 1 → (kept_at (first_segment ws ∷ []) s).rows.widths ≡ ws
+      one ws zero h = refl
+      one ws (suc s) h = absurd (omega (arith, h))
 
-      at : (r : ℕ) → r < length schema → IsKeptAt (map segment_of (list_at segments r)) (length (columns_at schema r)) 0 (length k.seconds - 1) (kept_rows k r) (lived_at k.head r)
+      at : (r : ℕ) → r < length schema → IsKeptAt (map segment_of (list_at segments r)) (widths_at schema r) 0 (length k.seconds - 1) (kept_rows k r) (lived_at k.head r)
       at r h =
           let n : 0 ≡ length k.seconds - 1 = sym (ap (λ (x : KeptLane). length x.seconds - 1) is) in
-          let c : ℕ = length (columns_at schema r) in
+          let c : List ℕ = widths_at schema r in
           subst (λ (ks : List KeptRecords). IsKeptAt (map segment_of ks) c 0 (length k.seconds - 1) (kept_rows k r) (lived_at k.head r)) (sym (lists r h))
           (subst (λ m. IsKeptAt (head_segment 0 ∷ []) c 0 m (kept_rows k r) (lived_at k.head r)) n
           (subst (λ (xs : List KeptRow). IsKeptAt (head_segment 0 ∷ []) c 0 0 xs (lived_at k.head r)) (sym (rows r h))

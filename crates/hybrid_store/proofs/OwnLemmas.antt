@@ -73,9 +73,9 @@ own_there count s rows t there =
     omega (arith, is, below)
 
 -- what is kept of a branch tells its head
-pub kept_head : (ks : List KeptRecords) (columns b n : ℕ) (rows : List KeptRow) (l : Lived) → ((i : ℕ) → i < length (map laid_row rows) → (row_at (map laid_row rows) i).segment < length (map segment_of ks))
-    → IsKeptAt (map segment_of ks) columns b n rows l → HasHead b ks rows
-kept_head ks columns b n rows l there at = record {
+pub kept_head : (ks : List KeptRecords) (ws : List ℕ) (b n : ℕ) (rows : List KeptRow) (l : Lived) → ((i : ℕ) → i < length (map laid_row rows) → (row_at (map laid_row rows) i).segment < length (map segment_of ks))
+    → IsKeptAt (map segment_of ks) ws b n rows l → HasHead b ks rows
+kept_head ks ws b n rows l there at = record {
   there = λ i h.
       let k = length-map rows laid_row in
       let m = length-map ks segment_of in

@@ -1,7 +1,8 @@
 -- The layout of a few parts, computed, and parts that keep the rules.
 use Rattle.std.proofs.Common.{◌≡◌, ◌<◌, ◌≤◌, ◌==◌, ℕ, zero, suc, Bool, true, false, cond, List, [], ◌∷◌, length, get_or, Some, None, refl, arith, ap, sym, ◌∙◌, subst}
 use Rattle.std.specs.Prelude.{pos, codes}
-use Rattle.db_value.specs.Relations.{no_relation, columns_at, is_counted}
+use Rattle.db_value.specs.Relations.{number_column, widths_at, is_counted}
+use Rattle.db_value.specs.declared.value.Value.TheVariants.{Number}
 use Rattle.db_value.specs.declared.schema.Relation.{Relation}
 use Rattle.db_value.specs.declared.record.Record.{Record}
 use Rattle.db_value.specs.declared.entry.Entry.TheVariants.{Commit, Branch as NewBranch}
@@ -17,19 +18,18 @@ use Rattle.db_store.proofs.NewLayout.{new_laid as laid_anew}
 use Rattle.db_store.proofs.SoundLemmas.{new_sound}
 use Rattle.db_store.proofs.CountedLemmas.{new_is_counted}
 use Rattle.db_store.proofs.OrderMade.{new_ordered}
-use Rattle.hybrid_store.proofs.NewLemmas.{some_columns, few_columns, columns_there}
 use Rattle.hybrid_store.specs.declared.parts.SegmentPart.{SegmentPart}
 use Rattle.hybrid_store.specs.declared.parts.LayoutParts.{LayoutParts}
 use Rattle.hybrid_store.specs.Parts.{no_segment_part, layout_of_parts, AreSound}
 
 items : List Relation
-items = record { name = codes "items"; columns = codes "a" ∷ codes "b" ∷ [] } ∷ []
+items = record { name = codes "items"; columns = number_column (codes "a") ∷ number_column (codes "b") ∷ [] } ∷ []
 
 abbrev one : Record
-one = record { key = 7; fields = pos 1 ∷ pos 2 ∷ [] }
+one = record { key = 7; fields = Number (pos 1) ∷ Number (pos 2) ∷ [] }
 
 abbrev own : List Record → Rows
-own xs = record { fields = 2; records = xs }
+own xs = record { widths = 0 ∷ 0 ∷ []; records = xs }
 
 -- master alone
 abbrev new_parts : LayoutParts
@@ -57,7 +57,7 @@ two_parts = record {
 }
 
 abbrev grown : Layout
-grown = grow_layout (grow_layout (new_layout items) (Commit 0 None (record { relation = 0; key = 7; fields = Some (pos 1 ∷ pos 2 ∷ []) } ∷ []))) (NewBranch (codes "dev") (record { branch = 0; position = 1 }))
+grown = grow_layout (grow_layout (new_layout items) (Commit 0 None (record { relation = 0; key = 7; fields = Some (Number (pos 1) ∷ Number (pos 2) ∷ []); widths = Some (0 ∷ 0 ∷ []) } ∷ []))) (NewBranch (codes "dev") (record { branch = 0; position = 1 }))
 
 two_laid : layout_of_parts two_parts ≡ grown
 unfolding items
@@ -67,7 +67,7 @@ two_laid = refl
 
 -- an empty head of master, with its row
 abbrev pub head_of_one : List Relation → SegmentPart
-head_of_one schema = record { relation = 0; head = Some 0; records = record { fields = length (columns_at schema 0); records = [] }; rows = record { branch = 0; from = 0; deltas = [] ∷ [] } ∷ [] }
+head_of_one schema = record { relation = 0; head = Some 0; records = record { widths = widths_at schema 0; records = [] }; rows = record { branch = 0; from = 0; deltas = [] ∷ [] } ∷ [] }
 
 -- master alone, with it
 abbrev pub parts_of_one : List Relation → LayoutParts
@@ -77,13 +77,6 @@ parts_of_one schema = record {
   versions = [];
   segments = head_of_one schema ∷ [];
 }
-
--- the columns of its relation
-pub first_some : (schema : List Relation) → is_counted schema ≡ true → length schema ≡ 1 → 0 < length (columns_at schema 0)
-first_some schema counted one = some_columns (get_or schema 0 no_relation) (columns_there schema 0 no_relation counted (omega (arith, one)))
-
-pub first_few : (schema : List Relation) → is_counted schema ≡ true → length schema ≡ 1 → length (columns_at schema 0) ≤ 15
-first_few schema counted one = few_columns (get_or schema 0 no_relation) (columns_there schema 0 no_relation counted (omega (arith, one)))
 
 one_laid : (schema : List Relation) → length schema ≡ 1 → layout_of_parts (parts_of_one schema) ≡ new_layout schema
 one_laid [] e = absurd (omega (arith, e))
@@ -98,7 +91,7 @@ one_keeps schema counted one = record {
   ordered = subst IsOrdered (sym data_same) (new_ordered schema);
   few = λ r h. few (0 == r);
   there = there;
-  fields = fields;
+  widths = widths;
 }
   where
     same : layout_of_parts (parts_of_one schema) ≡ new_layout schema
@@ -115,6 +108,6 @@ one_keeps schema counted one = record {
     there zero h = omega (arith, one)
     there (suc i) h = absurd (omega (arith, h))
 
-    fields : (i : ℕ) → i < 1 → (get_or (parts_of_one schema).segments i no_segment_part).records.fields ≡ length (columns_at schema (get_or (parts_of_one schema).segments i no_segment_part).relation)
-    fields zero h = refl
-    fields (suc i) h = absurd (omega (arith, h))
+    widths : (i : ℕ) → i < 1 → (get_or (parts_of_one schema).segments i no_segment_part).records.widths ≡ widths_at schema (get_or (parts_of_one schema).segments i no_segment_part).relation
+    widths zero h = refl
+    widths (suc i) h = absurd (omega (arith, h))

@@ -3,7 +3,7 @@ use Rattle.std.proofs.Common.{◌≡◌, ◌⊎◌, inl, inr, ℕ, suc, ◌*◌,
 use Rattle.std.specs.FinMap as finite
 use Rattle.std.proofs.lemmas.Bool.{cases_Bool, eq-eqb, ne_eqb, false≢true}
 use Rattle.std.proofs.lemmas.List.{length-map, get_or-map}
-use Rattle.db_value.specs.Relations.{columns_at}
+use Rattle.db_value.specs.Relations.{widths_at}
 use Rattle.db_value.specs.declared.version.VersionPlace.{VersionPlace}
 use Rattle.db_store.specs.Table.{Table, Contents, relation_at}
 use Rattle.db_store.specs.Dataset.{table_at}
@@ -108,14 +108,14 @@ module _ (p : LayoutParts) (sound : AreSound p) (lanes : List KeptLane) (lists :
       let f = sound.few r g in
       omega (arith, e, n, f)
 
-  list_fields : (r s : ℕ) → r < length p.schema → s < length (list_at lists r) → (kept_at (list_at lists r) s).rows.fields ≡ length (columns_at p.schema r)
-  list_fields r s g lt =
+  list_widths : (r s : ℕ) → r < length p.schema → s < length (list_at lists r) → (kept_at (list_at lists r) s).rows.widths ≡ widths_at p.schema r
+  list_widths r s g lt =
       let e = ap (λ (ks : List KeptRecords). length ks) (are.each r g) in
       let n = length-map (parts_of r p.segments) segment_kept in
       let below : s < length (parts_of r p.segments) = omega (arith, e, n, lt) in
-      ap (λ (ks : List KeptRecords). (kept_at ks s).rows.fields) (are.each r g)
-      ∙ ap (λ (k : KeptRecords). k.rows.fields) (get_or-map segment_kept (parts_of r p.segments) s no_segment_part no_rows below)
-      ∙ each_part (λ (x : SegmentPart). x.records.fields ≡ length (columns_at p.schema r)) r p.segments (λ i h q. sound.fields i h ∙ ap (λ k. length (columns_at p.schema k)) q) s below
+      ap (λ (ks : List KeptRecords). (kept_at ks s).rows.widths) (are.each r g)
+      ∙ ap (λ (k : KeptRecords). k.rows.widths) (get_or-map segment_kept (parts_of r p.segments) s no_segment_part no_rows below)
+      ∙ each_part (λ (x : SegmentPart). x.records.widths ≡ widths_at p.schema r) r p.segments (λ i h q. sound.widths i h ∙ ap (λ k. widths_at p.schema k) q) s below
 
   module _ (b : ℕ) (h : b < length lanes) where
     abbrev k : KeptLane
@@ -154,7 +154,7 @@ module _ (p : LayoutParts) (sound : AreSound p) (lanes : List KeptLane) (lists :
           let w = list_length r g in
           let x = few_branches in
           omega (arith, m, c, f, w, x);
-      fields = λ s lt. list_fields r s g lt;
+      widths = λ s lt. list_widths r s g lt;
     }
 
     keys : (r : ℕ) → r < length p.schema → (lived_seen (list_at lists r) n (kept_rows (get_or lanes b no_kept) r)).count < 2 ^ 32
@@ -212,14 +212,14 @@ module _ (p : LayoutParts) (sound : AreSound p) (lanes : List KeptLane) (lists :
           ∙ sym (ap (λ (x : Segment). x.records) (get_or-map segment_of ks s no_rows no_segment there))
           ∙ ap (records_at (map segment_of ks)) (sym (ap (λ (x : Piece). x.segment) is) ∙ e)
 
-      kept_lane_at : (r : ℕ) → r < length p.schema → IsKeptAt (map segment_of (list_at lists r)) (length (columns_at p.schema r)) b (length (get_or lanes b no_kept).seconds - 1) (kept_rows (get_or lanes b no_kept) r) (lived_at (get_or lanes b no_kept).head r)
+      kept_lane_at : (r : ℕ) → r < length p.schema → IsKeptAt (map segment_of (list_at lists r)) (widths_at p.schema r) b (length (get_or lanes b no_kept).seconds - 1) (kept_rows (get_or lanes b no_kept) r) (lived_at (get_or lanes b no_kept).head r)
       kept_lane_at r g =
           let ks : List KeptRecords = list_at lists r in
           let seen_as = heads.each r g in
           let small : AreSmall (lived_seen ks n (kept_rows k r)) = subst AreSmall seen_as.seen (λ i lt. seen_as.small i no_piece lt) in
-          let seen : IsSeenAt (map segment_of ks) (length (columns_at p.schema r)) n (map laid_row (kept_rows k r)) (lived_seen ks n (kept_rows k r)) =
-          subst (λ (xs : List KeptRow). IsSeenAt (map segment_of ks) (length (columns_at p.schema r)) n (map laid_row xs) (lived_seen ks n (kept_rows k r))) (begun_all r g) (rows_seen p.schema lanes order lists is_laid b n r h last g (can r g) small) in
-          subst (λ (l : Lived). IsKeptAt (map segment_of ks) (length (columns_at p.schema r)) b n (kept_rows k r) l) (sym seen_as.seen) (record {
+          let seen : IsSeenAt (map segment_of ks) (widths_at p.schema r) n (map laid_row (kept_rows k r)) (lived_seen ks n (kept_rows k r)) =
+          subst (λ (xs : List KeptRow). IsSeenAt (map segment_of ks) (widths_at p.schema r) n (map laid_row xs) (lived_seen ks n (kept_rows k r))) (begun_all r g) (rows_seen p.schema lanes order lists is_laid b n r h last g (can r g) small) in
+          subst (λ (l : Lived). IsKeptAt (map segment_of ks) (widths_at p.schema r) b n (kept_rows k r) l) (sym seen_as.seen) (record {
             own = head_has b (length k.seconds) (map segment_of ks) (kept_rows k r) (of r g);
             headed = head_tests b (length k.seconds) (map segment_of ks) (kept_rows k r) (of r g);
             short = (can r g).short;
@@ -227,7 +227,7 @@ module _ (p : LayoutParts) (sound : AreSound p) (lanes : List KeptLane) (lists :
             whole = whole r g;
             lived = seen.lived;
             small = small;
-            fields = seen.fields;
+            widths = seen.widths;
           })
 
       pub kept_lane : IsKept p.schema lists b (get_or lanes b no_kept)
@@ -239,6 +239,6 @@ module _ (p : LayoutParts) (sound : AreSound p) (lanes : List KeptLane) (lists :
     wide = are.count;
     room = are.room;
     few = λ r g. let f = list_length r g in omega (arith, f, count);
-    fields = list_fields;
+    widths = list_widths;
     each = λ b h. kept_lane b h (heads b h);
   }

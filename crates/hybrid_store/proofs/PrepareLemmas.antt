@@ -2,7 +2,7 @@
 use Rattle.std.proofs.Common.{◌≡◌, ◌≢◌, ℕ, ◌+◌, ◌-◌, ◌^◌, ◌<◌, ◌≤◌, ◌==◌, cond, Bool, true, false, List, [], ◌∷◌, ◌++◌, length, map, set, get_or, arith, ap, sym, ◌∙◌, subst}
 use Rattle.std.proofs.lemmas.List.{length-map, length-set, length_push, get_or_push, get_or-map}
 use Rattle.std.proofs.lemmas.Bool.{eqb-true}
-use Rattle.db_value.specs.Relations.{columns_at}
+use Rattle.db_value.specs.Relations.{widths_at}
 use Rattle.db_value.specs.declared.schema.Relation.{Relation}
 use Rattle.db_value.specs.declared.version.VersionPlace.{VersionPlace}
 use Rattle.db_value.specs.declared.entry.Entry.TheVariants.{Branch as NewBranch}
@@ -45,7 +45,7 @@ head_number false ss n e = omega (arith, e)
 module _ (schema : List Relation) (lanes : List KeptLane) (order : List VersionPlace) (segments : List KeptList) (is : IsStored schema lanes segments) (whole : IsLaid (kept_layout schema lanes order segments)) (few : length lanes < 1024)
     (name : List ℕ) (origin : VersionPlace) (q : Bool) (there : origin.branch < length lanes) (made : origin.position < length (get_or lanes origin.branch no_kept).seconds)
     (after : IsLaid (with_branch (kept_layout schema lanes order segments) q name origin)) (owns : List Rows)
-    (empty : (r : ℕ) → r < length schema → own_at owns r ≡ record { fields = length (columns_at schema r); records = [] }) where
+    (empty : (r : ℕ) → r < length schema → own_at owns r ≡ record { widths = widths_at schema r; records = [] }) where
   abbrev k : KeptLane
   k = get_or lanes origin.branch no_kept
 
@@ -121,7 +121,7 @@ module _ (schema : List Relation) (lanes : List KeptLane) (order : List VersionP
         (rows_begun q origin.position (map segment_of (list_at segments r)) (map laid_row (begun_by origin.position (kept_rows (get_or lanes origin.branch no_kept) r))))
     after_rows r g = subst (λ (xs : List Row). AreRowsOf (segments_with q origin.branch (length lanes) (ss r)) (length lanes) 1 xs) (sym (carried r)) (behind r g)
 
-    begun_is : (r : ℕ) → r < length schema → begun_in segments (cond q 1 0) owns view r ≡ lived_begun (lived_at view r) (empty_head (new_head q (map segment_of (list_at segments r))) (length (columns_at schema r)))
+    begun_is : (r : ℕ) → r < length schema → begun_in segments (cond q 1 0) owns view r ≡ lived_begun (lived_at view r) (empty_head (new_head q (map segment_of (list_at segments r))) (widths_at schema r))
     begun_is r g = λ i. lived_begun (lived_at view r) (head_piece (head_number q (ss r) (length (list_at segments r)) (sym (length-map (list_at segments r) segment_of)) i) (empty r g i))
 
     -- what is asked of what a new branch has
@@ -129,68 +129,68 @@ module _ (schema : List Relation) (lanes : List KeptLane) (order : List VersionP
     begun_ready r g =
         let s = seen.at r g in
         subst IsLived (sym (begun_is r g))
-        (begun_is_lived q origin.branch (length lanes) origin.position (length k.seconds) (length (columns_at schema r)) (ss r) apart (free r g) (few_segments r g) (map laid_row (begun r)) (lived_at view r) made (are r g) (after_rows r g) s.lived s.shown s.small s.fields)
+        (begun_is_lived q origin.branch (length lanes) origin.position (length k.seconds) (widths_at schema r) (ss r) apart (free r g) (few_segments r g) (map laid_row (begun r)) (lived_at view r) made (are r g) (after_rows r g) s.lived s.shown s.small s.widths)
 
     -- it is ready for the new branch
     pub begun_at : (r : ℕ) → r < length schema → (news : List KeptRow) (lv : Lived) → lv ≡ begun_in segments (cond q 1 0) owns view r → news ≡ map begun_row (begun_in segments (cond q 1 0) owns view r).pieces
-        → IsBegunAt (segments_at (kept_layout schema lanes order segments).segments r) q (length (columns_at schema r)) origin.branch (length (kept_layout schema lanes order segments).lanes) origin.position (rows_at (lane_at (kept_layout schema lanes order segments) origin.branch) r) news lv (get_or owns r no_own)
+        → IsBegunAt (segments_at (kept_layout schema lanes order segments).segments r) q (widths_at schema r) origin.branch (length (kept_layout schema lanes order segments).lanes) origin.position (rows_at (lane_at (kept_layout schema lanes order segments) origin.branch) r) news lv (get_or owns r no_own)
     begun_at r g news lv e f =
         let s = seen.at r g in
-        let columns : ℕ = length (columns_at schema r) in
+        let ws : List ℕ = widths_at schema r in
         let b : ℕ = origin.branch in
         let n : ℕ = origin.position in
-        let head = empty_head (new_head q (ss r)) columns in
+        let head = empty_head (new_head q (ss r)) ws in
         let lived : lv ≡ lived_begun (lived_at view r) head = e ∙ begun_is r g in
         let rows : news ≡ map begun_row (begun_pieces (lived_at view r).pieces head) = f ∙ ap (λ (x : Lived). map begun_row x.pieces) (begun_is r g) in
-        let at : IsBegunAt (ss r) q columns b (length lanes) n (map laid_row (kept_rows k r)) news lv (get_or owns r no_own) = record {
-          begun = ap (map laid_row) rows ∙ begun_rows q b (length lanes) n (length k.seconds) columns (ss r) apart (free r g) (few_segments r g) (map laid_row (begun r)) (lived_at view r) made (are r g) (after_rows r g) s.lived s.shown s.small s.fields ∙ carried r;
-          kept = subst (λ (x : Lived). IsKeptAt (segments_with q b (length lanes) (ss r)) columns (length lanes) 0 news x) (sym lived)
-              (subst (λ (xs : List KeptRow). IsKeptAt (segments_with q b (length lanes) (ss r)) columns (length lanes) 0 xs (lived_begun (lived_at view r) head)) (sym rows)
-              (begun_kept q b (length lanes) n (length k.seconds) columns (ss r) apart (free r g) (few_segments r g) (map laid_row (begun r)) (lived_at view r) made (are r g) (after_rows r g) s.lived s.shown s.small s.fields));
+        let at : IsBegunAt (ss r) q ws b (length lanes) n (map laid_row (kept_rows k r)) news lv (get_or owns r no_own) = record {
+          begun = ap (map laid_row) rows ∙ begun_rows q b (length lanes) n (length k.seconds) ws (ss r) apart (free r g) (few_segments r g) (map laid_row (begun r)) (lived_at view r) made (are r g) (after_rows r g) s.lived s.shown s.small s.widths ∙ carried r;
+          kept = subst (λ (x : Lived). IsKeptAt (segments_with q b (length lanes) (ss r)) ws (length lanes) 0 news x) (sym lived)
+              (subst (λ (xs : List KeptRow). IsKeptAt (segments_with q b (length lanes) (ss r)) ws (length lanes) 0 xs (lived_begun (lived_at view r) head)) (sym rows)
+              (begun_kept q b (length lanes) n (length k.seconds) ws (ss r) apart (free r g) (few_segments r g) (map laid_row (begun r)) (lived_at view r) made (are r g) (after_rows r g) s.lived s.shown s.small s.widths));
           empty = empty r g;
         } in
-        subst (λ c. IsBegunAt (segments_at l.segments r) q columns b c n (rows_at (lane_at l b) r) news lv (get_or owns r no_own)) (sym count)
-        (subst (λ (xs : List Segment). IsBegunAt xs q columns b (length lanes) n (rows_at (lane_at l b) r) news lv (get_or owns r no_own)) (sym (segments_here r g))
-        (subst (λ (xs : List Row). IsBegunAt (ss r) q columns b (length lanes) n xs news lv (get_or owns r no_own)) (sym (rows_here r g)) at))
+        subst (λ c. IsBegunAt (segments_at l.segments r) q ws b c n (rows_at (lane_at l b) r) news lv (get_or owns r no_own)) (sym count)
+        (subst (λ (xs : List Segment). IsBegunAt xs q ws b (length lanes) n (rows_at (lane_at l b) r) news lv (get_or owns r no_own)) (sym (segments_here r g))
+        (subst (λ (xs : List Row). IsBegunAt (ss r) q ws b (length lanes) n xs news lv (get_or owns r no_own)) (sym (rows_here r g)) at))
 
   -- ---- another head of the origin
 
   module _ (last : origin.position ≡ length (get_or lanes origin.branch no_kept).seconds - 1) where
-    kept_at_last : (r : ℕ) → r < length schema → IsKeptAt (map segment_of (list_at segments r)) (length (columns_at schema r)) origin.branch origin.position (kept_rows (get_or lanes origin.branch no_kept) r) (lived_at (get_or lanes origin.branch no_kept).head r)
-    kept_at_last r g = subst (λ n. IsKeptAt (ss r) (length (columns_at schema r)) origin.branch n (kept_rows k r) (lived_at k.head r)) (sym last) ((is.each origin.branch there).at r g)
+    kept_at_last : (r : ℕ) → r < length schema → IsKeptAt (map segment_of (list_at segments r)) (widths_at schema r) origin.branch origin.position (kept_rows (get_or lanes origin.branch no_kept) r) (lived_at (get_or lanes origin.branch no_kept).head r)
+    kept_at_last r g = subst (λ n. IsKeptAt (ss r) (widths_at schema r) origin.branch n (kept_rows k r) (lived_at k.head r)) (sym last) ((is.each origin.branch there).at r g)
 
     few_now : (r : ℕ) → r < length schema → length (map segment_of (list_at segments r)) + 1 < 2 ^ 32 - 1
     few_now r g = let m = length-map (list_at segments r) segment_of in let f = is.few r g in omega (arith, m, f, few)
 
-    turned_is : (r : ℕ) → r < length schema → turned_in segments owns (get_or lanes origin.branch no_kept).head r ≡ lived_turned (lived_at (get_or lanes origin.branch no_kept).head r) (empty_head (length (map segment_of (list_at segments r))) (length (columns_at schema r)))
+    turned_is : (r : ℕ) → r < length schema → turned_in segments owns (get_or lanes origin.branch no_kept).head r ≡ lived_turned (lived_at (get_or lanes origin.branch no_kept).head r) (empty_head (length (map segment_of (list_at segments r))) (widths_at schema r))
     turned_is r g = λ i. lived_turned (lived_at k.head r) (head_piece (sym (length-map (list_at segments r) segment_of) i) (empty r g i))
 
     pub turned_ready : (r : ℕ) → r < length schema → IsLived (turned_in segments owns (get_or lanes origin.branch no_kept).head r)
     turned_ready r g =
         let b = before r g in
-        subst IsLived (sym (turned_is r g)) (turned_lived origin.branch (length lanes) origin.position (length (columns_at schema r)) (ss r) apart (kept_rows k r) (lived_at k.head r) (few_now r g) b.ascend (λ i h. (b.are i h).there) (kept_at_last r g))
+        subst IsLived (sym (turned_is r g)) (turned_lived origin.branch (length lanes) origin.position (widths_at schema r) (ss r) apart (kept_rows k r) (lived_at k.head r) (few_now r g) b.ascend (λ i h. (b.are i h).there) (kept_at_last r g))
 
     pub turned_at : (r : ℕ) → r < length schema → (more : MoreRow) (lv : Lived) → lv ≡ turned_in segments owns (get_or lanes origin.branch no_kept).head r → more.row ≡ turned_row (length (list_at segments r)) origin.position → length (kept_rows (get_or lanes origin.branch no_kept) r) < more.room
-        → IsTurnedAt (segments_at (kept_layout schema lanes order segments).segments r) (length (columns_at schema r)) origin.branch (length (kept_layout schema lanes order segments).lanes) origin.position (rows_at (lane_at (kept_layout schema lanes order segments) origin.branch) r) more lv (get_or owns r no_own)
+        → IsTurnedAt (segments_at (kept_layout schema lanes order segments).segments r) (widths_at schema r) origin.branch (length (kept_layout schema lanes order segments).lanes) origin.position (rows_at (lane_at (kept_layout schema lanes order segments) origin.branch) r) more lv (get_or owns r no_own)
     turned_at r g more lv e row room =
         let b : ℕ = origin.branch in
         let n : ℕ = origin.position in
-        let columns : ℕ = length (columns_at schema r) in
+        let ws : List ℕ = widths_at schema r in
         let old = before r g in
         let m = length-map (list_at segments r) segment_of in
         let lm = length-map (kept_rows k r) laid_row in
-        let lived : lv ≡ lived_turned (lived_at k.head r) (empty_head (length (ss r)) columns) = e ∙ turned_is r g in
-        let at : IsTurnedAt (ss r) columns b (length lanes) n (map laid_row (kept_rows k r)) more lv (get_or owns r no_own) = record {
+        let lived : lv ≡ lived_turned (lived_at k.head r) (empty_head (length (ss r)) ws) = e ∙ turned_is r g in
+        let at : IsTurnedAt (ss r) ws b (length lanes) n (map laid_row (kept_rows k r)) more lv (get_or owns r no_own) = record {
           room = omega (arith, room, lm);
           row = row ∙ ap (λ s. turned_row s n) (sym m);
-          kept = subst (λ (x : Lived). IsKeptAt (segments_with true b (length lanes) (ss r)) columns b n (map short_row (map laid_row (kept_rows k r)) ++ turned_row (length (ss r)) n ∷ []) x) (sym lived)
-              (subst (λ (xs : List KeptRow). IsKeptAt (segments_with true b (length lanes) (ss r)) columns b n (xs ++ turned_row (length (ss r)) n ∷ []) (lived_turned (lived_at k.head r) (empty_head (length (ss r)) columns))) (sym (short_rows (kept_rows k r) (kept_at_last r g).short))
-              (turned_kept b (length lanes) n columns (ss r) apart (kept_rows k r) (lived_at k.head r) (few_now r g) old.ascend (λ i h. (old.are i h).there) (kept_at_last r g)));
+          kept = subst (λ (x : Lived). IsKeptAt (segments_with true b (length lanes) (ss r)) ws b n (map short_row (map laid_row (kept_rows k r)) ++ turned_row (length (ss r)) n ∷ []) x) (sym lived)
+              (subst (λ (xs : List KeptRow). IsKeptAt (segments_with true b (length lanes) (ss r)) ws b n (xs ++ turned_row (length (ss r)) n ∷ []) (lived_turned (lived_at k.head r) (empty_head (length (ss r)) ws))) (sym (short_rows (kept_rows k r) (kept_at_last r g).short))
+              (turned_kept b (length lanes) n ws (ss r) apart (kept_rows k r) (lived_at k.head r) (few_now r g) old.ascend (λ i h. (old.are i h).there) (kept_at_last r g)));
           empty = empty r g;
         } in
-        subst (λ c. IsTurnedAt (segments_at l.segments r) columns b c n (rows_at (lane_at l b) r) more lv (get_or owns r no_own)) (sym count)
-        (subst (λ (xs : List Segment). IsTurnedAt xs columns b (length lanes) n (rows_at (lane_at l b) r) more lv (get_or owns r no_own)) (sym (segments_here r g))
-        (subst (λ (xs : List Row). IsTurnedAt (ss r) columns b (length lanes) n xs more lv (get_or owns r no_own)) (sym (rows_here r g)) at))
+        subst (λ c. IsTurnedAt (segments_at l.segments r) ws b c n (rows_at (lane_at l b) r) more lv (get_or owns r no_own)) (sym count)
+        (subst (λ (xs : List Segment). IsTurnedAt xs ws b (length lanes) n (rows_at (lane_at l b) r) more lv (get_or owns r no_own)) (sym (segments_here r g))
+        (subst (λ (xs : List Row). IsTurnedAt (ss r) ws b (length lanes) n xs more lv (get_or owns r no_own)) (sym (rows_here r g)) at))
 
 -- ---- a new branch that fits
 
@@ -232,7 +232,7 @@ head_seen schema lanes order segments b n is laid h e =
             shown = subst (λ (rows : List KeptRow). Show (map segment_of (list_at segments r)) (length k.seconds - 1) (map laid_row rows) (lived_at k.head r).pieces) (sym (begun_whole (length k.seconds - 1) (kept_rows k r) (last r g))) at.shown;
             lived = at.lived;
             small = at.small;
-            fields = at.fields;
+            widths = at.widths;
           };
     })
   where

@@ -2,7 +2,7 @@
 use Rattle.std.proofs.Common.{◌≡◌, ℕ, suc, ◌+◌, ◌-◌, ◌^◌, ◌<◌, ◌≤◌, ◌&&◌, nat_le, Bool, true, false, List, [], ◌∷◌, length, map, take, get_or, refl, arith, ap, sym, ◌∙◌, subst}
 use Rattle.std.specs.FinMap as finite
 use Rattle.std.proofs.lemmas.List.{length-map, get_or-map, take_all}
-use Rattle.db_value.specs.Relations.{columns_at}
+use Rattle.db_value.specs.Relations.{widths_at}
 use Rattle.db_value.specs.declared.record.Record.{Record}
 use Rattle.db_value.specs.declared.schema.Relation.{Relation}
 use Rattle.db_value.specs.declared.version.VersionPlace.{VersionPlace}
@@ -39,11 +39,11 @@ past_false : (p : Bool) (slot most : ℕ) → (p ≡ true → slot < most) → m
 past_false true slot most f h = let l = f refl in absurd (omega (arith, l, h))
 past_false false slot most f h = refl
 
--- of a relation of a branch: its deltas are shortest, it has few rows, and the segments have as many fields as the relation has columns
+-- of a relation of a branch: its deltas are shortest, it has few rows, and the segments have the widths of the relation's columns
 pub record CanSee (schema : List Relation) (segments : List KeptList) (k : KeptLane) (r : ℕ) : Type 0 where
   pub short : (i : ℕ) → i < length (kept_rows k r) → map shortest (map slots_of (kept_row_at (kept_rows k r) i).deltas) ≡ (kept_row_at (kept_rows k r) i).deltas
   pub few : length (kept_rows k r) < 2 ^ 32 - 1
-  pub fields : (s : ℕ) → s < length (list_at segments r) → (kept_at (list_at segments r) s).rows.fields ≡ length (columns_at schema r)
+  pub widths : (s : ℕ) → s < length (list_at segments r) → (kept_at (list_at segments r) s).rows.widths ≡ widths_at schema r
 
 module _ (schema : List Relation) (lanes : List KeptLane) (order : List VersionPlace) (segments : List KeptList) (laid : IsLaid (kept_layout schema lanes order segments))
     (b n r : ℕ) (h : b < length lanes) (p : n < length (get_or lanes b no_kept).seconds) (g : r < length schema) (can : CanSee schema segments (get_or lanes b no_kept) r) where
@@ -170,15 +170,15 @@ module _ (schema : List Relation) (lanes : List KeptLane) (order : List VersionP
 
   -- the version at the place has it
   pub rows_seen : AreSmall (lived_seen (list_at segments r) n (kept_rows (get_or lanes b no_kept) r))
-      → IsSeenAt (map segment_of (list_at segments r)) (length (columns_at schema r)) n (map laid_row (begun_by n (kept_rows (get_or lanes b no_kept) r))) (lived_seen (list_at segments r) n (kept_rows (get_or lanes b no_kept) r))
+      → IsSeenAt (map segment_of (list_at segments r)) (widths_at schema r) n (map laid_row (begun_by n (kept_rows (get_or lanes b no_kept) r))) (lived_seen (list_at segments r) n (kept_rows (get_or lanes b no_kept) r))
   rows_seen small = record {
     shown = show;
     lived = rows_lived;
     small = small;
-    fields = λ i l.
+    widths = λ i l.
         let c = count in
         let j : i < length rows = omega (arith, l, c) in
-        ap (λ (x : Piece). x.rows.fields) (piece_is i j) ∙ can.fields (kept_row_at rows i).segment (there i j);
+        ap (λ (x : Piece). x.rows.widths) (piece_is i j) ∙ can.widths (kept_row_at rows i).segment (there i j);
   }
 
   -- and no other contents

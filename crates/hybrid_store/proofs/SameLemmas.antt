@@ -2,7 +2,7 @@
 use Rattle.std.proofs.Common.{◌≡◌, ℕ, ◌-◌, ◌<◌, List, [], ◌∷◌, length, map, get_or, refl, arith, ap, sym, ◌∙◌, subst}
 use Rattle.std.specs.List.{All}
 use Rattle.std.proofs.lemmas.List.{length-map, get_or-map}
-use Rattle.db_value.specs.Relations.{columns_at}
+use Rattle.db_value.specs.Relations.{widths_at}
 use Rattle.db_value.specs.declared.schema.Relation.{Relation}
 use Rattle.db_value.specs.declared.version.VersionPlace.{VersionPlace}
 use Rattle.db_store.specs.Layout.{Lane}
@@ -56,10 +56,10 @@ module _ (schema : List Relation) (lanes news : List KeptLane) (order : List Ver
         wide = omega (arith, n, a, b, w);
         room = λ r h. rooms r no_list (omega (arith, h, n, a, b, w));
         few = λ r h. let f = is.few r h in let e = ap (λ (xs : List KeptRecords). length xs) (list_same r (in_lists r h)) in let c = same_count in omega (arith, f, e, c);
-        fields = λ r s h lt.
+        widths = λ r s h lt.
             let e = list_same r (in_lists r h) in
             let k = ap (λ (xs : List KeptRecords). length xs) e in
-            ap (λ (xs : List KeptRecords). (kept_at xs s).rows.fields) e ∙ is.fields r s h (omega (arith, lt, k));
+            ap (λ (xs : List KeptRecords). (kept_at xs s).rows.widths) e ∙ is.widths r s h (omega (arith, lt, k));
         each = λ x h.
             let c = same_count in
             let lt : x < length lanes = omega (arith, h, c) in
@@ -71,7 +71,7 @@ module _ (schema : List Relation) (lanes news : List KeptLane) (order : List Ver
               rows = ap (λ (k : KeptLane). length k.rows) (sym e) ∙ was.rows;
               head = ap (λ (k : KeptLane). length k.head) (sym e) ∙ was.head;
               at = λ r g.
-                  subst (λ (k : KeptLane). IsKeptAt (map segment_of (list_at lists r)) (length (columns_at schema r)) x (length k.seconds - 1) (kept_rows k r) (lived_at k.head r)) e
-                  (subst (λ (xs : List KeptRecords). IsKeptAt (map segment_of xs) (length (columns_at schema r)) x (length old.seconds - 1) (kept_rows old r) (lived_at old.head r)) (sym (list_same r (in_lists r g))) (was.at r g));
+                  subst (λ (k : KeptLane). IsKeptAt (map segment_of (list_at lists r)) (widths_at schema r) x (length k.seconds - 1) (kept_rows k r) (lived_at k.head r)) e
+                  (subst (λ (xs : List KeptRecords). IsKeptAt (map segment_of xs) (widths_at schema r) x (length old.seconds - 1) (kept_rows old r) (lived_at old.head r)) (sym (list_same r (in_lists r g))) (was.at r g));
             };
       }

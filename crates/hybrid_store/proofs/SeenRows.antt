@@ -1,7 +1,7 @@
 -- What the version at a made place has of a relation, by the rows of its branch.
 use Rattle.std.proofs.Common.{◌≡◌, ℕ, ◌-◌, ◌<◌, List, length, map, get_or, arith}
 use Rattle.std.proofs.lemmas.List.{length-map}
-use Rattle.db_value.specs.Relations.{columns_at}
+use Rattle.db_value.specs.Relations.{widths_at}
 use Rattle.db_value.specs.declared.schema.Relation.{Relation}
 use Rattle.db_value.specs.declared.version.VersionPlace.{VersionPlace}
 use Rattle.db_store.specs.Table.{relation_at}
@@ -21,11 +21,11 @@ module _ (schema : List Relation) (lanes : List KeptLane) (order : List VersionP
   can : CanSee schema segments (get_or lanes b no_kept) r
   can =
       let k : KeptLane = get_or lanes b no_kept in
-      let at : IsKeptAt (map segment_of (list_at segments r)) (length (columns_at schema r)) b (length k.seconds - 1) (kept_rows k r) (lived_at k.head r) = (stored.each b h).at r g in
+      let at : IsKeptAt (map segment_of (list_at segments r)) (widths_at schema r) b (length k.seconds - 1) (kept_rows k r) (lived_at k.head r) = (stored.each b h).at r g in
       let m = length-map (kept_rows k r) laid_row in
       let s = at.shown.count in
       let f = at.lived.few in
-      record { short = at.short; few = omega (arith, m, s, f); fields = λ s. stored.fields r s g }
+      record { short = at.short; few = omega (arith, m, s, f); widths = λ s. stored.widths r s g }
 
   -- what is asked of the rows
   pub seen_there : (i : ℕ) → i < length (kept_rows (get_or lanes b no_kept) r) → IsThere (list_at segments r) n (kept_row_at (kept_rows (get_or lanes b no_kept) r) i)
@@ -37,7 +37,7 @@ module _ (schema : List Relation) (lanes : List KeptLane) (order : List VersionP
 
   -- the version at the place has it
   pub seen_at : AreSmall (lived_seen (list_at segments r) n (kept_rows (get_or lanes b no_kept) r))
-      → IsSeenAt (map segment_of (list_at segments r)) (length (columns_at schema r)) n (map laid_row (begun_by n (kept_rows (get_or lanes b no_kept) r))) (lived_seen (list_at segments r) n (kept_rows (get_or lanes b no_kept) r))
+      → IsSeenAt (map segment_of (list_at segments r)) (widths_at schema r) n (map laid_row (begun_by n (kept_rows (get_or lanes b no_kept) r))) (lived_seen (list_at segments r) n (kept_rows (get_or lanes b no_kept) r))
   seen_at = rows_seen schema lanes order segments laid b n r h p g can
 
   -- and no other contents

@@ -53,7 +53,7 @@ next_same ps cs r head e covered = record { count = refl; each = one }
     one : (i : ℕ) → i < length ps → Next (touched_places ps cs r) head (puts cs r) (piece_at ps i) (piece_at ps i)
     one i h = record {
       segment = refl;
-      fields = refl;
+      widths = refl;
       records = sym (ap (λ (xs : List Record). (piece_at ps i).rows.records ++ cond ((piece_at ps i).segment == head) xs []) (puts_none cs r e) ∙ ap (λ (xs : List Record). (piece_at ps i).rows.records ++ xs) (nothing ((piece_at ps i).segment == head)) ∙ append-nil (piece_at ps i).rows.records);
       bits = λ slot. by slot (cases_lt slot (length (piece_at ps i).rows.records));
       covered = covered i h;

@@ -3,7 +3,7 @@ use Rattle.std.proofs.Common.{◌≡◌, ◌≢◌, ◌⊎◌, inl, inr, ℕ, su
 use Rattle.std.specs.Prelude.{IfSome}
 use Rattle.std.proofs.lemmas.Bool.{cases_eq, eq-eqb, eqb-true, ne_eqb, false≢true}
 use Rattle.std.proofs.lemmas.List.{length-map, length-set, length_push, map-append, get_or-map, get_or-set_same, get_or-set_other, ext_get_or, set-get_or, append_assoc}
-use Rattle.db_value.specs.Relations.{columns_at}
+use Rattle.db_value.specs.Relations.{widths_at}
 use Rattle.db_value.specs.Schema.{most_relations}
 use Rattle.db_value.specs.declared.schema.Relation.{Relation}
 use Rattle.db_value.specs.declared.version.VersionPlace.{VersionPlace}
@@ -65,26 +65,26 @@ module _ (b h : ℕ) (all : List KeptRecords) (there : h < length all) (headed :
       ∙ one s lt (cases_eq h s)
       ∙ sym (get_or-map (without_head b) (map segment_of all) s no_segment no_segment (omega (arith, lt, la)) ∙ ap (without_head b) (seg s lt)))
 
-  pub closed_fields : (columns : ℕ) → ((s : ℕ) → s < length all → (kept_at all s).rows.fields ≡ columns) → (s : ℕ) → s < length all → (h ≡ s) ⊎ (h ≢ s) → (kept_at closed s).rows.fields ≡ columns
-  closed_fields columns f s lt (inl e) =
-      ap (λ k. (kept_at closed k).rows.fields) (sym e)
-      ∙ ap (λ (x : KeptRecords). x.rows.fields) (get_or-set_same all h (record (kept_at all h) { head = None }) no_rows there)
+  pub closed_widths : (ws : List ℕ) → ((s : ℕ) → s < length all → (kept_at all s).rows.widths ≡ ws) → (s : ℕ) → s < length all → (h ≡ s) ⊎ (h ≢ s) → (kept_at closed s).rows.widths ≡ ws
+  closed_widths ws f s lt (inl e) =
+      ap (λ k. (kept_at closed k).rows.widths) (sym e)
+      ∙ ap (λ (x : KeptRecords). x.rows.widths) (get_or-set_same all h (record (kept_at all h) { head = None }) no_rows there)
       ∙ f h there
-  closed_fields columns f s lt (inr n) = ap (λ (x : KeptRecords). x.rows.fields) (get_or-set_other all h s (record (kept_at all h) { head = None }) no_rows (λ e. n (sym e))) ∙ f s lt
+  closed_widths ws f s lt (inr n) = ap (λ (x : KeptRecords). x.rows.widths) (get_or-set_other all h s (record (kept_at all h) { head = None }) no_rows (λ e. n (sym e))) ∙ f s lt
 
--- another segment has fields for its columns
-pub pushed_fields : (all : List KeptRecords) (x : KeptRecords) (columns : ℕ) → ((s : ℕ) → s < length all → (kept_at all s).rows.fields ≡ columns) → x.rows.fields ≡ columns → (s : ℕ) → s < length (all ++ x ∷ []) → (kept_at (all ++ x ∷ []) s).rows.fields ≡ columns
-pushed_fields [] x columns f e s h = by s h
+-- another segment has these widths
+pub pushed_widths : (all : List KeptRecords) (x : KeptRecords) (ws : List ℕ) → ((s : ℕ) → s < length all → (kept_at all s).rows.widths ≡ ws) → x.rows.widths ≡ ws → (s : ℕ) → s < length (all ++ x ∷ []) → (kept_at (all ++ x ∷ []) s).rows.widths ≡ ws
+pushed_widths [] x ws f e s h = by s h
   where
-    by : (s : ℕ) → s < 1 → (kept_at (x ∷ []) s).rows.fields ≡ columns
-    by s h = let z : s ≡ 0 = omega (arith, h) in ap (λ k. (kept_at (x ∷ []) k).rows.fields) z ∙ e
-pushed_fields (y ∷ ys) x columns f e s h = by (pushed_fields ys x columns (λ i g. f (suc i) (omega (arith, g))) e (s - 1)) (cases_eq s 0)
+    by : (s : ℕ) → s < 1 → (kept_at (x ∷ []) s).rows.widths ≡ ws
+    by s h = let z : s ≡ 0 = omega (arith, h) in ap (λ k. (kept_at (x ∷ []) k).rows.widths) z ∙ e
+pushed_widths (y ∷ ys) x ws f e s h = by (pushed_widths ys x ws (λ i g. f (suc i) (omega (arith, g))) e (s - 1)) (cases_eq s 0)
   where
-    by : (s - 1 < length (ys ++ x ∷ []) → (kept_at (ys ++ x ∷ []) (s - 1)).rows.fields ≡ columns) → (s ≡ 0) ⊎ (s ≢ 0) → (kept_at ((y ∷ ys) ++ x ∷ []) s).rows.fields ≡ columns
-    by rest (inl z) = ap (λ k. (kept_at ((y ∷ ys) ++ x ∷ []) k).rows.fields) z ∙ f 0 (omega arith)
+    by : (s - 1 < length (ys ++ x ∷ []) → (kept_at (ys ++ x ∷ []) (s - 1)).rows.widths ≡ ws) → (s ≡ 0) ⊎ (s ≢ 0) → (kept_at ((y ∷ ys) ++ x ∷ []) s).rows.widths ≡ ws
+    by rest (inl z) = ap (λ k. (kept_at ((y ∷ ys) ++ x ∷ []) k).rows.widths) z ∙ f 0 (omega arith)
     by rest (inr n) =
         let one : s ≡ suc (s - 1) = omega (arith, n) in
-        ap (λ k. (kept_at ((y ∷ ys) ++ x ∷ []) k).rows.fields) one ∙ rest (omega (arith, h, n))
+        ap (λ k. (kept_at ((y ∷ ys) ++ x ∷ []) k).rows.widths) one ∙ rest (omega (arith, h, n))
 
 -- what the origin has, and the segments before the new branch's head is added
 pub record IsAfter (schema : List Relation) (lanes : List KeptLane) (segments : List KeptList) (q : Bool) (b n : ℕ) (news : List KeptLane) (lists : List KeptList) : Type 0 where
@@ -93,12 +93,12 @@ pub record IsAfter (schema : List Relation) (lanes : List KeptLane) (segments : 
   pub rows : (r : ℕ) → r < length schema → map laid_row (kept_rows (get_or news b no_kept) r) ≡ rows_with q n (map segment_of (list_at segments r)) (map laid_row (kept_rows (get_or lanes b no_kept) r))
   pub long : length lists ≡ length schema
   pub put : (r : ℕ) → r < length schema → map segment_of (list_at lists r) ++ head_segment (length lanes) ∷ [] ≡ segments_with q b (length lanes) (map segment_of (list_at segments r))
-  pub fields : (r s : ℕ) → r < length schema → s < length (list_at lists r) → (kept_at (list_at lists r) s).rows.fields ≡ length (columns_at schema r)
+  pub widths : (r s : ℕ) → r < length schema → s < length (list_at lists r) → (kept_at (list_at lists r) s).rows.widths ≡ widths_at schema r
   pub room : (r : ℕ) → r < length schema → most_segments ≤ (get_or lists r no_list).room
   pub few : (r : ℕ) → r < length schema → length (list_at lists r) ≤ 2 * length lanes + 1
   pub rows_count : length (get_or news b no_kept).rows ≡ length schema
   pub head_count : length (get_or news b no_kept).head ≡ length schema
-  pub kept : (r : ℕ) → r < length schema → IsKeptAt (segments_with q b (length lanes) (map segment_of (list_at segments r))) (length (columns_at schema r)) b (length (get_or lanes b no_kept).seconds - 1) (kept_rows (get_or news b no_kept) r) (lived_at (get_or news b no_kept).head r)
+  pub kept : (r : ℕ) → r < length schema → IsKeptAt (segments_with q b (length lanes) (map segment_of (list_at segments r))) (widths_at schema r) b (length (get_or lanes b no_kept).seconds - 1) (kept_rows (get_or news b no_kept) r) (lived_at (get_or news b no_kept).head r)
 
 module _ (schema : List Relation) (lanes : List KeptLane) (order : List VersionPlace) (segments : List KeptList) (is : IsStored schema lanes segments) (whole : IsLaid (kept_layout schema lanes order segments))
     (origin : VersionPlace) (there : origin.branch < length lanes) where
@@ -120,7 +120,7 @@ module _ (schema : List Relation) (lanes : List KeptLane) (order : List VersionP
   rows_here : (r : ℕ) → r < length schema → rows_at (lane_at (kept_layout schema lanes order segments) origin.branch) r ≡ map laid_row (kept_rows (get_or lanes origin.branch no_kept) r)
   rows_here r g = ap (λ (x : Lane). rows_at x r) here ∙ rows_kept schema k r g
 
-  at : (r : ℕ) → r < length schema → IsKeptAt (map segment_of (list_at segments r)) (length (columns_at schema r)) origin.branch (length (get_or lanes origin.branch no_kept).seconds - 1) (kept_rows (get_or lanes origin.branch no_kept) r) (lived_at (get_or lanes origin.branch no_kept).head r)
+  at : (r : ℕ) → r < length schema → IsKeptAt (map segment_of (list_at segments r)) (widths_at schema r) origin.branch (length (get_or lanes origin.branch no_kept).seconds - 1) (kept_rows (get_or lanes origin.branch no_kept) r) (lived_at (get_or lanes origin.branch no_kept).head r)
   at r g = (is.each b there).at r g
 
   rows_there : (r : ℕ) → r < length schema → (i : ℕ) → i < length (map laid_row (kept_rows (get_or lanes origin.branch no_kept) r)) → (row_at (map laid_row (kept_rows (get_or lanes origin.branch no_kept) r)) i).segment < length (map segment_of (list_at segments r))
@@ -130,12 +130,12 @@ module _ (schema : List Relation) (lanes : List KeptLane) (order : List VersionP
   head_there r g = store_head_there schema lanes order segments is whole origin.branch r there g
 
   turned_at : (t : Turn) → IsTurnedOf (kept_layout schema lanes order segments) origin t → (r : ℕ) → r < length schema
-      → IsTurnedAt (map segment_of (list_at segments r)) (length (columns_at schema r)) origin.branch (length lanes) origin.position (map laid_row (kept_rows (get_or lanes origin.branch no_kept) r)) (more_at t.more r) (lived_at t.head r) (get_or t.owns r no_own)
+      → IsTurnedAt (map segment_of (list_at segments r)) (widths_at schema r) origin.branch (length lanes) origin.position (map laid_row (kept_rows (get_or lanes origin.branch no_kept) r)) (more_at t.more r) (lived_at t.head r) (get_or t.owns r no_own)
   turned_at t m r g =
-      let columns : ℕ = length (columns_at schema r) in
-      subst (λ (xs : List Segment). IsTurnedAt xs columns b (length lanes) origin.position (map laid_row (kept_rows k r)) (more_at t.more r) (lived_at t.head r) (get_or t.owns r no_own)) (segments_kept schema lanes order segments r g)
-      (subst (λ (rows : List Row). IsTurnedAt (segments_at l.segments r) columns b (length lanes) origin.position rows (more_at t.more r) (lived_at t.head r) (get_or t.owns r no_own)) (rows_here r g)
-      (subst (λ n. IsTurnedAt (segments_at l.segments r) columns b n origin.position (rows_at (lane_at l b) r) (more_at t.more r) (lived_at t.head r) (get_or t.owns r no_own)) (length-map lanes (lane_of schema)) (m.at r g)))
+      let ws : List ℕ = widths_at schema r in
+      subst (λ (xs : List Segment). IsTurnedAt xs ws b (length lanes) origin.position (map laid_row (kept_rows k r)) (more_at t.more r) (lived_at t.head r) (get_or t.owns r no_own)) (segments_kept schema lanes order segments r g)
+      (subst (λ (rows : List Row). IsTurnedAt (segments_at l.segments r) ws b (length lanes) origin.position rows (more_at t.more r) (lived_at t.head r) (get_or t.owns r no_own)) (rows_here r g)
+      (subst (λ n. IsTurnedAt (segments_at l.segments r) ws b n origin.position (rows_at (lane_at l b) r) (more_at t.more r) (lived_at t.head r) (get_or t.owns r no_own)) (length-map lanes (lane_of schema)) (m.at r g)))
 
   -- the branch can take another head that is ready
   pub can_take : (q : Bool) (o : Option Turn) → length schema ≤ most_relations → length lanes < 1024 → IsTurnedIf q (kept_layout schema lanes order segments) origin o → IfSome o (λ t. CanTake origin.branch (get_or lanes origin.branch no_kept) segments t)
@@ -178,14 +178,14 @@ module _ (schema : List Relation) (lanes : List KeptLane) (order : List VersionP
         rows = λ r g. ap (λ (x : KeptLane). map laid_row (kept_rows x r)) same;
         long = ap (λ (xs : List KeptList). length xs) t.1 ∙ w;
         put = λ r g. ap (λ (xs : List KeptList). map segment_of (list_at xs r) ++ head_segment (length lanes) ∷ []) t.1;
-        fields = subst (λ (xs : List KeptList). (r s : ℕ) → r < length schema → s < length (list_at xs r) → (kept_at (list_at xs r) s).rows.fields ≡ length (columns_at schema r)) (sym t.1) is.fields;
+        widths = subst (λ (xs : List KeptList). (r s : ℕ) → r < length schema → s < length (list_at xs r) → (kept_at (list_at xs r) s).rows.widths ≡ widths_at schema r) (sym t.1) is.widths;
         room = subst (λ (xs : List KeptList). (r : ℕ) → r < length schema → most_segments ≤ (get_or xs r no_list).room) (sym t.1) is.room;
         few = λ r g. let f = is.few r g in let n = ap (λ (xs : List KeptList). length (list_at xs r)) t.1 in omega (arith, f, n);
         rows_count = ap (λ (x : KeptLane). length x.rows) same ∙ (is.each b there).rows;
         head_count = ap (λ (x : KeptLane). length x.head) same ∙ (is.each b there).head;
         kept = λ r g.
-            subst (λ (x : KeptLane). IsKeptAt (segments_with false b (length lanes) (ss r)) (length (columns_at schema r)) b (length k.seconds - 1) (kept_rows x r) (lived_at x.head r)) (sym same)
-            (kept_with false b (length lanes) 0 0 (length (columns_at schema r)) (ss r) (λ e2. absurd (omega (arith, e2, there))) b (length k.seconds - 1) (kept_rows k r) (lived_at k.head r) (λ e2. absurd (omega (arith, e2, there))) (λ t2. absurd (false≢true t2)) (rows_there r g) (at r g));
+            subst (λ (x : KeptLane). IsKeptAt (segments_with false b (length lanes) (ss r)) (widths_at schema r) b (length k.seconds - 1) (kept_rows x r) (lived_at x.head r)) (sym same)
+            (kept_with false b (length lanes) 0 0 (widths_at schema r) (ss r) (λ e2. absurd (omega (arith, e2, there))) b (length k.seconds - 1) (kept_rows k r) (lived_at k.head r) (λ e2. absurd (omega (arith, e2, there))) (λ t2. absurd (false≢true t2)) (rows_there r g) (at r g));
       }
   is_after true (Some x) news lists e m t =
       let new : KeptLane = get_or news b no_kept in
@@ -205,23 +205,23 @@ module _ (schema : List Relation) (lanes : List KeptLane) (order : List VersionP
             let h : ℕ = head_number segments b r in
             let all : List KeptRecords = list_at segments r in
             let own : Rows = get_or x.owns r no_own in
-            let none : own ≡ record { fields = length (columns_at schema r); records = [] } = (turned_at x m r g).empty in
+            let none : own ≡ record { widths = widths_at schema r; records = [] } = (turned_at x m r g).empty in
             let closed : List KeptRecords = set all h (record (kept_at all h) { head = None }) in
             ap (λ (y : KeptList). map segment_of y.all ++ head_segment (length lanes) ∷ []) (t.put r (in_lists r g))
             ∙ ap (λ (ys : List Segment). ys ++ head_segment (length lanes) ∷ [])
             (map-append segment_of closed (record { head = Some b; rows = own } ∷ []) ∙ (λ i. list_closed b h all (head_there r g) (at r g).headed i ++ record { head = Some b; records = (none i).records } ∷ []))
             ∙ append_assoc (map (without_head b) (ss r)) (head_segment b ∷ []) (head_segment (length lanes) ∷ []);
-        fields = λ r s g lt.
+        widths = λ r s g lt.
             let h : ℕ = head_number segments b r in
             let all : List KeptRecords = list_at segments r in
             let own : Rows = get_or x.owns r no_own in
-            let columns : ℕ = length (columns_at schema r) in
+            let ws : List ℕ = widths_at schema r in
             let closed : List KeptRecords = set all h (record (kept_at all h) { head = None }) in
             let ls = length-set all h (record (kept_at all h) { head = None }) in
             let n = ap (λ (y : KeptList). length y.all) (t.put r (in_lists r g)) in
-            ap (λ (y : KeptList). (kept_at y.all s).rows.fields) (t.put r (in_lists r g))
-            ∙ pushed_fields closed (record { head = Some b; rows = own }) columns
-            (λ s2 lt2. closed_fields b h all (head_there r g) (at r g).headed columns (λ s3 lt3. is.fields r s3 g lt3) s2 (omega (arith, lt2, ls)) (cases_eq h s2)) (ap (λ (y : Rows). y.fields) (turned_at x m r g).empty) s (omega (arith, lt, n));
+            ap (λ (y : KeptList). (kept_at y.all s).rows.widths) (t.put r (in_lists r g))
+            ∙ pushed_widths closed (record { head = Some b; rows = own }) ws
+            (λ s2 lt2. closed_widths b h all (head_there r g) (at r g).headed ws (λ s3 lt3. is.widths r s3 g lt3) s2 (omega (arith, lt2, ls)) (cases_eq h s2)) (ap (λ (y : Rows). y.widths) (turned_at x m r g).empty) s (omega (arith, lt, n));
         room = λ r g. let z = is.room r g in let y = ap (λ (y : KeptList). y.room) (t.put r (in_lists r g)) in omega (arith, z, y);
         few = λ r g.
             let h : ℕ = head_number segments b r in
@@ -234,10 +234,10 @@ module _ (schema : List Relation) (lanes : List KeptLane) (order : List VersionP
         rows_count = t.count ∙ kr;
         head_count = ap (λ (ls : List Lived). length ls) head_now ∙ m.head;
         kept = λ r g.
-            let columns : ℕ = length (columns_at schema r) in
+            let ws : List ℕ = widths_at schema r in
             let wide : List Segment = segments_with true b (length lanes) (ss r) in
-            subst (λ (ls : List Lived). IsKeptAt wide columns b (length k.seconds - 1) (kept_rows new r) (lived_at ls r)) (sym head_now)
-            (subst (λ (rows : List KeptRow). IsKeptAt wide columns b (length k.seconds - 1) rows (lived_at x.head r)) (sym (rows_now r g))
-            (subst (λ (rows : List KeptRow). IsKeptAt wide columns b (length k.seconds - 1) (rows ++ turned_row (length (ss r)) origin.position ∷ []) (lived_at x.head r)) (short_rows (kept_rows k r) (at r g).short)
-            (subst (λ n. IsKeptAt wide columns b n (map short_row (map laid_row (kept_rows k r)) ++ turned_row (length (ss r)) origin.position ∷ []) (lived_at x.head r)) last (turned_at x m r g).kept)));
+            subst (λ (ls : List Lived). IsKeptAt wide ws b (length k.seconds - 1) (kept_rows new r) (lived_at ls r)) (sym head_now)
+            (subst (λ (rows : List KeptRow). IsKeptAt wide ws b (length k.seconds - 1) rows (lived_at x.head r)) (sym (rows_now r g))
+            (subst (λ (rows : List KeptRow). IsKeptAt wide ws b (length k.seconds - 1) (rows ++ turned_row (length (ss r)) origin.position ∷ []) (lived_at x.head r)) (short_rows (kept_rows k r) (at r g).short)
+            (subst (λ n. IsKeptAt wide ws b n (map short_row (map laid_row (kept_rows k r)) ++ turned_row (length (ss r)) origin.position ∷ []) (lived_at x.head r)) last (turned_at x m r g).kept)));
       }

@@ -16,7 +16,7 @@ use Rattle.db_store.specs.State.{laid, segment_records}
 use Rattle.db_store.specs.Layout.{Segment, Row, Lane, Layout, contents_of, live_in, table_in, lane_at, segments_at, rows_at, records_at}
 use Rattle.db_store.specs.LaidOut.{IsLaid, row_at, no_row}
 use Rattle.db_store.proofs.LayoutLaw.{table_is, table_at_is}
-use Rattle.db_value.specs.Relations.{columns_at}
+use Rattle.db_value.specs.Relations.{widths_at}
 use Rattle.db_value.specs.declared.entry.Entry.{Entry}
 use Rattle.db_value.specs.declared.entry.Entry.TheVariants.{Commit, Branch as NewBranch}
 use Rattle.db_store.specs.Fits.{IsBranch}
@@ -177,8 +177,8 @@ module _ (schema : List Relation) (lanes : List KeptLane) (order : List VersionP
 
 -- the version at a position of a branch has this of the first relations
 abbrev pub AreSeen : List Relation → List KeptList → KeptLane → ℕ → ℕ → List Lived → Type 0
-AreSeen schema segments k n m view = (r : ℕ) → r < m → IsSeenAt (map segment_of (list_at segments r)) (length (columns_at schema r)) n (map laid_row (begun_by n (kept_rows k r))) (lived_at view r)
+AreSeen schema segments k n m view = (r : ℕ) → r < m → IsSeenAt (map segment_of (list_at segments r)) (widths_at schema r) n (map laid_row (begun_by n (kept_rows k r))) (lived_at view r)
 
 pub seen_more : (schema : List Relation) (segments : List KeptList) (k : KeptLane) (n m : ℕ) (view : List Lived) (l : Lived) → length view ≡ m → AreSeen schema segments k n m view
-    → IsSeenAt (map segment_of (list_at segments m)) (length (columns_at schema m)) n (map laid_row (begun_by n (kept_rows k m))) l → AreSeen schema segments k n (m + 1) (view ++ l ∷ [])
-seen_more schema segments k n m view l w f x = each_more (λ r (y : Lived). IsSeenAt (map segment_of (list_at segments r)) (length (columns_at schema r)) n (map laid_row (begun_by n (kept_rows k r))) y) view l no_lived m w f x
+    → IsSeenAt (map segment_of (list_at segments m)) (widths_at schema m) n (map laid_row (begun_by n (kept_rows k m))) l → AreSeen schema segments k n (m + 1) (view ++ l ∷ [])
+seen_more schema segments k n m view l w f x = each_more (λ r (y : Lived). IsSeenAt (map segment_of (list_at segments r)) (widths_at schema r) n (map laid_row (begun_by n (kept_rows k r))) y) view l no_lived m w f x

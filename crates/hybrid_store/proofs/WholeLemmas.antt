@@ -2,7 +2,7 @@
 use Rattle.std.proofs.Common.{◌≡◌, ℕ, suc, ◌+◌, ◌*◌, ◌^◌, ◌<◌, ◌≤◌, ◌&&◌, nat_le, Bool, true, false, cond, List, [], ◌∷◌, length, map, take, get_or, refl, arith, ap, sym, ◌∙◌, subst}
 use Rattle.std.specs.FinMap as finite
 use Rattle.std.proofs.lemmas.List.{length-map, get_or-map, take_all}
-use Rattle.db_value.specs.Relations.{columns_at}
+use Rattle.db_value.specs.Relations.{widths_at}
 use Rattle.db_value.specs.declared.record.Record.{Record}
 use Rattle.db_value.specs.declared.schema.Relation.{Relation}
 use Rattle.db_value.specs.declared.version.VersionPlace.{VersionPlace}
@@ -123,15 +123,15 @@ module _ (ks : List KeptRecords) (n : ℕ) (rows : List Row) (l : Lived) (there 
         subst (λ (x : Piece). length x.bits ≤ length x.rows.records) (sym (piece_is ks ps i j)) (omega (arith, c, g));
   }
 
-  pub whole_seen : (columns : ℕ) → IsLived l → AreSmall (whole_lived ks l) → ((s : ℕ) → s < length ks → (kept_at ks s).rows.fields ≡ columns) → IsSeenAt (map segment_of ks) columns n rows (whole_lived ks l)
-  whole_seen columns lived small fields = record {
+  pub whole_seen : (ws : List ℕ) → IsLived l → AreSmall (whole_lived ks l) → ((s : ℕ) → s < length ks → (kept_at ks s).rows.widths ≡ ws) → IsSeenAt (map segment_of ks) ws n rows (whole_lived ks l)
+  whole_seen ws lived small widths = record {
     shown = whole_show;
     lived = whole_is_lived lived;
     small = small;
-    fields = λ i h.
+    widths = λ i h.
         let m = length-map ps (whole_piece ks) in
         let j : i < length ps = omega (arith, h, m) in
-        ap (λ (x : Piece). x.rows.fields) (piece_is ks ps i j) ∙ fields (piece_at ps i).segment (there i j);
+        ap (λ (x : Piece). x.rows.widths) (piece_is ks ps i j) ∙ widths (piece_at ps i).segment (there i j);
   }
 
   pub whole_whole : AreWhole ks (map (whole_piece ks) l.pieces)
@@ -177,11 +177,11 @@ module _ (schema : List Relation) (lanes : List KeptLane) (order : List VersionP
   pub seen_whole : (r : ℕ) → r < length schema → IsLived (whole_lived (list_at segments r) (lived_at view r))
   seen_whole r g = let s = seen.at r g in whole_is_lived (list_at segments r) at.position (map laid_row (begun_by at.position (kept_rows k r))) (lived_at view r) (seen_pieces r g) s.shown s.lived
 
-  pub seen_again : (r : ℕ) → r < length schema → AreSmall (whole_lived (list_at segments r) (lived_at view r)) → ((s : ℕ) → s < length (list_at segments r) → (kept_at (list_at segments r) s).rows.fields ≡ length (columns_at schema r))
-      → IsSeenAt (map segment_of (list_at segments r)) (length (columns_at schema r)) at.position (map laid_row (begun_by at.position (kept_rows (get_or lanes at.branch no_kept) r))) (whole_lived (list_at segments r) (lived_at view r))
-  seen_again r g small fields =
+  pub seen_again : (r : ℕ) → r < length schema → AreSmall (whole_lived (list_at segments r) (lived_at view r)) → ((s : ℕ) → s < length (list_at segments r) → (kept_at (list_at segments r) s).rows.widths ≡ widths_at schema r)
+      → IsSeenAt (map segment_of (list_at segments r)) (widths_at schema r) at.position (map laid_row (begun_by at.position (kept_rows (get_or lanes at.branch no_kept) r))) (whole_lived (list_at segments r) (lived_at view r))
+  seen_again r g small widths =
       let s = seen.at r g in
-      whole_seen (list_at segments r) at.position (map laid_row (begun_by at.position (kept_rows k r))) (lived_at view r) (seen_pieces r g) s.shown (length (columns_at schema r)) s.lived small fields
+      whole_seen (list_at segments r) at.position (map laid_row (begun_by at.position (kept_rows k r))) (lived_at view r) (seen_pieces r g) s.shown (widths_at schema r) s.lived small widths
 
   pub whole_again : (r : ℕ) → r < length schema → AreWhole (list_at segments r) (whole_lived (list_at segments r) (lived_at view r)).pieces
   whole_again r g = let s = seen.at r g in whole_whole (list_at segments r) at.position (map laid_row (begun_by at.position (kept_rows k r))) (lived_at view r) (seen_pieces r g) s.shown

@@ -44,7 +44,7 @@ zip_stored schema old new segments zip is =
       wide = is.wide;
       room = is.room;
       few = λ r h. let f = is.few r h in omega (arith, f, n);
-      fields = is.fields;
+      widths = is.widths;
       each = λ b h.
           let lt : b < length old = omega (arith, h, n) in
           let both = AllZip-get_or Widens old new b no_kept no_kept zip lt in

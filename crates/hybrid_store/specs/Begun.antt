@@ -12,9 +12,9 @@ use Rattle.hybrid_store.specs.New.{own_at}
 abbrev pub head_piece : ℕ → Rows → Piece
 head_piece segment own = record { segment = segment; rows = own; bits = [] }
 
--- a head without records, by its number and how many fields a record has
-abbrev pub empty_head : ℕ → ℕ → Piece
-empty_head segment columns = record { segment = segment; rows = record { fields = columns; records = [] }; bits = [] }
+-- a head without records, by its number and the widths of its columns
+abbrev pub empty_head : ℕ → List ℕ → Piece
+empty_head segment ws = record { segment = segment; rows = record { widths = ws; records = [] }; bits = [] }
 
 -- what a new branch has: the pieces in which something is live, and its head
 abbrev pub lived_begun : Lived → Piece → Lived

@@ -15,7 +15,7 @@ use Rattle.db_store.specs.LayoutGrowth.{puts, segment_after, segments_after, las
 use Rattle.db_store.proofs.SegmentLemmas.{at_relation}
 use Rattle.hybrid_view.specs.Live.{Lived, lived_at}
 use Rattle.commit_history.specs.Runs.{Next}
-use Rattle.db_value.specs.Relations.{columns_at}
+use Rattle.db_value.specs.Relations.{widths_at}
 use Rattle.bit_rows.specs.Kept.{nexts_at}
 use Rattle.hybrid_store.specs.Ready.{IsMadeAt, IsMadeOf, IsNextOf, IsReady, no_own}
 use Rattle.hybrid_store.specs.ReadyRules.{made_lasts}
@@ -32,9 +32,9 @@ made_on l c d second third cs others b v nexts head owns n m = record {
       let x : Lane = lane_after l (segments_after l d others) (lane_at l d) third others in
       let lane : lane_at (after_commit l d third others) c ≡ lane_at l c = get_or-set_other l.lanes d c x no_lane n in
       let segs : segments_at (segments_after l d others) r ≡ map (segment_after d (puts others r)) (segments_at l.segments r) = at_relation l.schema (λ q. map (segment_after d (puts others q)) (segments_at l.segments q)) r [] h in
-      subst (λ (y : Lane). IsMadeAt (segments_at (segments_after l d others) r) (length (columns_at l.schema r)) c (last_in y) r cs (rows_at y r) (nexts_at nexts r) (lived_at head r) (get_or owns r no_own)) (sym lane)
-      (subst (λ (ss : List Segment). IsMadeAt ss (length (columns_at l.schema r)) c (last_in (lane_at l c)) r cs (rows_at (lane_at l c) r) (nexts_at nexts r) (lived_at head r) (get_or owns r no_own)) (sym segs)
-      (made_lasts (segments_at l.segments r) c d (last_in (lane_at l c)) r cs (puts others r) n (length (columns_at l.schema r)) (rows_at (lane_at l c) r) (nexts_at nexts r) (lived_at head r) (get_or owns r no_own) (m.at r h)));
+      subst (λ (y : Lane). IsMadeAt (segments_at (segments_after l d others) r) (widths_at l.schema r) c (last_in y) r cs (rows_at y r) (nexts_at nexts r) (lived_at head r) (get_or owns r no_own)) (sym lane)
+      (subst (λ (ss : List Segment). IsMadeAt ss (widths_at l.schema r) c (last_in (lane_at l c)) r cs (rows_at (lane_at l c) r) (nexts_at nexts r) (lived_at head r) (get_or owns r no_own)) (sym segs)
+      (made_lasts (segments_at l.segments r) c d (last_in (lane_at l c)) r cs (puts others r) n (widths_at l.schema r) (rows_at (lane_at l c) r) (nexts_at nexts r) (lived_at head r) (get_or owns r no_own) (m.at r h)));
 }
 
 -- the same, if there is a layout

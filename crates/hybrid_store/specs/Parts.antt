@@ -2,7 +2,7 @@
 use Rattle.std.specs.Prelude.{◌≡◌, ℕ, suc, ◌*◌, ◌<◌, ◌==◌, cond, List, [], ◌∷◌, ◌++◌, length, map, filter, Option, None}
 use Rattle.std.specs.List.{range_with_len}
 use Rattle.std.proofs.Common.{get_or}
-use Rattle.db_value.specs.Relations.{columns_at}
+use Rattle.db_value.specs.Relations.{widths_at}
 use Rattle.db_value.specs.declared.version.VersionPlace.{VersionPlace}
 use Rattle.db_store.specs.Dataset.{root}
 use Rattle.db_store.specs.Sound.{IsSound}
@@ -95,10 +95,10 @@ layout_of_parts p = record {
 
 -- what stands past the last segment
 abbrev pub no_segment_part : SegmentPart
-no_segment_part = record { relation = 0; head = None; records = record { fields = 0; records = [] }; rows = [] }
+no_segment_part = record { relation = 0; head = None; records = record { widths = []; records = [] }; rows = [] }
 
 -- the layout is one that entries can be added to: its lanes and its dataset keep their rules, a relation has fewer than two segments for
--- each branch, and each segment is of a relation, with as many fields as that has columns
+-- each branch, and each segment is of a relation, with the widths of its columns
 pub record AreSound (p : LayoutParts) : Type 0 where
   pub laid : IsLaid (layout_of_parts p)
   pub sound : IsSound (dataset_in (layout_of_parts p))
@@ -106,4 +106,4 @@ pub record AreSound (p : LayoutParts) : Type 0 where
   pub ordered : IsOrdered (dataset_in (layout_of_parts p))
   pub few : (r : ℕ) → r < length p.schema → length (parts_of r p.segments) < 2 * length p.branches
   pub there : (i : ℕ) → i < length p.segments → (get_or p.segments i no_segment_part).relation < length p.schema
-  pub fields : (i : ℕ) → i < length p.segments → (get_or p.segments i no_segment_part).records.fields ≡ length (columns_at p.schema (get_or p.segments i no_segment_part).relation)
+  pub widths : (i : ℕ) → i < length p.segments → (get_or p.segments i no_segment_part).records.widths ≡ widths_at p.schema (get_or p.segments i no_segment_part).relation

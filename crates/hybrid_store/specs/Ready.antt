@@ -1,7 +1,7 @@
 -- What is ready for a commit: what a branch has after it, and the records of its heads.
 use Rattle.std.specs.Prelude.{◌≡◌, ℕ, suc, ◌<◌, true, List, [], length, map, Option, Some, None}
 use Rattle.std.proofs.Common.{get_or}
-use Rattle.db_value.specs.Relations.{columns_at}
+use Rattle.db_value.specs.Relations.{widths_at}
 use Rattle.db_value.specs.declared.version.VersionPlace.{VersionPlace}
 use Rattle.db_value.specs.declared.entry.Change.{Change}
 use Rattle.db_value.specs.declared.entry.Entry.{Entry}
@@ -26,7 +26,7 @@ changed_slots ss c n r cs row = slots_where (λ slot. differ (bit row n slot) (b
     (length (records_at (map (segment_after c (puts cs r)) ss) row.segment))
 
 -- of one relation: what is ready for the rows, the pieces that show the rows after the commit, and the records of the head
-pub record IsMadeAt (ss : List Segment) (columns c n r : ℕ) (cs : List Change) (rows : List Row) (nexts : List Next) (l : Lived) (own : Rows) : Type 0 where
+pub record IsMadeAt (ss : List Segment) (ws : List ℕ) (c n r : ℕ) (cs : List Change) (rows : List Row) (nexts : List Next) (l : Lived) (own : Rows) : Type 0 where
   pub there : (i : ℕ) → i < length rows → (row_at rows i).segment < length ss
   pub within : (i slot : ℕ) → i < length rows → bit (row_at rows i) n slot ≡ true → slot < length (records_at ss (row_at rows i).segment)
   pub ready : length nexts ≡ length rows
@@ -36,13 +36,13 @@ pub record IsMadeAt (ss : List Segment) (columns c n r : ℕ) (cs : List Change)
   pub whole : (s : ℕ) → s < length ss → is_head_of c (head_at ss s) ≡ true → IsWhole (map (segment_after c (puts cs r)) ss) s l.pieces
   pub lived : IsLived l
   pub small : AreSmall l
-  pub fields : (i : ℕ) → i < length rows → (piece_at l.pieces i).rows.fields ≡ columns
-  pub own_fields : own.fields ≡ columns
+  pub widths : (i : ℕ) → i < length rows → (piece_at l.pieces i).rows.widths ≡ ws
+  pub own_widths : own.widths ≡ ws
   pub put : (s : ℕ) → s < length ss → is_head_of c (head_at ss s) ≡ true → own.records ≡ records_at (map (segment_after c (puts cs r)) ss) s
 
 -- what stands past the last relation
 abbrev pub no_own : Rows
-no_own = record { fields = 0; records = [] }
+no_own = record { widths = []; records = [] }
 
 -- of a whole layout: the commit's branch and second parent, and each relation
 pub record IsMadeOf (l : Layout) (c : ℕ) (second : Option VersionPlace) (cs : List Change) (b : ℕ) (third : Option VersionPlace) (nexts : List (List Next)) (head : List Lived) (owns : List Rows) : Type 0 where
@@ -51,7 +51,7 @@ pub record IsMadeOf (l : Layout) (c : ℕ) (second : Option VersionPlace) (cs : 
   pub ready : length nexts ≡ length l.schema
   pub wide : length head ≡ length l.schema
   pub counted : length owns ≡ length l.schema
-  pub at : (r : ℕ) → r < length l.schema → IsMadeAt (segments_at l.segments r) (length (columns_at l.schema r)) c (last_in (lane_at l c)) r cs (rows_at (lane_at l c) r) (nexts_at nexts r) (lived_at head r) (get_or owns r no_own)
+  pub at : (r : ℕ) → r < length l.schema → IsMadeAt (segments_at l.segments r) (widths_at l.schema r) c (last_in (lane_at l c)) r cs (rows_at (lane_at l c) r) (nexts_at nexts r) (lived_at head r) (get_or owns r no_own)
 
 -- of the layout of a state, if it has one
 abbrev pub IsNextOf : ℕ → Option VersionPlace → List (List Next) → List Lived → List Rows → Option Layout → Entry → Type 0

@@ -2,7 +2,7 @@
 use Rattle.std.specs.Prelude.{◌≡◌, ℕ, ◌<◌, ◌≤◌, ◌++◌, Bool, true, false, List, [], ◌∷◌, length, map, set, Option, Some, None, refl}
 use Rattle.std.specs.Coded.{Coded, code_by, coded×, coded_list}
 use Rattle.std.proofs.Common.{get_or}
-use Rattle.db_value.specs.Relations.{columns_at}
+use Rattle.db_value.specs.Relations.{widths_at}
 use Rattle.db_value.specs.declared.version.VersionPlace.{VersionPlace}
 use Rattle.db_value.specs.declared.entry.Entry.{Entry}
 use Rattle.db_value.specs.declared.entry.Entry.TheVariants.{Commit, Branch as NewBranch}
@@ -35,17 +35,17 @@ abbrev pub short_row : Row → KeptRow
 short_row row = record { segment = row.segment; from = row.from; deltas = map shortest row.deltas }
 
 -- of one relation: the rows that branch c begins of the rows of b at position n, and what it has of them
-pub record IsBegunAt (ss : List Segment) (at_head : Bool) (columns b c n : ℕ) (rows : List Row) (news : List KeptRow) (l : Lived) (own : Rows) : Type 0 where
+pub record IsBegunAt (ss : List Segment) (at_head : Bool) (ws : List ℕ) (b c n : ℕ) (rows : List Row) (news : List KeptRow) (l : Lived) (own : Rows) : Type 0 where
   pub begun : map laid_row news ≡ rows_begun at_head n ss rows
-  pub kept : IsKeptAt (segments_with at_head b c ss) columns c 0 news l
-  pub empty : own ≡ record { fields = columns; records = [] }
+  pub kept : IsKeptAt (segments_with at_head b c ss) ws c 0 news l
+  pub empty : own ≡ record { widths = ws; records = [] }
 
 -- and what b has after it, if that was its last position
-pub record IsTurnedAt (ss : List Segment) (columns b c n : ℕ) (rows : List Row) (more : MoreRow) (l : Lived) (own : Rows) : Type 0 where
+pub record IsTurnedAt (ss : List Segment) (ws : List ℕ) (b c n : ℕ) (rows : List Row) (more : MoreRow) (l : Lived) (own : Rows) : Type 0 where
   pub room : length rows < more.room
   pub row : more.row ≡ turned_row (length ss) n
-  pub kept : IsKeptAt (segments_with true b c ss) columns b n (map short_row rows ++ turned_row (length ss) n ∷ []) l
-  pub empty : own ≡ record { fields = columns; records = [] }
+  pub kept : IsKeptAt (segments_with true b c ss) ws b n (map short_row rows ++ turned_row (length ss) n ∷ []) l
+  pub empty : own ≡ record { widths = ws; records = [] }
 
 -- of a whole layout: the new branch
 pub record IsBegunOf (l : Layout) (name : List ℕ) (origin : VersionPlace) (k : KeptLane) (owns : List Rows) : Type 0 where
@@ -54,7 +54,7 @@ pub record IsBegunOf (l : Layout) (name : List ℕ) (origin : VersionPlace) (k :
   pub rows : length k.rows ≡ length l.schema
   pub head : length k.head ≡ length l.schema
   pub counted : length owns ≡ length l.schema
-  pub at : (r : ℕ) → r < length l.schema → IsBegunAt (segments_at l.segments r) (is_last l origin) (length (columns_at l.schema r)) origin.branch (length l.lanes) origin.position (rows_at (lane_at l origin.branch) r)
+  pub at : (r : ℕ) → r < length l.schema → IsBegunAt (segments_at l.segments r) (is_last l origin) (widths_at l.schema r) origin.branch (length l.lanes) origin.position (rows_at (lane_at l origin.branch) r)
       (kept_rows k r) (lived_at k.head r) (get_or owns r no_own)
 
 -- its origin with another head
@@ -62,7 +62,7 @@ pub record IsTurnedOf (l : Layout) (origin : VersionPlace) (t : Turn) : Type 0 w
   pub more : length t.more ≡ length l.schema
   pub head : length t.head ≡ length l.schema
   pub owns : length t.owns ≡ length l.schema
-  pub at : (r : ℕ) → r < length l.schema → IsTurnedAt (segments_at l.segments r) (length (columns_at l.schema r)) origin.branch (length l.lanes) origin.position (rows_at (lane_at l origin.branch) r)
+  pub at : (r : ℕ) → r < length l.schema → IsTurnedAt (segments_at l.segments r) (widths_at l.schema r) origin.branch (length l.lanes) origin.position (rows_at (lane_at l origin.branch) r)
       (more_at t.more r) (lived_at t.head r) (get_or t.owns r no_own)
 
 -- its origin, which gets another head exactly if that was its last position

@@ -146,8 +146,8 @@ module _ (ss : List Segment) (c d n r : ℕ) (cs : List Change) (q : List Record
       by (inr e) = absurd (false≢true (sym e.1.1.1 ∙ t))
 
   -- what is ready in a relation stays so
-  pub made_lasts : (columns : ℕ) (rows : List Row) (nexts : List Next) (l : Lived) (own : Rows) → IsMadeAt ss columns c n r cs rows nexts l own → IsMadeAt (map (segment_after d q) ss) columns c n r cs rows nexts l own
-  made_lasts columns rows nexts l own m = record {
+  pub made_lasts : (ws : List ℕ) (rows : List Row) (nexts : List Next) (l : Lived) (own : Rows) → IsMadeAt ss ws c n r cs rows nexts l own → IsMadeAt (map (segment_after d q) ss) ws c n r cs rows nexts l own
+  made_lasts ws rows nexts l own m = record {
     there = λ i h. let a = m.there i h in let e = long in omega (arith, a, e);
     within = λ i slot h t.
         let a = m.within i slot h t in
@@ -175,8 +175,8 @@ module _ (ss : List Segment) (c d n r : ℕ) (cs : List Change) (q : List Record
         m.whole s lt t2 i k e ∙ sym (head_stays s lt t2);
     lived = m.lived;
     small = m.small;
-    fields = m.fields;
-    own_fields = m.own_fields;
+    widths = m.widths;
+    own_widths = m.own_widths;
     put = λ s h t.
         let e2 = long in
         let lt : s < length ss = omega (arith, h, e2) in

@@ -2,7 +2,7 @@
 use Rattle.std.specs.Prelude.{◌≡◌, ℕ, suc, ◌+◌, ◌*◌, ◌-◌, ◌<◌, ◌≤◌, ◌==◌, ◌^◌, cond, Bool, true, List, [], ◌∷◌, Option, length, map}
 use Rattle.std.specs.List.{list_any}
 use Rattle.std.proofs.Common.{get_or}
-use Rattle.db_value.specs.Relations.{columns_at}
+use Rattle.db_value.specs.Relations.{widths_at}
 use Rattle.db_value.specs.declared.schema.Relation.{Relation}
 use Rattle.db_value.specs.declared.version.VersionPlace.{VersionPlace}
 use Rattle.db_store.specs.Dataset.{Dataset}
@@ -66,7 +66,7 @@ abbrev pub AreSmall : Lived → Type 0
 AreSmall l = (i : ℕ) → i < length l.pieces → length (piece_at l.pieces i).rows.records < 2 ^ 32
 
 -- what a branch has of a relation at its last position: pieces that show its rows, of which one is its head's, with all records of it
-pub record IsKeptAt (ss : List Segment) (columns b n : ℕ) (rows : List KeptRow) (l : Lived) : Type 0 where
+pub record IsKeptAt (ss : List Segment) (ws : List ℕ) (b n : ℕ) (rows : List KeptRow) (l : Lived) : Type 0 where
   pub own : has_row (head_in b ss) rows ≡ true
   pub headed : (s : ℕ) → s < length ss → is_head_of b (head_at ss s) ≡ (s == head_in b ss)
   pub short : (i : ℕ) → i < length rows → map shortest (map slots_of (kept_row_at rows i).deltas) ≡ (kept_row_at rows i).deltas
@@ -74,20 +74,20 @@ pub record IsKeptAt (ss : List Segment) (columns b n : ℕ) (rows : List KeptRow
   pub whole : IsWhole ss (head_in b ss) l.pieces
   pub lived : IsLived l
   pub small : AreSmall l
-  pub fields : (i : ℕ) → i < length l.pieces → (piece_at l.pieces i).rows.fields ≡ columns
+  pub widths : (i : ℕ) → i < length l.pieces → (piece_at l.pieces i).rows.widths ≡ ws
 
 -- a branch that is kept
 pub record IsKept (schema : List Relation) (segments : List KeptList) (b : ℕ) (k : KeptLane) : Type 0 where
   pub rows : length k.rows ≡ length schema
   pub head : length k.head ≡ length schema
-  pub at : (r : ℕ) → r < length schema → IsKeptAt (map segment_of (list_at segments r)) (length (columns_at schema r)) b (length k.seconds - 1) (kept_rows k r) (lived_at k.head r)
+  pub at : (r : ℕ) → r < length schema → IsKeptAt (map segment_of (list_at segments r)) (widths_at schema r) b (length k.seconds - 1) (kept_rows k r) (lived_at k.head r)
 
 -- each relation has its segments, with room for all that there can be, and each branch is kept
 pub record IsStored (schema : List Relation) (lanes : List KeptLane) (segments : List KeptList) : Type 0 where
   pub wide : length segments ≡ length schema
   pub room : (r : ℕ) → r < length schema → most_segments ≤ (get_or segments r no_list).room
   pub few : (r : ℕ) → r < length schema → length (list_at segments r) ≤ 2 * length lanes
-  pub fields : (r s : ℕ) → r < length schema → s < length (list_at segments r) → (kept_at (list_at segments r) s).rows.fields ≡ length (columns_at schema r)
+  pub widths : (r s : ℕ) → r < length schema → s < length (list_at segments r) → (kept_at (list_at segments r) s).rows.widths ≡ widths_at schema r
   pub each : (b : ℕ) → b < length lanes → IsKept schema segments b (get_or lanes b no_kept)
 
 -- a branch has a version, and no more of them than there can be
@@ -132,13 +132,13 @@ abbrev pub roomless : KeptLane → KeptLane
 roomless k = record k { room = 0 }
 
 -- what a version has of a relation: pieces that show rows at its position
-pub record IsSeenAt (ss : List Segment) (columns n : ℕ) (rows : List Row) (l : Lived) : Type 0 where
+pub record IsSeenAt (ss : List Segment) (ws : List ℕ) (n : ℕ) (rows : List Row) (l : Lived) : Type 0 where
   pub shown : Show ss n rows l.pieces
   pub lived : IsLived l
   pub small : AreSmall l
-  pub fields : (i : ℕ) → i < length l.pieces → (piece_at l.pieces i).rows.fields ≡ columns
+  pub widths : (i : ℕ) → i < length l.pieces → (piece_at l.pieces i).rows.widths ≡ ws
 
 -- what the version at a position of a branch has of all relations: the rows that have begun by then
 pub record IsSeen (schema : List Relation) (segments : List KeptList) (k : KeptLane) (n : ℕ) (view : List Lived) : Type 0 where
   pub wide : length view ≡ length schema
-  pub at : (r : ℕ) → r < length schema → IsSeenAt (map segment_of (list_at segments r)) (length (columns_at schema r)) n (map laid_row (begun_by n (kept_rows k r))) (lived_at view r)
+  pub at : (r : ℕ) → r < length schema → IsSeenAt (map segment_of (list_at segments r)) (widths_at schema r) n (map laid_row (begun_by n (kept_rows k r))) (lived_at view r)

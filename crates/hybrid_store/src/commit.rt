@@ -26,7 +26,7 @@ ghost use Rattle.hybrid_store.specs.Stored.{head_number, touched_in, AllNextIn, 
 use crate::heads::{head_of_rows, own_records};
 use crate::store::HybridStore;
 use bit_rows::{KeptSegments, NextDeltas, next_deltas, spots_of};
-use db_value::{Change, VersionPlace};
+use db_value::{Changes, VersionPlace};
 use hybrid_view::{HybridView, LiveRelation, LiveTable, PutRows, TouchedKeys};
 use segment::Segment;
 use std::alloc::{AllocError, Global};
@@ -86,7 +86,7 @@ impl HybridStore {
         &self,
         branch: u32,
         relation: u8,
-        changes: &[Change],
+        changes: &Changes,
     ) -> Result<TouchedKeys, AllocError>
         requires relation { relation < length self.now.schema }
         requires fits { (second : Option VersionPlace)
@@ -108,7 +108,7 @@ impl HybridStore {
         &self,
         branch: u32,
         relation: u8,
-        changes: &[Change],
+        changes: &Changes,
         touched: &TouchedKeys,
     ) -> Result<LiveRelation, AllocError>
         requires relation { relation < length self.now.schema }
@@ -139,7 +139,7 @@ impl HybridStore {
         &self,
         branch: u32,
         relation: u8,
-        changes: &[Change],
+        changes: &Changes,
         touched: &TouchedKeys,
     ) -> Result<Arc<LiveRelation>, AllocError>
         requires relation { relation < length self.now.schema }
@@ -174,7 +174,7 @@ impl HybridStore {
         &self,
         branch: u32,
         relation: u8,
-        changes: &[Change],
+        changes: &Changes,
         places: &[Option<(u32, u32)>],
         live: &LiveRelation,
     ) -> Result<NextDeltas, AllocError>
@@ -201,7 +201,7 @@ impl HybridStore {
     fn table_after(
         &self,
         branch: u32,
-        changes: &[Change],
+        changes: &Changes,
         deltas: &mut Vec<NextDeltas>,
     ) -> Result<LiveTable, AllocError>
         requires fits { (second : Option VersionPlace)
@@ -227,7 +227,7 @@ impl HybridStore {
     fn head_records(
         &self,
         branch: u32,
-        changes: &[Change],
+        changes: &Changes,
         table: &LiveTable,
     ) -> Result<Vec<Arc<Segment>>, AllocError>
         requires branch { branch < length self.now.lanes.items }
@@ -254,7 +254,7 @@ impl HybridStore {
         &self,
         branch: u32,
         second: Option<VersionPlace>,
-        changes: &[Change],
+        changes: &Changes,
     ) -> Result<HybridPrepared, AllocError>
         requires { fits (dataset_in self.now) (Commit branch second changes.now) ≡ true }
         ensures { IfOk result (λ p.
@@ -283,13 +283,13 @@ fn live_after(
     old: &LiveRelation,
     head: (u32, u32),
     relation: u8,
-    changes: &[Change],
+    changes: &Changes,
     touched: &TouchedKeys,
 ) -> Result<LiveRelation, AllocError>
     requires few_keys { touched.now.keys < 2 ^ 32 }
     requires room { head.1 + length changes.now < 2 ^ 32 }
-    requires fields { EachOf head.0 old.now.pieces (λ p.
-        AreWide p.rows.fields (puts changes.now relation)) }
+    requires wide { EachOf head.0 old.now.pieces (λ p.
+        AreWide p.rows.widths (puts changes.now relation)) }
     requires few { EachOf head.0 old.now.pieces (λ p.
         length p.rows.records + length (puts changes.now relation) < 2 ^ 32) }
     requires lived { (qs : List Piece)
@@ -314,8 +314,14 @@ fn live_after(
 }
 
 // Is some change of the relation?
-fn is_changed(changes: &[Change], relation: u8) -> bool
+fn is_changed(changes: &Changes, relation: u8) -> bool
     ensures { result ≡ is_changed relation changes.now }
 {
-    changes.iter().any(|change| change.relation == relation)
+    for at in 0..changes.len() {
+        let own = changes.relation(at);
+        if own == relation {
+            return true;
+        }
+    }
+    false
 }

@@ -2,7 +2,7 @@
 ghost use Rattle.std.specs.Prelude.{◌≡◌, ℕ, ◌<◌, ◌≤◌, ◌∷◌, [], true, Some, None, length, map, IfOk};
 ghost use Rattle.std.specs.Arc.{arc_value};
 ghost use Rattle.std.proofs.Common.{get_or};
-ghost use Rattle.db_value.specs.Relations.{columns_at, has_columns, is_counted};
+ghost use Rattle.db_value.specs.Relations.{widths_at, has_columns, is_counted};
 ghost use Rattle.db_store.specs.Dataset.{root};
 ghost use Rattle.hybrid_view.specs.Live.{lived_at};
 ghost use Rattle.bit_rows.specs.Kept.{first_row};
@@ -10,6 +10,7 @@ ghost use Rattle.bit_rows.specs.Segments.{no_list, most_segments};
 ghost use Rattle.hybrid_store.specs.New.{own_at, first_lived, IsFirst};
 
 use bit_rows::{BitRow, BitRows, HybridLane, KeptSegments};
+use db_value::schema::widths_of;
 use db_value::{Name, Relation, VersionPlace};
 use hybrid_view::{HybridView, LivePart, LiveRelation, LiveTable};
 use plain_bits::Bits;
@@ -24,13 +25,14 @@ pub const ROOT: VersionPlace = VersionPlace {
 };
 
 // A segment without records for a relation.
-#[tactic(auto, using(crate::proofs::NewLemmas::some_columns, crate::proofs::NewLemmas::few_columns))]
+#[tactic(auto, using(db_value::proofs::SchemaLemmas::columns_widths))]
 fn new_segment(alloc: Global, relation: &Relation) -> Result<Segment, AllocError>
     requires { has_columns relation.now ≡ true }
-    ensures { IfOk result (λ s. s ≡ record { fields = length relation.now.columns; records = [] }) }
+    ensures { IfOk result
+        (λ s. s ≡ record { widths = map (λ c. c.width) relation.now.columns; records = [] }) }
 {
-    let fields = relation.columns.as_slice().len() as u8;
-    Segment::new(alloc, fields)
+    let widths = widths_of(relation.columns.as_slice());
+    Segment::new(alloc, &widths)
 }
 
 /// A segment without records for each relation.
@@ -40,7 +42,7 @@ pub fn new_heads(alloc: Global, relations: &[Relation]) -> Result<Vec<Arc<Segmen
     ensures each { IfOk result
         (λ v. (r : ℕ) → r < length relations.now
         → own_at (map arc_value v.items) r
-        ≡ record { fields = length (columns_at relations.now r); records = [] }) }
+        ≡ record { widths = widths_at relations.now r; records = [] }) }
 {
     let mut heads = Vec::new(alloc);
     for relation in relations {

@@ -1,7 +1,7 @@
 //! What the layout of a store has, part by part. No reader takes memory.
 ghost use Rattle.std.specs.Prelude.{◌≡◌, ◌-◌, ◌<◌, ◌+◌, length, map, IfSome};
 ghost use Rattle.std.proofs.Common.{get_or};
-ghost use Rattle.db_value.specs.Relations.{columns_at};
+ghost use Rattle.db_value.specs.Relations.{widths_at};
 ghost use Rattle.db_store.specs.Layout.{lane_at, records_at, segments_at};
 ghost use Rattle.db_store.specs.LaidOut.{head_at};
 ghost use Rattle.hybrid_view.specs.Deltas.{slots_of};
@@ -74,8 +74,7 @@ impl HybridStore {
         requires index { index < length (segments_at (layout_of self.now).segments relation) }
         ensures records { result.now.records
             ≡ records_at (segments_at (layout_of self.now).segments relation) index }
-        ensures fields { result.now.fields
-            ≡ length (columns_at (layout_of self.now).schema relation) }
+        ensures widths { result.now.widths ≡ widths_at (layout_of self.now).schema relation }
     {
         self.list(relation).segment(index).records()
     }

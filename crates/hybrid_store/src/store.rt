@@ -31,7 +31,7 @@ use crate::new::{ROOT, new_heads, new_lane, new_segments};
 use crate::same::same_lanes;
 use bit_rows::{HybridLane, KeptSegments, layout_lines, same_lists};
 use db_store::{Parents, Store};
-use db_value::{Change, Entry, LayoutLines, Name, Schema, VersionPlace};
+use db_value::{Changes, Entry, LayoutLines, Name, Schema, VersionPlace};
 use hybrid_view::HybridView;
 use std::alloc::{AllocError, Global};
 use store_catalogue::{
@@ -210,7 +210,7 @@ impl HybridStore {
         self.lane(branch).view()
     }
 
-    fn commit_fits(&self, branch: u32, second: &Option<VersionPlace>, changes: &[Change]) -> bool
+    fn commit_fits(&self, branch: u32, second: &Option<VersionPlace>, changes: &Changes) -> bool
         ensures { result ≡ fits (dataset_in self.now) (Commit branch second.now changes.now) }
     {
         if !self.has_room(branch) {
@@ -222,7 +222,7 @@ impl HybridStore {
         if !makes_version(second, changes) {
             return false;
         }
-        if !changes_fit(self.schema.relations(), changes) {
+        if !changes_fit(&self.schema, changes) {
             return false;
         }
         is_within(self.last_view(branch).table(), self.width(), changes)
@@ -317,7 +317,7 @@ impl Store for HybridStore {
                 branch,
                 second,
                 changes,
-            } => self.commit_fits(*branch, second, changes.as_slice()),
+            } => self.commit_fits(*branch, second, changes),
             Entry::Branch { name, origin } => {
                 self.names.number(name).is_none()
                     && self.lanes.len() < MOST_BRANCHES

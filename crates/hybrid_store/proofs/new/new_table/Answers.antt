@@ -11,7 +11,7 @@ pub new_live-requires : goal.new_live-requires
 new_live-requires c =
     let i = c.loop-head.head-index in
     let lt : i < length c.args.heads.now = omega (arith, c.loop-head-test.true, c.loop-head.auto.head-index-end) in
-    let item : arc_value c.head-item.result ≡ own_at (map arc_value c.args.heads.now) i = ap arc_value c.head-item.is ∙ sym (get_or-map arc_value c.args.heads.now i c.head-item.result (record { fields = 0; records = [] }) lt) in
+    let item : arc_value c.head-item.result ≡ own_at (map arc_value c.args.heads.now) i = ap arc_value c.head-item.is ∙ sym (get_or-map arc_value c.args.heads.now i c.head-item.result (record { widths = []; records = [] }) lt) in
     ap (λ (x : Rows). x.records) item ∙ c.requires i lt
 
 pub loop-head-preserved : goal.loop-head-preserved
@@ -19,7 +19,7 @@ loop-head-preserved c =
     let heads : List Rows = map arc_value c.args.heads.now in
     let i = c.loop-head.head-index in
     let lt : i < length c.args.heads.now = omega (arith, c.loop-head-test.true, c.loop-head.auto.head-index-end) in
-    let item : arc_value c.head-item.result ≡ own_at (map arc_value c.args.heads.now) i = ap arc_value c.head-item.is ∙ sym (get_or-map arc_value c.args.heads.now i c.head-item.result (record { fields = 0; records = [] }) lt) in
+    let item : arc_value c.head-item.result ≡ own_at (map arc_value c.args.heads.now) i = ap arc_value c.head-item.is ∙ sym (get_or-map arc_value c.args.heads.now i c.head-item.result (record { widths = []; records = [] }) lt) in
     let xs : List Lived = map arc_value c.loop-head.relations.items in
     let l : Lived = arc_value c.in_ok-new.field-0 in
     let is : map arc_value c.push.new.self.items ≡ xs ++ l ∷ [] = ap (map arc_value) c.in_ok-push.ensures.items ∙ map-append arc_value c.loop-head.relations.items (c.in_ok-new.field-0 ∷ []) in

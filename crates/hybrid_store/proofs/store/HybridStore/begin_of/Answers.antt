@@ -1,7 +1,7 @@
 use Rattle.std.proofs.Common.{◌≡◌, ◌∙◌, [], ap, sym, subst, arith, length, map, refl, List}
 use Rattle.std.specs.Arc.{arc_value}
 use Rattle.std.proofs.lemmas.List.{length-map}
-use Rattle.db_value.specs.Relations.{columns_at}
+use Rattle.db_value.specs.Relations.{widths_at}
 use Rattle.db_value.specs.declared.schema.Relation.{Relation}
 use Rattle.record_page.specs.Page.{Rows}
 use Rattle.hybrid_store.specs.New.{AreEmpty}
@@ -17,7 +17,7 @@ lane_begun-requires-clause-heads c =
     subst (λ (xs : List Rows). AreEmpty s.schema xs) (sym (ap (map arc_value) c.deref.ensures.value))
     (record {
       count = length-map c.in_ok-heads.heads.items arc_value ∙ c.in_ok-heads.ensures.count ∙ rl;
-      each = λ r h. c.in_ok-heads.ensures.each r (omega (arith, h, rl)) ∙ ap (λ (rs : List Relation). record { fields = length (columns_at rs r); records = [] }) rel;
+      each = λ r h. c.in_ok-heads.ensures.each r (omega (arith, h, rl)) ∙ ap (λ (rs : List Relation). record { widths = widths_at rs r; records = [] }) rel;
     })
 
 pub returns : goal.returns

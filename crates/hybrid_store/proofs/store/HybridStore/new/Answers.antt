@@ -3,7 +3,7 @@ use Rattle.std.specs.Prelude.{codes}
 use Rattle.std.specs.Arc.{arc_value}
 use Rattle.std.specs.FinMap.{insert, get, len, empty, get-empty, len-empty}
 use Rattle.std.proofs.lemmas.List.Elements.{All-same, All-push, All-nil}
-use Rattle.db_value.specs.Relations.{columns_at}
+use Rattle.db_value.specs.Relations.{widths_at}
 use Rattle.db_value.specs.declared.schema.Relation.{Relation}
 use Rattle.db_value.specs.declared.version.VersionPlace.{VersionPlace}
 use Rattle.record_page.specs.Page.{Rows}
@@ -41,22 +41,22 @@ invariant_of-result c =
     let rl = ap (λ (rs : List Relation). length rs) rel in
     let hc = c.in_ok-heads.ensures.count in
     let wide : length c.in_ok-heads.heads.items ≡ length schema = hc ∙ rl in
-    let own : (r : ℕ) → r < length schema → own_at (map arc_value c.in_ok-heads.heads.items) r ≡ record { fields = length (columns_at schema r); records = [] } =
-    λ r h. c.in_ok-heads.ensures.each r (omega (arith, h, rl)) ∙ ap (λ (rs : List Relation). record { fields = length (columns_at rs r); records = [] }) rel in
+    let own : (r : ℕ) → r < length schema → own_at (map arc_value c.in_ok-heads.heads.items) r ≡ record { widths = widths_at schema r; records = [] } =
+    λ r h. c.in_ok-heads.ensures.each r (omega (arith, h, rl)) ∙ ap (λ (rs : List Relation). record { widths = widths_at rs r; records = [] }) rel in
     let d1 = c.deref.ensures.value in
     let d2 = c.deref-2.ensures.value in
     let l1 : length c.deref.result.now ≡ length schema = ap length d1 ∙ wide in
     let l2 : length c.deref-2.result.now ≡ length schema = ap length d2 ∙ wide in
-    let own1 : (r : ℕ) → r < length schema → own_at (map arc_value c.deref.result.now) r ≡ record { fields = length (columns_at schema r); records = [] } =
+    let own1 : (r : ℕ) → r < length schema → own_at (map arc_value c.deref.result.now) r ≡ record { widths = widths_at schema r; records = [] } =
     λ r h. ap (λ (ys : List Rows). own_at ys r) (ap (map arc_value) d1) ∙ own r h in
-    let own2 : (r : ℕ) → r < length schema → own_at (map arc_value c.deref-2.result.now) r ≡ record { fields = length (columns_at schema r); records = [] } =
+    let own2 : (r : ℕ) → r < length schema → own_at (map arc_value c.deref-2.result.now) r ≡ record { widths = widths_at schema r; records = [] } =
     λ r h. ap (λ (ys : List Rows). own_at ys r) (ap (map arc_value) d2) ∙ own r h in
     let lane : m ≡ record { name = codes "master"; origin = root; base = root; seconds = None ∷ []; rows = m.rows; head = m.head; room = m.room } =
     c.in_ok-master.ensures.lane ∙ ap (λ (n : List ℕ). record { name = n; origin = root; base = root; seconds = None ∷ []; rows = m.rows; head = m.head; room = m.room }) c.in-Some.ensures.value in
     let rows : (r : ℕ) → r < length schema → kept_rows m r ≡ first_row ∷ [] = λ r h. c.in_ok-master.ensures.first.rows r (omega (arith, h, l2)) in
-    let lived : (r : ℕ) → r < length schema → lived_at m.head r ≡ first_lived (record { fields = length (columns_at schema r); records = [] }) =
+    let lived : (r : ℕ) → r < length schema → lived_at m.head r ≡ first_lived (record { widths = widths_at schema r; records = [] }) =
     λ r h. c.in_ok-master.ensures.first.lived r (omega (arith, h, l2)) ∙ ap first_lived (own2 r h) in
-    let lists : (r : ℕ) → r < length schema → list_at segs r ≡ record { head = Some 0; rows = record { fields = length (columns_at schema r); records = [] } } ∷ [] =
+    let lists : (r : ℕ) → r < length schema → list_at segs r ≡ record { head = Some 0; rows = record { widths = widths_at schema r; records = [] } } ∷ [] =
     λ r h. c.in_ok-segments.ensures.all r (omega (arith, h, l1)) ∙ ap (λ (x : Rows). record { head = Some 0; rows = x } ∷ []) (own1 r h) in
     let items : c.push.new.self.items ≡ m ∷ [] = c.in_ok-push.ensures.items ∙ ap (λ (ks : List KeptLane). ks ++ m ∷ []) c.in_ok-lanes.ensures.items in
     let made : order ≡ root ∷ [] = c.in_ok-push-2.ensures.items ∙ ap (λ (vs : List VersionPlace). vs ++ root ∷ []) c.new-order.ensures.items in
@@ -99,22 +99,22 @@ returns-clause-state c =
     let rl = ap (λ (rs : List Relation). length rs) rel in
     let hc = c.in_ok-heads.ensures.count in
     let wide : length c.in_ok-heads.heads.items ≡ length schema = hc ∙ rl in
-    let own : (r : ℕ) → r < length schema → own_at (map arc_value c.in_ok-heads.heads.items) r ≡ record { fields = length (columns_at schema r); records = [] } =
-    λ r h. c.in_ok-heads.ensures.each r (omega (arith, h, rl)) ∙ ap (λ (rs : List Relation). record { fields = length (columns_at rs r); records = [] }) rel in
+    let own : (r : ℕ) → r < length schema → own_at (map arc_value c.in_ok-heads.heads.items) r ≡ record { widths = widths_at schema r; records = [] } =
+    λ r h. c.in_ok-heads.ensures.each r (omega (arith, h, rl)) ∙ ap (λ (rs : List Relation). record { widths = widths_at rs r; records = [] }) rel in
     let d1 = c.deref.ensures.value in
     let d2 = c.deref-2.ensures.value in
     let l1 : length c.deref.result.now ≡ length schema = ap length d1 ∙ wide in
     let l2 : length c.deref-2.result.now ≡ length schema = ap length d2 ∙ wide in
-    let own1 : (r : ℕ) → r < length schema → own_at (map arc_value c.deref.result.now) r ≡ record { fields = length (columns_at schema r); records = [] } =
+    let own1 : (r : ℕ) → r < length schema → own_at (map arc_value c.deref.result.now) r ≡ record { widths = widths_at schema r; records = [] } =
     λ r h. ap (λ (ys : List Rows). own_at ys r) (ap (map arc_value) d1) ∙ own r h in
-    let own2 : (r : ℕ) → r < length schema → own_at (map arc_value c.deref-2.result.now) r ≡ record { fields = length (columns_at schema r); records = [] } =
+    let own2 : (r : ℕ) → r < length schema → own_at (map arc_value c.deref-2.result.now) r ≡ record { widths = widths_at schema r; records = [] } =
     λ r h. ap (λ (ys : List Rows). own_at ys r) (ap (map arc_value) d2) ∙ own r h in
     let lane : m ≡ record { name = codes "master"; origin = root; base = root; seconds = None ∷ []; rows = m.rows; head = m.head; room = m.room } =
     c.in_ok-master.ensures.lane ∙ ap (λ (n : List ℕ). record { name = n; origin = root; base = root; seconds = None ∷ []; rows = m.rows; head = m.head; room = m.room }) c.in-Some.ensures.value in
     let rows : (r : ℕ) → r < length schema → kept_rows m r ≡ first_row ∷ [] = λ r h. c.in_ok-master.ensures.first.rows r (omega (arith, h, l2)) in
-    let lived : (r : ℕ) → r < length schema → lived_at m.head r ≡ first_lived (record { fields = length (columns_at schema r); records = [] }) =
+    let lived : (r : ℕ) → r < length schema → lived_at m.head r ≡ first_lived (record { widths = widths_at schema r; records = [] }) =
     λ r h. c.in_ok-master.ensures.first.lived r (omega (arith, h, l2)) ∙ ap first_lived (own2 r h) in
-    let lists : (r : ℕ) → r < length schema → list_at segs r ≡ record { head = Some 0; rows = record { fields = length (columns_at schema r); records = [] } } ∷ [] =
+    let lists : (r : ℕ) → r < length schema → list_at segs r ≡ record { head = Some 0; rows = record { widths = widths_at schema r; records = [] } } ∷ [] =
     λ r h. c.in_ok-segments.ensures.all r (omega (arith, h, l1)) ∙ ap (λ (x : Rows). record { head = Some 0; rows = x } ∷ []) (own1 r h) in
     let items : c.push.new.self.items ≡ m ∷ [] = c.in_ok-push.ensures.items ∙ ap (λ (ks : List KeptLane). ks ++ m ∷ []) c.in_ok-lanes.ensures.items in
     let made : order ≡ root ∷ [] = c.in_ok-push-2.ensures.items ∙ ap (λ (vs : List VersionPlace). vs ++ root ∷ []) c.new-order.ensures.items in

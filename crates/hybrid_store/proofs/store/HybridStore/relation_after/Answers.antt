@@ -12,7 +12,7 @@ use Rattle.bit_rows.specs.Kept.{KeptLane, no_kept}
 use Rattle.hybrid_store.specs.Lanes.{segment_of}
 use Rattle.bit_rows.specs.Segments.{list_at}
 use Rattle.hybrid_store.specs.Stored.{head_number, touched_in}
-use Rattle.hybrid_store.proofs.CommitLemmas.{put_fields, put_room, lived_after, small_after, count_small, branch_there}
+use Rattle.hybrid_store.proofs.CommitLemmas.{put_wide, put_room, lived_after, small_after, count_small, branch_there}
 use Rattle.hybrid_store.proofs.store.HybridStore.relation_after.Goals as goal
 
 pub live_after-requires-clause-few_keys : goal.live_after-requires-clause-few_keys
@@ -22,12 +22,12 @@ live_after-requires-clause-few_keys c =
     let small = count_small s.schema s.lanes.items s.order.items s.segments.items c.args.branch c.args.relation c.requires.fits.0 c.args.changes.now b c.requires.relation s.stored s.laid c.requires.fits.1 in
     omega (arith, small, c.requires.keys)
 
-pub live_after-requires-clause-fields : goal.live_after-requires-clause-fields
-live_after-requires-clause-fields c =
+pub live_after-requires-clause-wide : goal.live_after-requires-clause-wide
+live_after-requires-clause-wide c =
     let s = c.args.self.now in
     let b = branch_there s.schema s.lanes.items s.order.items s.segments.items c.args.branch c.requires.fits.0 c.args.changes.now c.requires.fits.1 in
-    subst (λ (l : Lived). (i : ℕ) → i < length l.pieces → (piece_at l.pieces i).segment ≡ c.head_of-head.result.0 → AreWide (piece_at l.pieces i).rows.fields (puts c.args.changes.now c.args.relation)) (sym c.lived-old.ensures)
-    (λ i h e. put_fields s.schema s.lanes.items s.order.items s.segments.items c.args.branch c.args.relation c.requires.fits.0 c.args.changes.now b c.requires.relation s.stored s.laid c.requires.fits.1 i h)
+    subst (λ (l : Lived). (i : ℕ) → i < length l.pieces → (piece_at l.pieces i).segment ≡ c.head_of-head.result.0 → AreWide (piece_at l.pieces i).rows.widths (puts c.args.changes.now c.args.relation)) (sym c.lived-old.ensures)
+    (λ i h e. put_wide s.schema s.lanes.items s.order.items s.segments.items c.args.branch c.args.relation c.requires.fits.0 c.args.changes.now b c.requires.relation s.stored s.laid c.requires.fits.1 i h)
 
 pub live_after-requires-clause-few : goal.live_after-requires-clause-few
 live_after-requires-clause-few c =
@@ -36,7 +36,7 @@ live_after-requires-clause-few c =
     let from = c.head_of-head.ensures.records in
     subst (λ (l : Lived). (i : ℕ) → i < length l.pieces → (piece_at l.pieces i).segment ≡ c.head_of-head.result.0 → length (piece_at l.pieces i).rows.records + length (puts c.args.changes.now c.args.relation) < 2 ^ 32) (sym c.lived-old.ensures)
     (λ i h e. put_room s.schema s.lanes.items s.order.items s.segments.items c.args.branch c.args.relation c.requires.fits.0 c.args.changes.now b c.requires.relation s.stored s.laid c.requires.fits.1
-    (omega (arith, from, c.if-from-changes-ge-MOST_NUMBERS.false)) i h (e ∙ c.head_of-head.ensures.segment))
+    (omega (arith, from, c.len.ensures.count, c.if-from-len-ge-MOST_NUMBERS.false)) i h (e ∙ c.head_of-head.ensures.segment))
 
 pub live_after-requires-clause-lived : goal.live_after-requires-clause-lived
 live_after-requires-clause-lived c =
@@ -78,4 +78,4 @@ returns-clause-small c =
     let next = returns-clause-next c in
     let n = next.count in
     λ i h. small_after s.schema s.lanes.items s.order.items s.segments.items c.args.branch c.args.relation c.requires.fits.0 c.args.changes.now b c.requires.relation s.stored s.laid c.requires.fits.1 c.in_ok-new.new.pieces next
-    (omega (arith, from, c.if-from-changes-ge-MOST_NUMBERS.false)) i (omega (arith, n, h))
+    (omega (arith, from, c.len.ensures.count, c.if-from-len-ge-MOST_NUMBERS.false)) i (omega (arith, n, h))

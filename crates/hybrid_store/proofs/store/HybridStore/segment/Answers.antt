@@ -19,9 +19,9 @@ returns-clause-records c =
     ∙ ap (λ (x : KeptRecords). x.rows.records) (c.segment.ensures ∙ ap (λ (ks : List KeptRecords). kept_at ks c.args.index) c.list.ensures)
     ∙ ap (λ (x : Segment). x.records) (segment_told s.schema s.lanes.items s.order.items s.segments.items c.args.relation c.args.index c.requires.relation c.requires.index)
 
-pub returns-clause-fields : goal.returns-clause-fields
-returns-clause-fields c =
+pub returns-clause-widths : goal.returns-clause-widths
+returns-clause-widths c =
     let s = c.args.self.now in
-    ap (λ (x : Rows). x.fields) c.records.ensures
-    ∙ ap (λ (x : KeptRecords). x.rows.fields) (c.segment.ensures ∙ ap (λ (ks : List KeptRecords). kept_at ks c.args.index) c.list.ensures)
-    ∙ s.stored.fields c.args.relation c.args.index c.requires.relation (segment_within s.schema s.lanes.items s.order.items s.segments.items c.args.relation c.args.index c.requires.relation c.requires.index)
+    ap (λ (x : Rows). x.widths) c.records.ensures
+    ∙ ap (λ (x : KeptRecords). x.rows.widths) (c.segment.ensures ∙ ap (λ (ks : List KeptRecords). kept_at ks c.args.index) c.list.ensures)
+    ∙ s.stored.widths c.args.relation c.args.index c.requires.relation (segment_within s.schema s.lanes.items s.order.items s.segments.items c.args.relation c.args.index c.requires.relation c.requires.index)

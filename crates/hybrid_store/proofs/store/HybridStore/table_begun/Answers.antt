@@ -15,7 +15,7 @@ begun_relation-requires c =
     let r : ℕ = c.loop-relation.relation in
     let owns : List Rows = map arc_value c.args.heads.now in
     let lt : r < length s.schema = omega (arith, c.loop-relation-test.true, c.width-relation-end.ensures) in
-    let own : arc_value c.index-heads-relation.result ≡ own_at owns r = ap arc_value c.index-heads-relation.is ∙ sym (get_or-map arc_value c.args.heads.now r c.index-heads-relation.result (record { fields = 0; records = [] }) (omega (arith, lt, c.requires.heads))) in
+    let own : arc_value c.index-heads-relation.result ≡ own_at owns r = ap arc_value c.index-heads-relation.is ∙ sym (get_or-map arc_value c.args.heads.now r c.index-heads-relation.result (record { widths = []; records = [] }) (omega (arith, lt, c.requires.heads))) in
     let is : lived_begun c.relation.result.now (head_piece (c.next_segment.result + c.args.more) (arc_value c.index-heads-relation.result)) ≡ begun_in s.segments.items c.args.more owns c.args.view.now r =
     λ i. lived_begun (c.relation.ensures i) (head_piece (c.next_segment.ensures.result i + c.args.more) (own i)) in
     subst IsLived (sym is) (c.requires.lived r lt)
@@ -26,7 +26,7 @@ loop-relation-preserved c =
     let r : ℕ = c.loop-relation.relation in
     let owns : List Rows = map arc_value c.args.heads.now in
     let lt : r < length s.schema = omega (arith, c.loop-relation-test.true, c.width-relation-end.ensures) in
-    let own : arc_value c.index-heads-relation.result ≡ own_at owns r = ap arc_value c.index-heads-relation.is ∙ sym (get_or-map arc_value c.args.heads.now r c.index-heads-relation.result (record { fields = 0; records = [] }) (omega (arith, lt, c.requires.heads))) in
+    let own : arc_value c.index-heads-relation.result ≡ own_at owns r = ap arc_value c.index-heads-relation.is ∙ sym (get_or-map arc_value c.args.heads.now r c.index-heads-relation.result (record { widths = []; records = [] }) (omega (arith, lt, c.requires.heads))) in
     let ls : List Lived = map arc_value c.loop-relation.relations.items in
     let l : Lived = arc_value c.in_ok-live.live in
     let rows : List (List KeptRow) = c.loop-relation.rows.items in

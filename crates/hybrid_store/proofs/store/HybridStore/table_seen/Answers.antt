@@ -1,7 +1,7 @@
 use Rattle.std.proofs.Common.{◌≡◌, ℕ, ◌+◌, ◌<◌, ◌^◌, ◌++◌, ◌∷◌, [], ◌∙◌, ap, sym, subst, arith, length, map, get_or, List}
 use Rattle.std.specs.Arc.{arc_value}
 use Rattle.std.proofs.lemmas.List.{map-append, length_push}
-use Rattle.db_value.specs.Relations.{columns_at}
+use Rattle.db_value.specs.Relations.{widths_at}
 use Rattle.hybrid_view.specs.Live.{Lived, no_piece, IsLived}
 use Rattle.bit_rows.specs.Rows.{KeptRow, kept_row_at, laid_row}
 use Rattle.bit_rows.specs.Kept.{KeptLane, no_kept, kept_rows}
@@ -86,8 +86,8 @@ loop-relation-preserved c =
     let l : Lived = arc_value c.in_ok-shared.shared in
     let seen : live ≡ lived_seen (list_at s.segments.items r) o.position (kept_rows k r) = c.in_ok-live.ensures.seen ∙ (λ i. lived_seen (c.list-kept.ensures i) o.position (rows i)) in
     let small : AreSmall live = λ i h. c.in_ok-live.ensures.small i no_piece h in
-    let one : IsSeenAt (map segment_of (list_at s.segments.items r)) (length (columns_at s.schema r)) o.position (map laid_row (begun_by o.position (kept_rows k r))) l =
-    subst (λ (x : Lived). IsSeenAt (map segment_of (list_at s.segments.items r)) (length (columns_at s.schema r)) o.position (map laid_row (begun_by o.position (kept_rows k r))) x) (sym (c.in_ok-shared.ensures.ok ∙ seen))
+    let one : IsSeenAt (map segment_of (list_at s.segments.items r)) (widths_at s.schema r) o.position (map laid_row (begun_by o.position (kept_rows k r))) l =
+    subst (λ (x : Lived). IsSeenAt (map segment_of (list_at s.segments.items r)) (widths_at s.schema r) o.position (map laid_row (begun_by o.position (kept_rows k r))) x) (sym (c.in_ok-shared.ensures.ok ∙ seen))
     (seen_at s.schema s.lanes.items s.order.items s.segments.items s.stored s.laid o.branch o.position r place.0 place.1 lt (subst AreSmall seen small)) in
     let is : map arc_value c.push.new.self.items ≡ ls ++ l ∷ [] = ap (map arc_value) c.in_ok-push.ensures.items ∙ map-append arc_value c.loop-relation.relations.items (c.in_ok-shared.shared ∷ []) in
     let wide = ap (λ (xs : List Lived). length xs) is in

@@ -18,7 +18,7 @@ turned_relation-requires c =
     let r : ℕ = c.loop-relation.relation in
     let owns : List Rows = map arc_value c.args.heads.now in
     let lt : r < length s.schema = omega (arith, c.loop-relation-test.true, c.width-relation-end.ensures) in
-    let own : arc_value c.index-heads-relation.result ≡ own_at owns r = ap arc_value c.index-heads-relation.is ∙ sym (get_or-map arc_value c.args.heads.now r c.index-heads-relation.result (record { fields = 0; records = [] }) (omega (arith, lt, c.requires.heads))) in
+    let own : arc_value c.index-heads-relation.result ≡ own_at owns r = ap arc_value c.index-heads-relation.is ∙ sym (get_or-map arc_value c.args.heads.now r c.index-heads-relation.result (record { widths = []; records = [] }) (omega (arith, lt, c.requires.heads))) in
     let is : lived_turned c.lived.result.now (head_piece c.next_segment-segment.result (arc_value c.index-heads-relation.result)) ≡ turned_in s.segments.items owns k.head r =
     λ i. lived_turned (c.lived.ensures i) (head_piece (c.next_segment-segment.ensures.result i) (own i)) in
     subst IsLived (sym is) (c.requires.lived r lt)
@@ -43,7 +43,7 @@ loop-relation-preserved c =
     let r : ℕ = c.loop-relation.relation in
     let owns : List Rows = map arc_value c.args.heads.now in
     let lt : r < length s.schema = omega (arith, c.loop-relation-test.true, c.width-relation-end.ensures) in
-    let own : arc_value c.index-heads-relation.result ≡ own_at owns r = ap arc_value c.index-heads-relation.is ∙ sym (get_or-map arc_value c.args.heads.now r c.index-heads-relation.result (record { fields = 0; records = [] }) (omega (arith, lt, c.requires.heads))) in
+    let own : arc_value c.index-heads-relation.result ≡ own_at owns r = ap arc_value c.index-heads-relation.is ∙ sym (get_or-map arc_value c.args.heads.now r c.index-heads-relation.result (record { widths = []; records = [] }) (omega (arith, lt, c.requires.heads))) in
     let ls : List Lived = map arc_value c.loop-relation.relations.items in
     let l : Lived = arc_value c.in_ok-live.live in
     let more : List MoreRow = c.loop-relation.more.items in

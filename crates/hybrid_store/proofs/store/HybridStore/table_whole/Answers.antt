@@ -1,7 +1,7 @@
 use Rattle.std.proofs.Common.{◌≡◌, ℕ, ◌+◌, ◌<◌, ◌++◌, ◌∷◌, [], ◌∙◌, ap, sym, subst, arith, length, map, get_or, List}
 use Rattle.std.specs.Arc.{arc_value}
 use Rattle.std.proofs.lemmas.List.{map-append, length_push}
-use Rattle.db_value.specs.Relations.{columns_at}
+use Rattle.db_value.specs.Relations.{widths_at}
 use Rattle.hybrid_view.specs.Live.{Lived, no_lived, no_piece, lived_at, IsLived}
 use Rattle.bit_rows.specs.Rows.{laid_row}
 use Rattle.bit_rows.specs.Kept.{KeptLane, no_kept, kept_rows}
@@ -53,9 +53,9 @@ loop-relation-preserved c =
     let whole : live ≡ whole_lived ks (lived_at view r) = c.in_ok-live.ensures.whole ∙ (λ i. whole_lived (c.list-kept.ensures i) (c.relation-old.ensures i)) in
     let is_l : l ≡ whole_lived ks (lived_at view r) = c.in_ok-shared.ensures.ok ∙ whole in
     let small : AreSmall live = λ i h. c.in_ok-live.ensures.small i no_piece h in
-    let one : IsSeenAt (map segment_of ks) (length (columns_at s.schema r)) o.position (map laid_row (begun_by o.position (kept_rows k r))) l =
-    subst (λ (x : Lived). IsSeenAt (map segment_of ks) (length (columns_at s.schema r)) o.position (map laid_row (begun_by o.position (kept_rows k r))) x) (sym is_l)
-    (seen_again s.schema s.lanes.items s.order.items s.segments.items s.laid o place.0 view c.requires.seen r lt (subst AreSmall whole small) (λ n h. s.stored.fields r n lt h)) in
+    let one : IsSeenAt (map segment_of ks) (widths_at s.schema r) o.position (map laid_row (begun_by o.position (kept_rows k r))) l =
+    subst (λ (x : Lived). IsSeenAt (map segment_of ks) (widths_at s.schema r) o.position (map laid_row (begun_by o.position (kept_rows k r))) x) (sym is_l)
+    (seen_again s.schema s.lanes.items s.order.items s.segments.items s.laid o place.0 view c.requires.seen r lt (subst AreSmall whole small) (λ n h. s.stored.widths r n lt h)) in
     let all : AreWhole ks l.pieces = subst (λ (x : Lived). AreWhole ks x.pieces) (sym is_l) (whole_again s.schema s.lanes.items s.order.items s.segments.items s.laid o place.0 view c.requires.seen r lt) in
     let is : map arc_value c.push.new.self.items ≡ ls ++ l ∷ [] = ap (map arc_value) c.in_ok-push.ensures.items ∙ map-append arc_value c.loop-relation.relations.items (c.in_ok-shared.shared ∷ []) in
     let wide = ap (λ (xs : List Lived). length xs) is in

@@ -1,7 +1,7 @@
 use Rattle.std.proofs.Common.{◌≡◌, ◌<◌, ◌-◌, ◌∙◌, [], ap, sym, subst, arith, length, map, get_or, ℕ, List}
 use Rattle.std.specs.Arc.{arc_value}
 use Rattle.std.proofs.lemmas.List.{length-map}
-use Rattle.db_value.specs.Relations.{columns_at}
+use Rattle.db_value.specs.Relations.{widths_at}
 use Rattle.db_value.specs.declared.schema.Relation.{Relation}
 use Rattle.record_page.specs.Page.{Rows}
 use Rattle.db_store.specs.LayoutGrowth.{is_last}
@@ -39,8 +39,8 @@ table_turned-requires-clause-lived c =
     let owns : List Rows = map arc_value c.in_ok-heads.heads.items in
     let rel : c.relations.result.now ≡ s.schema = c.relations.ensures.value in
     let rl = ap (λ (rs : List Relation). length rs) rel in
-    let empty : (r : ℕ) → r < length s.schema → own_at owns r ≡ record { fields = length (columns_at s.schema r); records = [] } =
-    λ r h. c.in_ok-heads.ensures.each r (omega (arith, h, rl)) ∙ ap (λ (rs : List Relation). record { fields = length (columns_at rs r); records = [] }) rel in
+    let empty : (r : ℕ) → r < length s.schema → own_at owns r ≡ record { widths = widths_at s.schema r; records = [] } =
+    λ r h. c.in_ok-heads.ensures.each r (omega (arith, h, rl)) ∙ ap (λ (rs : List Relation). record { widths = widths_at rs r; records = [] }) rel in
     let d : map arc_value c.deref.result.now ≡ owns = ap (map arc_value) c.deref.ensures.value in
     λ r g. subst (λ (xs : List Rows). IsLived (turned_in s.segments.items xs k.head r)) (sym d) (turned_ready s.schema s.lanes.items s.order.items s.segments.items s.stored s.laid few name o q there made after owns empty last r g)
 
@@ -59,8 +59,8 @@ returns c =
     let owns : List Rows = map arc_value c.in_ok-heads.heads.items in
     let rel : c.relations.result.now ≡ s.schema = c.relations.ensures.value in
     let rl = ap (λ (rs : List Relation). length rs) rel in
-    let empty : (r : ℕ) → r < length s.schema → own_at owns r ≡ record { fields = length (columns_at s.schema r); records = [] } =
-    λ r h. c.in_ok-heads.ensures.each r (omega (arith, h, rl)) ∙ ap (λ (rs : List Relation). record { fields = length (columns_at rs r); records = [] }) rel in
+    let empty : (r : ℕ) → r < length s.schema → own_at owns r ≡ record { widths = widths_at s.schema r; records = [] } =
+    λ r h. c.in_ok-heads.ensures.each r (omega (arith, h, rl)) ∙ ap (λ (rs : List Relation). record { widths = widths_at rs r; records = [] }) rel in
     let d : map arc_value c.deref.result.now ≡ owns = ap (map arc_value) c.deref.ensures.value in
     let head : arc_value c.of-head.result.table ≡ c.in_ok-table.table = ap arc_value c.of-head.ensures ∙ c.in_ok-new.ensures.ok in
     let are : AreTurned s.segments.items k (length k.seconds - 1) owns (length s.schema) c.table_turned.new.more.items c.in_ok-table.table =
