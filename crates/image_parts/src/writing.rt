@@ -175,11 +175,7 @@ fn put_rows(out: &mut Vec<u8>, rows: &[RowPart]) -> Result<(), AllocError>
     Ok(())
 }
 
-fn put_segment(
-    out: &mut Vec<u8>,
-    widths: &Widths,
-    segment: &SegmentPart,
-) -> Result<(), AllocError>
+fn put_segment(out: &mut Vec<u8>, widths: &Widths, segment: &SegmentPart) -> Result<(), AllocError>
     requires { FitsSegment widths.now segment.now }
     ensures { OnOk result (out.new.items ≡ out.old.items ++ segment_bytes widths.now segment.now) }
 {

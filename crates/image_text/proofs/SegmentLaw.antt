@@ -24,9 +24,8 @@ rooms_are : (c k : ℕ) → rooms c k ≡ k * c
 rooms_are c zero = omega arith
 rooms_are c (suc k) = let next : suc k * c ≡ c + k * c = omega arith in rw (rooms_are c k) (sym next)
 
-pub enough_room : (ws : List ℕ) (count : ℕ) → are_widths ws ≡ true → count ≤ rooms (capacity ws) (pages_for ws count)
-enough_room ws count h =
-    let some = capacity_some ws h in
+pub enough_room : (ws : List ℕ) (count : ℕ) → 0 < capacity ws → count ≤ rooms (capacity ws) (pages_for ws count)
+enough_room ws count some =
     let less : count + (capacity ws - 1) < (count + (capacity ws - 1)) / capacity ws * capacity ws + capacity ws = lt-div-mul-add {a = count + (capacity ws - 1)} {b = capacity ws} some in
     let is = rooms_are (capacity ws) (pages_for ws count) in
     rw is (omega (arith, less, some))
@@ -79,7 +78,7 @@ next_segment_takes ws lasts are s b x fits e =
     let p = bind_ok (repeat (next_page ws) (pages_for ws n.0.0) (n.0.0, no_records) n.0.1) (λ p. number_at w32 p.1 >>= λ k. test (nat_le k.0 (length lasts)) p.1 >>= λ u. repeat (next_row lasts n.0.0) k.0 no_rows k.1 >>= λ rows. Ok (s ++ record { head = h.0.0; records = p.0.1; rows = rows.0 } ∷ [], rows.1)) x few.2 in
     let t0 = (number_takes w32 (2 ^ 32) wide32 b h.0 fits h.1).0 in
     let t1 = (number_takes w32 (2 ^ 32) wide32 h.0.1 n.0 t0.rest_fits n.1).0 in
-    let t2 = pages_are ws (pages_for ws n.0.0) (n.0.0, no_records) n.0.1 p.0 are t1.rest_fits (enough_room ws n.0.0 are) p.1 in
+    let t2 = pages_are ws (pages_for ws n.0.0) (n.0.0, no_records) n.0.1 p.0 are t1.rest_fits (enough_room ws n.0.0 (capacity_some ws are)) p.1 in
     let rest = rows_part lasts n.0.0 h.0.0 p.0.0.1 s p.0.1 x t2.3.rest_fits p.2 in
     segment_text ws h.0.0 n.0.0 s t2.0 p.0.0.1 rest.0 b h.0.1 n.0.1 p.0.1 rest.1 x t0 t1 t2.1 t2.2 t2.3 t2.4 rest.2 rest.3 (number_takes w32 (2 ^ 32) wide32 h.0.1 n.0 t0.rest_fits n.1).1 rest.4 rest.5
 

@@ -48,11 +48,7 @@ fn put_keys_of<L: Ledger>(
 }
 
 // The records of a segment in a list, where nobody counts the steps.
-fn list_of<L: Ledger>(
-    alloc: Global,
-    segment: &Segment,
-    blank: Blank,
-) -> Result<Records, AllocError>
+fn list_of<L: Ledger>(alloc: Global, segment: &Segment, blank: Blank) -> Result<Records, AllocError>
     requires name { blank.name ≡ L.name }
     requires parts { blank.parts ≡ L.parts }
     requires some { 0 < L.parts }
