@@ -1,6 +1,8 @@
 -- The parts that images stand for, computed.
 use Rattle.std.proofs.Common.{◌≡◌, List, [], ◌∷◌, Some, None, refl}
 use Rattle.std.specs.Prelude.{pos, codes}
+use Rattle.db_value.specs.Relations.{number_column}
+use Rattle.db_value.specs.declared.value.Value.TheVariants.{Number}
 use Rattle.db_value.specs.declared.schema.Relation.{Relation}
 use Rattle.db_value.specs.declared.record.Record.{Record}
 use Rattle.db_value.specs.declared.entry.Entry.TheVariants.{Commit, Branch as NewBranch}
@@ -11,10 +13,10 @@ use Rattle.image_text.specs.declared.image.Image.{Image}
 use Rattle.db_image.specs.Parts.{parts_of}
 
 items : List Relation
-items = record { name = codes "items"; columns = codes "a" ∷ codes "b" ∷ [] } ∷ []
+items = record { name = codes "items"; columns = number_column (codes "a") ∷ number_column (codes "b") ∷ [] } ∷ []
 
 abbrev one : Record
-one = record { key = 7; fields = pos 1 ∷ pos 2 ∷ [] }
+one = record { key = 7; fields = Number (pos 1) ∷ Number (pos 2) ∷ [] }
 
 -- master alone
 abbrev new_image : Image
@@ -42,7 +44,7 @@ two_image = record {
 }
 
 abbrev grown : Layout
-grown = grow_layout (grow_layout (new_layout items) (Commit 0 None (record { relation = 0; key = 7; fields = Some (pos 1 ∷ pos 2 ∷ []) } ∷ []))) (NewBranch (codes "dev") (record { branch = 0; position = 1 }))
+grown = grow_layout (grow_layout (new_layout items) (Commit 0 None (record { relation = 0; key = 7; fields = Some (Number (pos 1) ∷ Number (pos 2) ∷ []); widths = Some (0 ∷ 0 ∷ []) } ∷ []))) (NewBranch (codes "dev") (record { branch = 0; position = 1 }))
 
 two_laid : layout_of_parts (parts_of two_image) ≡ grown
 unfolding items

@@ -9,7 +9,8 @@ use Rattle.std.proofs.lemmas.List.{length-map, append-nil}
 use Rattle.std.proofs.lemmas.List.Elements.{filter-append, All-nil, All-cons, All-append}
 use Rattle.std.proofs.lemmas.List.FromFn.{get_or-range_with_len, length-range_with_len}
 use Rattle.db_value.specs.Value.{Value}
-use Rattle.db_value.specs.Relations.{columns_at}
+use Rattle.db_value.specs.Widths.{meets}
+use Rattle.db_value.specs.Relations.{widths_at}
 use Rattle.db_value.specs.declared.record.Record.{Record}
 use Rattle.db_value.specs.declared.schema.Relation.{Relation}
 use Rattle.db_value.specs.declared.version.VersionPlace.{VersionPlace}
@@ -27,6 +28,7 @@ use Rattle.hybrid_store.specs.declared.parts.LayoutParts.{LayoutParts}
 use Rattle.hybrid_store.specs.Parts.{segment_laid, rows_from, layout_of_parts, no_segment_part, AreSound}
 use Rattle.hybrid_store.specs.Parts as laid
 use Rattle.image_text.specs.declared.image.SegmentPart.{SegmentPart}
+use Rattle.image_text.specs.declared.image.Format.{Format}
 use Rattle.image_text.specs.declared.image.Image.{Image}
 use Rattle.image_text.specs.Reading.{last_of}
 use Rattle.image_text.proofs.Counted.{both_true}
@@ -77,7 +79,7 @@ part_at relations r k (suc j) (ss ∷ sss) e =
 
 -- each segment is of a relation
 abbrev IsOf : List Relation → SegmentLaid → Type 0
-IsOf relations s = (s.relation < length relations) × (s.records.fields ≡ length (columns_at relations s.relation))
+IsOf relations s = (s.relation < length relations) × (s.records.widths ≡ widths_at relations s.relation)
 
 own_is : (relations : List Relation) (r : ℕ) (ss : List SegmentPart) → r < length relations → All (IsOf relations) (map (segment_part relations r) ss)
 own_is relations r [] l = All-nil (IsOf relations)
@@ -108,15 +110,15 @@ len_contents (x ∷ xs) =
     at true r = omega (arith, r)
     at false r = omega (arith, r)
 
-fields_have : (columns key : ℕ) (xs : List Record) (fields : List Value) → All (HasFields columns) xs → fields_in key xs ≡ Some fields → length fields ≡ columns
-fields_have columns key [] fields all e = absurd cc
-fields_have columns key (x ∷ xs) fields all e = at (x.key == key) e (fields_have columns key xs fields (λ k d l. all (suc k) d (omega (arith, l))))
+fields_have : (ws : List ℕ) (key : ℕ) (xs : List Record) (fields : List Value) → All (HasFields ws) xs → fields_in key xs ≡ Some fields → meets ws fields ≡ true
+fields_have ws key [] fields all e = absurd cc
+fields_have ws key (x ∷ xs) fields all e = at (x.key == key) e (fields_have ws key xs fields (λ k d l. all (suc k) d (omega (arith, l))))
   where
     some_is : Some x.fields ≡ Some fields → x.fields ≡ fields
     some_is h = cc
 
-    at : (q : Bool) → cond q (Some x.fields) (fields_in key xs) ≡ Some fields → (fields_in key xs ≡ Some fields → length fields ≡ columns) → length fields ≡ columns
-    at true h later = ap length (sym (some_is h)) ∙ all 0 x (omega arith)
+    at : (q : Bool) → cond q (Some x.fields) (fields_in key xs) ≡ Some fields → (fields_in key xs ≡ Some fields → meets ws fields ≡ true) → meets ws fields ≡ true
+    at true h later = ap (meets ws) (sym (some_is h)) ∙ all 0 x (omega arith)
     at false h later = later h
 
 -- ---- the layout
@@ -153,13 +155,13 @@ module _ (i : Image) (bases : List VersionPlace) (lasts : List ℕ) (is : IsImag
   pub there : (r : ℕ) → r < length rs → r < length i.segments
   there r h = let e = is.parts.count in omega (arith, e, h)
 
-  read_are : (r : ℕ) → r < length rs → AreSegments (length (columns_at rs r)) lasts (read r)
+  read_are : (r : ℕ) → r < length rs → AreSegments (widths_at rs r) lasts (read r)
   read_are r h = is.parts.segments r (there r h)
 
   whole : (r : ℕ) → r < length rs → (heads_once (length lasts) (read r) ≡ true) × (keys_once lasts (read r) ≡ true)
   whole r h = both_true (heads_once (length lasts) (read r)) (keys_once lasts (read r)) (all_at (λ (ss : List SegmentPart). heads_once (length lasts) ss && keys_once lasts ss) i.segments r none_read is.heads (there r h))
 
-  sits : (b r : ℕ) → Sits rs r (length (columns_at rs r)) lasts b (laid_segments rs r (read r)) 0 (read r)
+  sits : (b r : ℕ) → Sits rs r (widths_at rs r) lasts b (laid_segments rs r (read r)) 0 (read r)
   sits b r = record {
     at = λ j h. ap (λ m. get_or (laid_segments rs r (read r)) m no_segment) (omega arith) ∙ laid_at rs r (read r) j h;
     ends = let e = length_laid rs r (read r) in omega (arith, e);
@@ -174,7 +176,7 @@ module _ (i : Image) (bases : List VersionPlace) (lasts : List ℕ) (is : IsImag
   live b r m = live_in (laid_segments rs r (read r)) m (rows_from b 0 (map (segment_part rs r) (read r)))
 
   live_keys : (b r m : ℕ) → r < length rs → map key_of (live b r m) ≡ keys_at b m (read r)
-  live_keys b r m h = keys_are rs r (length (columns_at rs r)) lasts b (laid_segments rs r (read r)) 0 m (read r) (sits b r) (read_are r h).each
+  live_keys b r m h = keys_are rs r (widths_at rs r) lasts b (laid_segments rs r (read r)) 0 m (read r) (sits b r) (read_are r h).each
 
   live_table : (b r m : ℕ) → b < n → r < length rs → m < suc (last_of lasts b) → (are_distinct (map key_of (live b r m)) ≡ true) × (nat_le (length (map key_of (live b r m))) 262144 ≡ true)
   live_table b r m lb h lm = both_true (are_distinct (map key_of (live b r m))) (nat_le (length (map key_of (live b r m))) 262144) (ap is_table (live_keys b r m h) ∙ table_keys b r m lb h lm)
@@ -194,9 +196,9 @@ module _ (i : Image) (bases : List VersionPlace) (lasts : List ℕ) (is : IsImag
   rows_of b r lb h =
       let each = (read_are r h).each in
       record {
-        are = λ k lk. are_rows rs r (length (columns_at rs r)) lasts b (laid_segments rs r (read r)) 0 (read r) (sits b r) (read_are r h).each k no_row lk;
-        ascend = rows_rise rs r (length (columns_at rs r)) lasts b (laid_segments rs r (read r)) 0 (read r) (read_are r h).each;
-        headed = head_row rs r (length (columns_at rs r)) lasts b (laid_segments rs r (read r)) 0 (read r) (sits b r) (read_are r h).each (kept r h) (let e = one_each b r lb h in omega (arith, e));
+        are = λ k lk. are_rows rs r (widths_at rs r) lasts b (laid_segments rs r (read r)) 0 (read r) (sits b r) (read_are r h).each k no_row lk;
+        ascend = rows_rise rs r (widths_at rs r) lasts b (laid_segments rs r (read r)) 0 (read r) (read_are r h).each;
+        headed = head_row rs r (widths_at rs r) lasts b (laid_segments rs r (read r)) 0 (read r) (sits b r) (read_are r h).each (kept r h) (let e = one_each b r lb h in omega (arith, e));
         only = λ s t ls lt es et. let e = length_laid rs r (read r) in only_head b (read r) (one_each b r lb h) s t (omega (arith, e, ls)) (omega (arith, e, lt)) (eqb-true _ _ (sym (head_is b r s ls) ∙ es)) (eqb-true _ _ (sym (head_is b r t lt) ∙ et));
         apart = λ m key lm. times_one key (live b r m) (live_table b r m lb h lm).0;
       }
@@ -243,7 +245,7 @@ module _ (i : Image) (bases : List VersionPlace) (lasts : List ℕ) (is : IsImag
         subst (λ (c : Contents). finite.len c ≤ 262144) (sym (relation_is b r m lb k)) (omega (arith, e, most, less));
     counted = λ r key fields h e.
         let k : r < length rs = omega (arith, h, wide) in
-        fields_have (length (columns_at rs r)) key (live b r m) fields (live_have rs r (length (columns_at rs r)) lasts b (laid_segments rs r (read r)) 0 m (read r) (sits b r) (read_are r k).each)
+        fields_have (widths_at rs r) key (live b r m) fields (live_have rs r (widths_at rs r) lasts b (laid_segments rs r (read r)) 0 m (read r) (sits b r) (read_are r k).each)
         (sym (get_contents (live b r m) key) ∙ subst (λ (c : Contents). finite.get c key ≡ Some fields) (relation_is b r m lb k) e);
   }
     where
@@ -274,9 +276,9 @@ module _ (i : Image) (bases : List VersionPlace) (lasts : List ℕ) (is : IsImag
         let b = same_branches i bases lasts is in
         omega (arith, e, m, f, a, b);
     there = λ k h. (all_are rs 0 i.segments (let e = is.parts.count in omega (arith, e)) k no_segment_part h).0;
-    fields = λ k h. (all_are rs 0 i.segments (let e = is.parts.count in omega (arith, e)) k no_segment_part h).1;
+    widths = λ k h. (all_are rs 0 i.segments (let e = is.parts.count in omega (arith, e)) k no_segment_part h).1;
   }
 
 -- bytes that are an image stand for sound parts of a layout
-pub image_sound : (b : List ℕ) (i : Image) → image_at b ≡ Ok i → AreSound (parts_of i)
-image_sound b i e = let r = image_read b i e in are_sound i r.0 r.1 r.2
+pub image_sound : (format : Format) (b : List ℕ) (i : Image) → image_at format b ≡ Ok i → AreSound (parts_of i)
+image_sound format b i e = let r = image_read format b i e in are_sound i r.0 r.1 r.2

@@ -13,6 +13,7 @@ pub mod Laid
 pub mod Slots
 pub mod HeadNumbers
 pub mod Wholes
+pub mod FitsRelations
 pub mod FitLaw
 pub mod ImageWords
 pub mod ImageSteps

@@ -7,8 +7,12 @@ use Rattle.std.proofs.lemmas.List.{length_push, length-set, length-replicate, ge
 use Rattle.std.proofs.lemmas.List.Elements.{All-nil, All-append, All-map, All-filter}
 use Rattle.std.proofs.lemmas.List.FromFn.{get_or-map-range_with_len}
 use Rattle.plain_bits.specs.Truth.{bit_of}
-use Rattle.db_value.specs.Relations.{columns_at}
+use Rattle.db_value.specs.Relations.{widths_at}
+use Rattle.db_value.proofs.SchemaLemmas.{columns_widths}
+use Rattle.db_value.specs.declared.schema.Column.{Column}
 use Rattle.db_value.specs.declared.schema.Relation.{Relation}
+use Rattle.record_page.specs.Page.{capacity}
+use Rattle.record_page.proofs.Pages.{capacity_some}
 use Rattle.db_value.specs.declared.version.VersionPlace.{VersionPlace}
 use Rattle.db_store.specs.Dataset.{Dataset, IsMade}
 use Rattle.db_store.specs.Sound.{IsSound}
@@ -19,6 +23,7 @@ use Rattle.hybrid_store.specs.declared.parts.RowPart.{RowPart as RowLaid}
 use Rattle.hybrid_store.specs.declared.parts.LayoutParts.{LayoutParts}
 use Rattle.hybrid_store.specs.Readers.{made_version}
 use Rattle.hybrid_store.specs.Parts.{segment_laid, row_laid, rows_from, no_branch_part, layout_of_parts}
+use Rattle.image_text.specs.declared.image.Format.{Format}
 use Rattle.image_text.specs.declared.image.BranchPart.{BranchPart}
 use Rattle.image_text.specs.declared.image.MadeVersion.{MadeVersion}
 use Rattle.image_text.specs.declared.image.Delta.{Delta}
@@ -37,7 +42,7 @@ use Rattle.db_image.proofs.BranchesRead.{no_branch}
 use Rattle.db_image.proofs.VersionsRead.{zero_at, begun_is}
 use Rattle.db_image.proofs.SegmentsRead.{IsSegment}
 use Rattle.db_image.proofs.Read.{parts_read, whole_ok, IsImage}
-use Rattle.db_image.proofs.ReadWhole.{branches_are as seen_branches, versions_are as seen_versions}
+use Rattle.db_image.proofs.ReadWhole.{relation_counted, branches_are as seen_branches, versions_are as seen_versions}
 use Rattle.db_image.proofs.RulesSteps.{Keeps, first_read, if_tested, all_read}
 use Rattle.db_image.proofs.RulesLines.{relations_kept, IsBranchNext, AreBranchesOf, branches_kept, IsParent, IsVersionNext, AreVersionsOf, versions_kept}
 use Rattle.db_image.proofs.RulesRows.{IsBlankRow, IsRoomy, all_segments_kept}
@@ -62,11 +67,12 @@ record AreRuled (i : Image) (lasts : List ℕ) : Type 0 where
   versions : EachNext version_next (IsVersionNext (branches_seen i).1) (replicate (length (branches_seen i).1) 0, []) i.versions
   segments : All (λ ss. All (IsRoomy lasts) ss) i.segments
 
-few_columns : (seen rs : List Relation) → EachNext onto IsNextRelation seen rs → (r : ℕ) → length (columns_at rs r) ≤ 15
-few_columns seen [] each zero = omega arith
-few_columns seen [] each (suc r) = omega arith
-few_columns seen (x ∷ rs) each zero = each.0.few
-few_columns seen (x ∷ rs) each (suc r) = few_columns (seen ++ x ∷ []) rs each.1 r
+-- a page has room for a record of each relation
+some_room : (seen rs : List Relation) → EachNext onto IsNextRelation seen rs → (r : ℕ) → 0 < capacity (widths_at rs r)
+some_room seen [] each zero = omega arith
+some_room seen [] each (suc r) = omega arith
+some_room seen (x ∷ rs) each zero = capacity_some (map (λ (c : Column). c.width) x.columns) (columns_widths x (relation_counted seen x each.0))
+some_room seen (x ∷ rs) each (suc r) = some_room (seen ++ x ∷ []) rs each.1 r
 
 are_ruled : (rs : List Relation) (bs : (List BranchPart × List VersionPlace) × List ℕ) (vs : (List ℕ × List MadeVersion) × List ℕ) (sss : List (List SegmentPart)) → EachNext onto IsNextRelation [] rs → AreBranchesOf bs → AreVersionsOf bs.0.1 vs
     → All (λ ss. All (IsRoomy vs.0.0) ss) sss → AreRuled (record { relations = rs; branches = bs.0.0; versions = vs.0.1; segments = sss }) vs.0.0
@@ -83,27 +89,27 @@ are_ruled rs bs vs sss relations branches versions segments =
       segments = segments;
     }
 
-parts_ruled : (b : List ℕ) → Keeps (parts_at b) (λ x. AreRuled x.0 x.1)
+parts_ruled : (format : Format) (b : List ℕ) → Keeps (parts_at format b) (λ x. AreRuled x.0 x.1)
 unfolding parts_at
-parts_ruled b =
-    first_read _ (relations_kept b) (λ rs relations.
+parts_ruled format b =
+    first_read _ (relations_kept format b) (λ rs relations.
     first_read _ (branches_kept rs.1) (λ bs branches.
     first_read _ (versions_kept bs.0.1 bs.1) (λ vs versions.
-    first_read _ (all_segments_kept rs.0 vs.0.0 (few_columns [] rs.0 relations) (length rs.0) vs.1) (λ sss segments.
+    first_read _ (all_segments_kept rs.0 vs.0.0 (some_room [] rs.0 relations) (length rs.0) vs.1) (λ sss segments.
     if_tested (length sss.1 == 0) sss.1 _ (λ ended.
     all_read (record { relations = rs.0; branches = bs.0.0; versions = vs.0.1; segments = sss.0 }, vs.0.0) (are_ruled rs.0 bs vs sss.0 relations branches versions segments))))))
 
 abbrev done : {A : Type 0} → A → Result A ℕ
 done x = Ok x
 
-image_kept : (b : List ℕ) (i : Image) → image_at b ≡ Ok i → (bases : List VersionPlace) × (lasts : List ℕ) × IsImage i bases lasts × AreRuled i lasts
+image_kept : (format : Format) (b : List ℕ) (i : Image) → image_at format b ≡ Ok i → (bases : List VersionPlace) × (lasts : List ℕ) × IsImage i bases lasts × AreRuled i lasts
 unfolding image_at is_whole
-image_kept b i e =
-    let p = bind_ok (parts_at b) (λ parts. cond (is_whole parts.0 parts.1) (done parts.0) (Err 0)) i e in
+image_kept format b i e =
+    let p = bind_ok (parts_at format b) (λ parts. cond (is_whole parts.0 parts.1) (done parts.0) (Err 0)) i e in
     let w = whole_ok (is_whole p.0.0 p.0.1) p.0.0 i p.2 in
-    let parts = parts_read b p.0 p.1 in
+    let parts = parts_read format b p.0 p.1 in
     let two = both_true (are_made p.0.1 p.0.0.branches) (list_all (λ (ss : List SegmentPart). heads_once (length p.0.1) ss && keys_once p.0.1 ss) p.0.0.segments) w.0 in
-    (parts.0, p.0.1, subst (λ (j : Image). IsImage j parts.0 p.0.1) w.1 (record { parts = parts.1; made = two.0; heads = two.1 }), subst (λ (j : Image). AreRuled j p.0.1) w.1 ((parts_ruled b).holds p.0 p.1))
+    (parts.0, p.0.1, subst (λ (j : Image). IsImage j parts.0 p.0.1) w.1 (record { parts = parts.1; made = two.0; heads = two.1 }), subst (λ (j : Image). AreRuled j p.0.1) w.1 ((parts_ruled format b).holds p.0 p.1))
 
 map_self : {X : Type 0} (xs : List X) → map (λ x. x) xs ≡ xs
 map_self [] = refl
@@ -276,7 +282,7 @@ module _ (i : Image) (bases : List VersionPlace) (lasts : List ℕ) (is : IsImag
       let t = leb-true at.position (last_of lasts at.branch) (all_at (λ (x : BranchPart). is_there lasts x.origin) i.branches b no_branch is.made h) in
       subst (IsMade d) (sym (origin_is b h)) (made i bases lasts is (get_or i.branches b no_branch).origin (omega (arith, e, h)) t)
 
-  read_are : (r : ℕ) → r < length i.relations → All (IsSegment (length (columns_at i.relations r)) lasts) (read r)
+  read_are : (r : ℕ) → r < length i.relations → All (IsSegment (widths_at i.relations r) lasts) (read r)
   read_are r h = (is.parts.segments r (there i bases lasts is r h)).each
 
   roomy : (r : ℕ) → r < length i.relations → All (IsRoomy lasts) (read r)
@@ -294,15 +300,15 @@ module _ (i : Image) (bases : List VersionPlace) (lasts : List ℕ) (is : IsImag
       let last = last_is c (omega (arith, m, t)) in
       subst (λ k. count ≤ 65536 * last_at l k) same (subst (λ k. count ≤ 65536 * k) (sym last) few)
 
-  filled_one : (r columns : ℕ) (s : SegmentPart) → IsSegment columns lasts s → IsRoomy lasts s → IsFilled columns (last_at l) (segment_laid (segment_part i.relations r s))
-  filled_one r columns s one roomy_one = record { wide = one.records; room = λ b e. room_of s.head b (length s.records) one.head roomy_one.room e }
+  filled_one : (r : ℕ) (ws : List ℕ) (s : SegmentPart) → IsSegment ws lasts s → IsRoomy lasts s → IsFilled ws (last_at l) (segment_laid (segment_part i.relations r s))
+  filled_one r ws s one roomy_one = record { wide = one.records; room = λ b e. room_of s.head b (length s.records) one.head roomy_one.room e }
 
-  filled : (r : ℕ) → r < length i.relations → All (IsFilled (length (columns_at i.relations r)) (last_at l)) (segments_at l.segments r)
+  filled : (r : ℕ) → r < length i.relations → All (IsFilled (widths_at i.relations r) (last_at l)) (segments_at l.segments r)
   filled r h =
-      let columns : ℕ = length (columns_at i.relations r) in
-      subst (All (IsFilled (length (columns_at i.relations r)) (last_at l))) (sym (segments_are i bases lasts is r h))
-      (All-map (IsFilled columns (last_at l)) segment_laid (map (segment_part i.relations r) (read r))
-      (All-map (λ s. IsFilled columns (last_at l) (segment_laid s)) (segment_part i.relations r) (read r) (λ k e m. filled_one r columns (get_or (read r) k e) (read_are r h k e m) (roomy r h k e m))))
+      let ws : List ℕ = widths_at i.relations r in
+      subst (All (IsFilled (widths_at i.relations r) (last_at l))) (sym (segments_are i bases lasts is r h))
+      (All-map (IsFilled ws (last_at l)) segment_laid (map (segment_part i.relations r) (read r))
+      (All-map (λ s. IsFilled ws (last_at l) (segment_laid s)) (segment_part i.relations r) (read r) (λ k e m. filled_one r ws (get_or (read r) k e) (read_are r h k e m) (roomy r h k e m))))
 
   segments : HasSegments l
   segments = record {
@@ -320,5 +326,5 @@ module _ (i : Image) (bases : List VersionPlace) (lasts : List ℕ) (is : IsImag
   imaged : IsImaged l
   imaged = record { ordered = parts_in_order p sound_is; relations = ruled.relations; lines = lines; origins = origins; segments = segments }
 
-pub read_imaged : (b : List ℕ) (i : Image) → image_at b ≡ Ok i → IsImaged (layout_of_parts (parts_of i))
-read_imaged b i e = let k = image_kept b i e in imaged i k.0 k.1 k.2 k.3
+pub read_imaged : (format : Format) (b : List ℕ) (i : Image) → image_at format b ≡ Ok i → IsImaged (layout_of_parts (parts_of i))
+read_imaged format b i e = let k = image_kept format b i e in imaged i k.0 k.1 k.2 k.3

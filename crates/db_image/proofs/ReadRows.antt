@@ -1,35 +1,29 @@
 -- Segments that keep their rules are read from their spellings.
-use Rattle.std.proofs.Common.{◌≡◌, ◌⊎◌, inl, inr, ℕ, zero, suc, ◌+◌, ◌-◌, ◌*◌, ◌^◌, ◌<◌, ◌≤◌, ◌==◌, cond, ◌&&◌, ◌||◌, List, [], ◌∷◌, ◌++◌, length, take, drop, replicate, Ok, Err, refl, sym, ap, subst, ◌∙◌, arith, append_assoc, length-append, FitsSigned}
+use Rattle.std.proofs.Common.{◌≡◌, ◌⊎◌, inl, inr, ℕ, zero, suc, ◌+◌, ◌-◌, ◌*◌, ◌^◌, ◌<◌, ◌≤◌, ◌==◌, cond, ◌&&◌, ◌||◌, List, [], ◌∷◌, ◌++◌, length, take, drop, replicate, Ok, Err, refl, sym, ap, subst, ◌∙◌, arith, append_assoc, length-append, true}
 use Rattle.std.specs.Prelude.{nat_lt, nat_le}
-use Rattle.std.specs.List.{All, flat_map}
-use Rattle.std.specs.Int.{w16, w32, w64, from_le_bytes, to_le_bytes, cast_signed, cast_unsigned}
-use Rattle.std.proofs.Math.Nat.{mul-le-mul, mul-div-le, div-le_self}
-use Rattle.std.proofs.Math.Facts.{Fits-of_z, Fits-lt-pow}
-use Rattle.std.proofs.lemmas.Int.{to_z-of_z}
-use Rattle.std.proofs.lemmas.Nat.{from_le_bytes-to_le_bytes_8}
-use Rattle.std.proofs.lemmas.Bool.{and_from, lt-ltb, le-leb, le-ltb, eq-eqb, cases_lt}
-use Rattle.std.proofs.lemmas.List.{take_at, drop_at, append-nil, length-take, length-drop, length-replicate, take-append-drop}
+use Rattle.std.specs.List.{All, AllByRecursion, flat_map}
+use Rattle.std.specs.Int.{w32, w64, to_le_bytes}
+use Rattle.std.proofs.lemmas.Bool.{and_from, and_parts, lt-ltb, le-leb, le-ltb, eq-eqb, eqb-true, cases_lt}
+use Rattle.std.proofs.lemmas.List.{take_at, drop_at, append-nil, length-take, length-drop, take-append-drop}
 use Rattle.std.proofs.lemmas.List.Elements.{All-take, All-drop}
-use Rattle.db_value.specs.Value.{Value}
-use Rattle.db_value.specs.Relations.{columns_at}
+use Rattle.db_value.specs.Widths.{are_widths}
+use Rattle.db_value.specs.Relations.{widths_at}
 use Rattle.db_value.specs.declared.record.Record.{Record}
 use Rattle.db_value.specs.declared.schema.Relation.{Relation}
-use Rattle.record_page.specs.Page.{IsRecord}
+use Rattle.record_page.specs.Page.{Rows, IsRecord, IsPaged, capacity, is_page, rows_in}
+use Rattle.record_page.proofs.Pages.{capacity_some, page_made, rows_made}
 use Rattle.image_text.specs.declared.image.Delta.{Delta}
 use Rattle.image_text.specs.declared.image.RowPart.{RowPart}
 use Rattle.image_text.specs.declared.image.SegmentPart.{SegmentPart}
-use Rattle.image_text.specs.Reading.{◌>>=◌, test, enough, repeat, byte_at, number_at, signed_at, next_value, next_record, are_zero, page_in, at_fault, capacity, on_page, next_page, pages_for, next_word, spans, are_words, next_delta, last_of, rises, are_blank, next_row, has_room, next_segment, next_segments}
-use Rattle.image_text.specs.Spelling.{counted, value_bytes, record_bytes, page_bytes, pages_bytes, word_bytes, delta_bytes, row_bytes, segment_bytes}
+use Rattle.image_text.specs.Reading.{◌>>=◌, test, enough, repeat, number_at, is_page_of, on_page, next_page, pages_for, next_word, spans, are_words, next_delta, last_of, rises, are_blank, next_row, has_room, next_segment, next_segments}
+use Rattle.image_text.specs.Spelling.{counted, page_bytes, pages_bytes, word_bytes, delta_bytes, row_bytes, segment_bytes}
 use Rattle.image_text.proofs.PageLaw.{rooms}
 use Rattle.image_text.proofs.SegmentLaw.{enough_room}
 use Rattle.db_image.specs.Rules.{onto, IsDelta, IsNextRow, IsSegment, AreSegments}
-use Rattle.db_image.proofs.ReadSteps.{step, passes, test_is, enough_is, number_2, number_4, number_8, repeat_onto, repeat_all, all_of, zeros_zero}
+use Rattle.db_image.proofs.ReadSteps.{step, test_is, enough_is, number_4, number_8, repeat_onto, repeat_all}
 
 abbrev no_bytes : List ℕ
 no_bytes = []
-
-abbrev no_values : List Value
-no_values = []
 
 abbrev no_records : List Record
 no_records = []
@@ -47,110 +41,52 @@ no_segments = []
 abbrev pages_read : SegmentPart → ℕ × List Record
 pages_read s = (0, s.records)
 
--- what stands on a page before its last zeros, and these
-abbrev front : ℕ → List Record → List ℕ
-front columns xs = to_le_bytes w16 (length xs) ++ (columns ∷ (replicate 13 0 ++ flat_map record_bytes xs))
+each_of : {A : Type 0} (P : A → Type 0) (xs : List A) → All P xs → AllByRecursion P xs
+each_of P [] all = tt
+each_of P (x ∷ xs) all = (all 0 x (omega arith), each_of P xs (λ k d l. all (suc k) d (omega (arith, l))))
 
-abbrev zeros : ℕ → List Record → List ℕ
-zeros columns xs = replicate (4096 - length (front columns xs)) 0
+abbrev page_with : List ℕ → List Record → Rows
+page_with ws xs = record { widths = ws; records = xs }
 
-signed_back : (v : Value) (rest : List ℕ) → FitsSigned w64 v → signed_at (value_bytes v ++ rest) ≡ Ok (v, rest)
-unfolding value_bytes
-signed_back v rest fits =
-    let few : cast_unsigned w64 v < 2 ^ 64 = Fits-lt-pow {w = w64} {n = cast_unsigned w64 v} (Fits-of_z {w = w64} {z = v} fits) in
-    passes (nat_lt (length (to_le_bytes w64 (cast_unsigned w64 v) ++ rest)) 8) (Err 0) (Ok (cast_signed w64 (from_le_bytes w64 (to_le_bytes w64 (cast_unsigned w64 v))), rest)) (search arith)
-    ∙ ap (λ n. Ok (cast_signed w64 n, rest)) (from_le_bytes-to_le_bytes_8 (cast_unsigned w64 v) few)
-    ∙ ap (λ z. Ok (z, rest)) (to_z-of_z w64 v fits)
-
-value_back : (seen : List Value) (v : Value) (rest : List ℕ) → FitsSigned w64 v → next_value seen (value_bytes v ++ rest) ≡ Ok (onto seen v, rest)
-value_back seen v rest fits = step (λ x. Ok (seen ++ x.0 ∷ [], x.1)) (signed_back v rest fits)
-
-record_back : (columns : ℕ) (seen : List Record) (x : Record) (rest : List ℕ) → IsRecord columns x → next_record columns seen (record_bytes x ++ rest) ≡ Ok (onto seen x, rest)
-unfolding next_record
-record_back columns seen x rest is =
-    step (λ key. repeat next_value columns no_values key.1 >>= λ fields. Ok (seen ++ record { key = key.0; fields = fields.0 } ∷ [], fields.1)) (number_8 x.key (flat_map value_bytes x.fields ++ rest) is.key)
-    ∙ step (λ fields. Ok (seen ++ record { key = x.key; fields = fields.0 } ∷ [], fields.1)) (ap (λ n. repeat next_value n no_values (flat_map value_bytes x.fields ++ rest)) (sym is.width) ∙ repeat_all (FitsSigned w64) value_bytes next_value value_back no_values x.fields rest (all_of (FitsSigned w64) x.fields is.values))
-
-page_back : (columns : ℕ) (seen xs : List Record) → length xs < 2 ^ 16 → All (IsRecord columns) xs → page_in columns (length xs) seen (page_bytes columns xs) ≡ Ok (seen ++ xs, no_bytes)
-unfolding page_in page_bytes
-page_back columns seen xs few all =
-    step (λ n. test (n.0 == length xs) (page_bytes columns xs) >>= λ counted. byte_at n.1 >>= λ f. test (f.0 == columns) (n.1) >>= λ fields. enough 13 f.1 >>= λ there. test (are_zero (take 13 f.1)) (f.1) >>= λ blank. repeat (next_record columns) (length xs) seen (drop 13 f.1) >>= λ rows. test (are_zero rows.1) (rows.1) >>= λ ended. Ok (rows.0, no_bytes)) (number_2 (length xs) (columns ∷ (replicate 13 0 ++ (flat_map record_bytes xs ++ zeros columns xs))) few)
-    ∙ step (λ counted. byte_at (columns ∷ (replicate 13 0 ++ (flat_map record_bytes xs ++ zeros columns xs))) >>= λ f. test (f.0 == columns) ((columns ∷ (replicate 13 0 ++ (flat_map record_bytes xs ++ zeros columns xs)))) >>= λ fields. enough 13 f.1 >>= λ there. test (are_zero (take 13 f.1)) (f.1) >>= λ blank. repeat (next_record columns) (length xs) seen (drop 13 f.1) >>= λ rows. test (are_zero rows.1) (rows.1) >>= λ ended. Ok (rows.0, no_bytes)) (test_is (length xs == length xs) (page_bytes columns xs) (eq-eqb (length xs) (length xs) refl))
-    ∙ step (λ (f : ℕ × List ℕ). test (f.0 == columns) ((columns ∷ (replicate 13 0 ++ (flat_map record_bytes xs ++ zeros columns xs)))) >>= λ fields. enough 13 f.1 >>= λ there. test (are_zero (take 13 f.1)) (f.1) >>= λ blank. repeat (next_record columns) (length xs) seen (drop 13 f.1) >>= λ rows. test (are_zero rows.1) (rows.1) >>= λ ended. Ok (rows.0, no_bytes)) {x = (columns, (replicate 13 0 ++ (flat_map record_bytes xs ++ zeros columns xs)))} (refl)
-    ∙ step (λ fields. enough 13 (replicate 13 0 ++ (flat_map record_bytes xs ++ zeros columns xs)) >>= λ there. test (are_zero (take 13 (replicate 13 0 ++ (flat_map record_bytes xs ++ zeros columns xs)))) ((replicate 13 0 ++ (flat_map record_bytes xs ++ zeros columns xs))) >>= λ blank. repeat (next_record columns) (length xs) seen (drop 13 (replicate 13 0 ++ (flat_map record_bytes xs ++ zeros columns xs))) >>= λ rows. test (are_zero rows.1) (rows.1) >>= λ ended. Ok (rows.0, no_bytes)) (test_is (columns == columns) (columns ∷ (replicate 13 0 ++ (flat_map record_bytes xs ++ zeros columns xs))) (eq-eqb columns columns refl))
-    ∙ step (λ there. test (are_zero (take 13 (replicate 13 0 ++ (flat_map record_bytes xs ++ zeros columns xs)))) ((replicate 13 0 ++ (flat_map record_bytes xs ++ zeros columns xs))) >>= λ blank. repeat (next_record columns) (length xs) seen (drop 13 (replicate 13 0 ++ (flat_map record_bytes xs ++ zeros columns xs))) >>= λ rows. test (are_zero rows.1) (rows.1) >>= λ ended. Ok (rows.0, no_bytes)) (enough_is 13 (replicate 13 0 ++ (flat_map record_bytes xs ++ zeros columns xs)) (omega arith))
-    ∙ step (λ blank. repeat (next_record columns) (length xs) seen (drop 13 (replicate 13 0 ++ (flat_map record_bytes xs ++ zeros columns xs))) >>= λ rows. test (are_zero rows.1) (rows.1) >>= λ ended. Ok (rows.0, no_bytes)) (test_is (are_zero (take 13 (replicate 13 0 ++ (flat_map record_bytes xs ++ zeros columns xs)))) (replicate 13 0 ++ (flat_map record_bytes xs ++ zeros columns xs)) refl)
-    ∙ step (λ rows. test (are_zero rows.1) (rows.1) >>= λ ended. Ok (rows.0, no_bytes)) (repeat_all (IsRecord columns) record_bytes (next_record columns) (record_back columns) seen xs (zeros columns xs) all)
-    ∙ step (λ ended. Ok ((seen ++ xs), no_bytes)) (test_is (are_zero (zeros columns xs)) (zeros columns xs) (zeros_zero (4096 - length (front columns xs))))
-
-next_page_back : (columns : ℕ) (seen xs : List Record) (rest : List ℕ) (more : ℕ) → on_page columns more ≡ length xs → length (page_bytes columns xs) ≡ 4096 → length xs < 2 ^ 16 → All (IsRecord columns) xs → next_page columns (more, seen) (page_bytes columns xs ++ rest) ≡ Ok ((more - length xs, seen ++ xs), rest)
-unfolding next_page
-next_page_back columns seen xs rest more here size few all =
-    step (λ there. at_fault (page_bytes columns xs ++ rest) (drop 4096 (page_bytes columns xs ++ rest)) (page_in columns (on_page columns more) seen (take 4096 (page_bytes columns xs ++ rest))) >>= λ rows. Ok ((more - on_page columns more, rows.0), rows.1)) (enough_is 4096 (page_bytes columns xs ++ rest) (let n = length-append (page_bytes columns xs) rest in omega (arith, n, size)))
-    ∙ step (λ rows. Ok ((more - on_page columns more, rows.0), rows.1)) ((λ i. at_fault (page_bytes columns xs ++ rest) (drop_at (page_bytes columns xs) rest 4096 size i) (page_in columns (here i) seen (take_at (page_bytes columns xs) rest 4096 size i))) ∙ ap (at_fault (page_bytes columns xs ++ rest) rest) (page_back columns seen xs few all))
+next_page_back : (ws : List ℕ) (seen xs : List Record) (rest : List ℕ) (more : ℕ) → are_widths ws ≡ true → on_page ws more ≡ length xs → length xs ≤ capacity ws → All (IsRecord ws) xs
+    → next_page ws (more, seen) (page_bytes ws xs ++ rest) ≡ Ok ((more - length xs, seen ++ xs), rest)
+unfolding next_page page_bytes
+next_page_back ws seen xs rest more are here room all =
+    let paged : IsPaged (page_with ws xs) = record { are = are; room = room; each = each_of (IsRecord ws) xs all } in
+    let made = page_made (page_with ws xs) paged in
+    let rows = rows_made (page_with ws xs) paged in
+    let size : length (page_bytes ws xs) ≡ 4096 = eqb-true (length (page_bytes ws xs)) 4096 (and_parts (length (page_bytes ws xs) == 4096) _ made).0 in
+    let holds : is_page_of ws (on_page ws more) (page_bytes ws xs) ≡ true = and_from (is_page ws (page_bytes ws xs)) (length (rows_in ws (page_bytes ws xs)).records == on_page ws more) made
+    (eq-eqb (length (rows_in ws (page_bytes ws xs)).records) (on_page ws more) (ap (λ (p : Rows). length p.records) rows ∙ sym here)) in
+    step (λ there. test (is_page_of ws (on_page ws more) (take 4096 (page_bytes ws xs ++ rest))) (page_bytes ws xs ++ rest) >>= λ page. Ok ((more - on_page ws more, seen ++ (rows_in ws (take 4096 (page_bytes ws xs ++ rest))).records), drop 4096 (page_bytes ws xs ++ rest))) (enough_is 4096 (page_bytes ws xs ++ rest) (let n = length-append (page_bytes ws xs) rest in omega (arith, n, size)))
+    ∙ ap (λ (b : List ℕ). test (is_page_of ws (on_page ws more) b) (page_bytes ws xs ++ rest) >>= λ page. Ok ((more - on_page ws more, seen ++ (rows_in ws b).records), drop 4096 (page_bytes ws xs ++ rest))) (take_at (page_bytes ws xs) rest 4096 size)
+    ∙ step (λ page. Ok ((more - on_page ws more, seen ++ (rows_in ws (page_bytes ws xs)).records), drop 4096 (page_bytes ws xs ++ rest))) (test_is (is_page_of ws (on_page ws more) (page_bytes ws xs)) (page_bytes ws xs ++ rest) holds)
+    ∙ ap (λ (p : Rows). Ok ((more - on_page ws more, seen ++ p.records), drop 4096 (page_bytes ws xs ++ rest))) rows
+    ∙ ap (λ (b : List ℕ). Ok ((more - on_page ws more, seen ++ xs), b)) (drop_at (page_bytes ws xs) rest 4096 size)
     ∙ ap (λ n. Ok ((more - n, seen ++ xs), rest)) here
 
-values_size : (vs : List Value) → length (flat_map value_bytes vs) ≡ 8 * length vs
-unfolding value_bytes
-values_size [] = refl
-values_size (v ∷ vs) = let n = length-append (to_le_bytes w64 (cast_unsigned w64 v)) (flat_map value_bytes vs) in let m = values_size vs in omega (arith, n, m)
-
-records_size : (columns : ℕ) (xs : List Record) → All (IsRecord columns) xs → length (flat_map record_bytes xs) ≡ 8 * (columns + 1) * length xs
-records_size columns [] all = omega arith
-records_size columns (x ∷ xs) all =
-    let n = length-append (record_bytes x) (flat_map record_bytes xs) in
-    let v = values_size x.fields in
-    let w = (all 0 x (omega arith)).width in
-    let one : length (record_bytes x) ≡ 8 * (columns + 1) = omega (arith, v, w) in
-    let m = records_size columns xs (λ k d l. all (suc k) d (omega (arith, l))) in
-    let times : 8 * (columns + 1) * suc (length xs) ≡ 8 * (columns + 1) + 8 * (columns + 1) * length xs = search arith in
-    n ∙ (λ i. one i + m i) ∙ sym times
-
-page_size : (columns : ℕ) (xs : List Record) → All (IsRecord columns) xs → 8 * (columns + 1) * length xs ≤ 4080 → length (page_bytes columns xs) ≡ 4096
-unfolding page_bytes
-page_size columns xs all room =
-    let n = length-append (front columns xs) (zeros columns xs) in
-    let z = length-replicate {A = ℕ} (4096 - length (front columns xs)) 0 in
-    let s = records_size columns xs all in
-    let f : length (front columns xs) ≡ 16 + length (flat_map record_bytes xs) = omega arith in
-    omega (arith, n, z, s, f, room)
-
--- a page has no more records than fit
-page_room : (columns n : ℕ) → n ≤ capacity columns → 8 * (columns + 1) * n ≤ 4080
-page_room columns n l =
-    let a : 8 * (columns + 1) * n ≤ 8 * (columns + 1) * capacity columns = mul-le-mul {n₁ = 8 * (columns + 1)} {m₁ = n} {n₂ = 8 * (columns + 1)} {m₂ = capacity columns} (omega arith) l in
-    let b : 8 * (columns + 1) * capacity columns ≤ 4080 = mul-div-le 4080 (8 * (columns + 1)) in
-    omega (arith, a, b)
-
-on_page_most : (columns more : ℕ) → (on_page columns more ≤ capacity columns) × (on_page columns more ≤ more) × (more - on_page columns more ≤ more - capacity columns)
-on_page_most columns more = at (cases_lt more (capacity columns))
+on_page_most : (ws : List ℕ) (more : ℕ) → (on_page ws more ≤ capacity ws) × (on_page ws more ≤ more) × (more - on_page ws more ≤ more - capacity ws)
+on_page_most ws more = at (cases_lt more (capacity ws))
   where
-    at : (more < capacity columns) ⊎ (capacity columns ≤ more) → (on_page columns more ≤ capacity columns) × (on_page columns more ≤ more) × (more - on_page columns more ≤ more - capacity columns)
-    at (inl l) = subst (λ q. (cond q more (capacity columns) ≤ capacity columns) × (cond q more (capacity columns) ≤ more) × (more - cond q more (capacity columns) ≤ more - capacity columns)) (sym (lt-ltb more (capacity columns) l)) (omega (arith, l), omega arith, omega arith)
-    at (inr g) = subst (λ q. (cond q more (capacity columns) ≤ capacity columns) × (cond q more (capacity columns) ≤ more) × (more - cond q more (capacity columns) ≤ more - capacity columns)) (sym (le-ltb more (capacity columns) g)) (omega arith, omega (arith, g), omega arith)
+    at : (more < capacity ws) ⊎ (capacity ws ≤ more) → (on_page ws more ≤ capacity ws) × (on_page ws more ≤ more) × (more - on_page ws more ≤ more - capacity ws)
+    at (inl l) = subst (λ q. (cond q more (capacity ws) ≤ capacity ws) × (cond q more (capacity ws) ≤ more) × (more - cond q more (capacity ws) ≤ more - capacity ws)) (sym (lt-ltb more (capacity ws) l)) (omega (arith, l), omega arith, omega arith)
+    at (inr g) = subst (λ q. (cond q more (capacity ws) ≤ capacity ws) × (cond q more (capacity ws) ≤ more) × (more - cond q more (capacity ws) ≤ more - capacity ws)) (sym (le-ltb more (capacity ws) g)) (omega arith, omega (arith, g), omega arith)
 
-few_on_page : (columns : ℕ) → capacity columns < 2 ^ 16
-few_on_page columns = omega (arith, div-le_self 4080 (8 * (columns + 1)))
-
-pages_back : (columns : ℕ) → columns ≤ 15 → (k : ℕ) (seen xs : List Record) (rest : List ℕ) → length xs ≤ rooms (capacity columns) k → All (IsRecord columns) xs
-    → repeat (next_page columns) k (length xs, seen) (pages_bytes columns k xs ++ rest) ≡ Ok ((0, seen ++ xs), rest)
+pages_back : (ws : List ℕ) → are_widths ws ≡ true → (k : ℕ) (seen xs : List Record) (rest : List ℕ) → length xs ≤ rooms (capacity ws) k → All (IsRecord ws) xs
+    → repeat (next_page ws) k (length xs, seen) (pages_bytes ws k xs ++ rest) ≡ Ok ((0, seen ++ xs), rest)
 unfolding repeat
-pages_back columns most zero seen [] rest room all = λ i. Ok ((0, sym (append-nil seen) i), rest)
-pages_back columns most zero seen (x ∷ xs) rest room all = absurd (omega (arith, room))
-pages_back columns most (suc k) seen xs rest room all =
-    let n : ℕ = on_page columns (length xs) in
-    let limits = on_page_most columns (length xs) in
-    let size : length (take (on_page columns (length xs)) xs) ≡ on_page columns (length xs) = omega (arith, length-take (on_page columns (length xs)) xs, limits.1) in
-    let left : length (drop (on_page columns (length xs)) xs) ≡ length xs - on_page columns (length xs) = length-drop (on_page columns (length xs)) xs in
-    let own : All (IsRecord columns) (take (on_page columns (length xs)) xs) = All-take (IsRecord columns) (on_page columns (length xs)) xs all in
-    ap (λ b. next_page columns (length xs, seen) b >>= λ y. repeat (next_page columns) k y.0 y.1) (append_assoc (page_bytes columns (take (on_page columns (length xs)) xs)) (pages_bytes columns k (drop (on_page columns (length xs)) xs)) rest)
-    ∙ step (λ y. repeat (next_page columns) k y.0 y.1)
-    (next_page_back columns seen (take (on_page columns (length xs)) xs) (pages_bytes columns k (drop (on_page columns (length xs)) xs) ++ rest) (length xs) (sym size)
-    (page_size columns (take (on_page columns (length xs)) xs) own (page_room columns (length (take (on_page columns (length xs)) xs)) (omega (arith, size, limits.0))))
-    (omega (arith, size, limits.0, few_on_page columns)) own)
-    ∙ ap (λ m. repeat (next_page columns) k (m, seen ++ take (on_page columns (length xs)) xs) (pages_bytes columns k (drop (on_page columns (length xs)) xs) ++ rest)) (omega (arith, size, left))
-    ∙ pages_back columns most k (seen ++ take (on_page columns (length xs)) xs) (drop (on_page columns (length xs)) xs) rest (omega (arith, left, limits.2, room)) (All-drop (IsRecord columns) (on_page columns (length xs)) xs all)
-    ∙ ap (λ l. Ok ((0, l), rest)) (append_assoc seen (take (on_page columns (length xs)) xs) (drop (on_page columns (length xs)) xs) ∙ ap (λ l. seen ++ l) (take-append-drop (on_page columns (length xs)) xs))
+pages_back ws are zero seen [] rest room all = λ i. Ok ((0, sym (append-nil seen) i), rest)
+pages_back ws are zero seen (x ∷ xs) rest room all = absurd (omega (arith, room))
+pages_back ws are (suc k) seen xs rest room all =
+    let limits = on_page_most ws (length xs) in
+    let size : length (take (on_page ws (length xs)) xs) ≡ on_page ws (length xs) = omega (arith, length-take (on_page ws (length xs)) xs, limits.1) in
+    let left : length (drop (on_page ws (length xs)) xs) ≡ length xs - on_page ws (length xs) = length-drop (on_page ws (length xs)) xs in
+    ap (λ b. next_page ws (length xs, seen) b >>= λ y. repeat (next_page ws) k y.0 y.1) (append_assoc (page_bytes ws (take (on_page ws (length xs)) xs)) (pages_bytes ws k (drop (on_page ws (length xs)) xs)) rest)
+    ∙ step (λ y. repeat (next_page ws) k y.0 y.1)
+    (next_page_back ws seen (take (on_page ws (length xs)) xs) (pages_bytes ws k (drop (on_page ws (length xs)) xs) ++ rest) (length xs) are (sym size) (omega (arith, size, limits.0)) (All-take (IsRecord ws) (on_page ws (length xs)) xs all))
+    ∙ ap (λ m. repeat (next_page ws) k (m, seen ++ take (on_page ws (length xs)) xs) (pages_bytes ws k (drop (on_page ws (length xs)) xs) ++ rest)) (omega (arith, size, left))
+    ∙ pages_back ws are k (seen ++ take (on_page ws (length xs)) xs) (drop (on_page ws (length xs)) xs) rest (omega (arith, left, limits.2, room)) (All-drop (IsRecord ws) (on_page ws (length xs)) xs all)
+    ∙ ap (λ l. Ok ((0, l), rest)) (append_assoc seen (take (on_page ws (length xs)) xs) (drop (on_page ws (length xs)) xs) ∙ ap (λ l. seen ++ l) (take-append-drop (on_page ws (length xs)) xs))
 
 word_back : (seen : List ℕ) (w : ℕ) (rest : List ℕ) → w < 2 ^ 64 → next_word seen (word_bytes w ++ rest) ≡ Ok (onto seen w, rest)
 word_back seen w rest l = step (λ x. Ok (seen ++ x.0 ∷ [], x.1)) (number_8 w rest l)
@@ -186,26 +122,26 @@ row_back lasts size seen r rest is = at r.deltas refl
         (ap (λ b. next_row lasts size seen (to_le_bytes w32 r.branch ++ (to_le_bytes w32 r.from ++ b))) (append_assoc (delta_bytes d) (flat_map delta_bytes ds) rest)
         ∙ row_read lasts size seen r.branch r.from d ds rest (subst (IsNextRow lasts size seen) same is))
 
-segment_read : (columns : ℕ) (lasts : List ℕ) (seen : List SegmentPart) (s : SegmentPart) (rest : List ℕ) → 0 < columns → columns ≤ 15 → IsSegment columns lasts s → next_segment columns lasts seen (to_le_bytes w32 s.head ++ (to_le_bytes w32 (length s.records) ++ (pages_bytes columns (pages_for columns (length s.records)) s.records ++ (counted row_bytes s.rows ++ rest)))) ≡ Ok (onto seen s, rest)
+segment_read : (ws : List ℕ) (lasts : List ℕ) (seen : List SegmentPart) (s : SegmentPart) (rest : List ℕ) → are_widths ws ≡ true → IsSegment ws lasts s → next_segment ws lasts seen (to_le_bytes w32 s.head ++ (to_le_bytes w32 (length s.records) ++ (pages_bytes ws (pages_for ws (length s.records)) s.records ++ (counted row_bytes s.rows ++ rest)))) ≡ Ok (onto seen s, rest)
 unfolding next_segment
-segment_read columns lasts seen s rest some most is =
-    step (λ h. test (nat_le h.0 (length lasts)) (to_le_bytes w32 s.head ++ (to_le_bytes w32 (length s.records) ++ (pages_bytes columns (pages_for columns (length s.records)) s.records ++ (counted row_bytes s.rows ++ rest)))) >>= λ head. number_at w32 h.1 >>= λ n. test (has_room lasts h.0 n.0) (h.1) >>= λ few. repeat (next_page columns) (pages_for columns n.0) (n.0, no_records) n.1 >>= λ p. number_at w32 p.1 >>= λ k. test (nat_le k.0 (length lasts)) (p.1) >>= λ rows_few. repeat (next_row lasts n.0) k.0 no_rows k.1 >>= λ rows. Ok (seen ++ record { head = h.0; records = p.0.1; rows = rows.0 } ∷ [], rows.1)) (number_4 s.head (to_le_bytes w32 (length s.records) ++ (pages_bytes columns (pages_for columns (length s.records)) s.records ++ (counted row_bytes s.rows ++ rest))) is.head)
-    ∙ step (λ head. number_at w32 (to_le_bytes w32 (length s.records) ++ (pages_bytes columns (pages_for columns (length s.records)) s.records ++ (counted row_bytes s.rows ++ rest))) >>= λ n. test (has_room lasts s.head n.0) ((to_le_bytes w32 (length s.records) ++ (pages_bytes columns (pages_for columns (length s.records)) s.records ++ (counted row_bytes s.rows ++ rest)))) >>= λ few. repeat (next_page columns) (pages_for columns n.0) (n.0, no_records) n.1 >>= λ p. number_at w32 p.1 >>= λ k. test (nat_le k.0 (length lasts)) (p.1) >>= λ rows_few. repeat (next_row lasts n.0) k.0 no_rows k.1 >>= λ rows. Ok (seen ++ record { head = s.head; records = p.0.1; rows = rows.0 } ∷ [], rows.1)) (test_is (nat_le s.head (length lasts)) (to_le_bytes w32 s.head ++ (to_le_bytes w32 (length s.records) ++ (pages_bytes columns (pages_for columns (length s.records)) s.records ++ (counted row_bytes s.rows ++ rest)))) (le-leb s.head (length lasts) is.there))
-    ∙ step (λ n. test (has_room lasts s.head n.0) ((to_le_bytes w32 (length s.records) ++ (pages_bytes columns (pages_for columns (length s.records)) s.records ++ (counted row_bytes s.rows ++ rest)))) >>= λ few. repeat (next_page columns) (pages_for columns n.0) (n.0, no_records) n.1 >>= λ p. number_at w32 p.1 >>= λ k. test (nat_le k.0 (length lasts)) (p.1) >>= λ rows_few. repeat (next_row lasts n.0) k.0 no_rows k.1 >>= λ rows. Ok (seen ++ record { head = s.head; records = p.0.1; rows = rows.0 } ∷ [], rows.1)) (number_4 (length s.records) (pages_bytes columns (pages_for columns (length s.records)) s.records ++ (counted row_bytes s.rows ++ rest)) is.few)
-    ∙ step (λ few. repeat (next_page columns) (pages_for columns (length s.records)) ((length s.records), no_records) (pages_bytes columns (pages_for columns (length s.records)) s.records ++ (counted row_bytes s.rows ++ rest)) >>= λ p. number_at w32 p.1 >>= λ k. test (nat_le k.0 (length lasts)) (p.1) >>= λ rows_few. repeat (next_row lasts (length s.records)) k.0 no_rows k.1 >>= λ rows. Ok (seen ++ record { head = s.head; records = p.0.1; rows = rows.0 } ∷ [], rows.1)) (test_is (has_room lasts s.head (length s.records)) (to_le_bytes w32 (length s.records) ++ (pages_bytes columns (pages_for columns (length s.records)) s.records ++ (counted row_bytes s.rows ++ rest))) is.room)
-    ∙ step (λ p. number_at w32 p.1 >>= λ k. test (nat_le k.0 (length lasts)) (p.1) >>= λ rows_few. repeat (next_row lasts (length s.records)) k.0 no_rows k.1 >>= λ rows. Ok (seen ++ record { head = s.head; records = p.0.1; rows = rows.0 } ∷ [], rows.1)) (pages_back columns most (pages_for columns (length s.records)) no_records s.records (counted row_bytes s.rows ++ rest) (enough_room columns (length s.records) most) is.records)
+segment_read ws lasts seen s rest are is =
+    step (λ h. test (nat_le h.0 (length lasts)) (to_le_bytes w32 s.head ++ (to_le_bytes w32 (length s.records) ++ (pages_bytes ws (pages_for ws (length s.records)) s.records ++ (counted row_bytes s.rows ++ rest)))) >>= λ head. number_at w32 h.1 >>= λ n. test (has_room lasts h.0 n.0) (h.1) >>= λ few. repeat (next_page ws) (pages_for ws n.0) (n.0, no_records) n.1 >>= λ p. number_at w32 p.1 >>= λ k. test (nat_le k.0 (length lasts)) (p.1) >>= λ rows_few. repeat (next_row lasts n.0) k.0 no_rows k.1 >>= λ rows. Ok (seen ++ record { head = h.0; records = p.0.1; rows = rows.0 } ∷ [], rows.1)) (number_4 s.head (to_le_bytes w32 (length s.records) ++ (pages_bytes ws (pages_for ws (length s.records)) s.records ++ (counted row_bytes s.rows ++ rest))) is.head)
+    ∙ step (λ head. number_at w32 (to_le_bytes w32 (length s.records) ++ (pages_bytes ws (pages_for ws (length s.records)) s.records ++ (counted row_bytes s.rows ++ rest))) >>= λ n. test (has_room lasts s.head n.0) ((to_le_bytes w32 (length s.records) ++ (pages_bytes ws (pages_for ws (length s.records)) s.records ++ (counted row_bytes s.rows ++ rest)))) >>= λ few. repeat (next_page ws) (pages_for ws n.0) (n.0, no_records) n.1 >>= λ p. number_at w32 p.1 >>= λ k. test (nat_le k.0 (length lasts)) (p.1) >>= λ rows_few. repeat (next_row lasts n.0) k.0 no_rows k.1 >>= λ rows. Ok (seen ++ record { head = s.head; records = p.0.1; rows = rows.0 } ∷ [], rows.1)) (test_is (nat_le s.head (length lasts)) (to_le_bytes w32 s.head ++ (to_le_bytes w32 (length s.records) ++ (pages_bytes ws (pages_for ws (length s.records)) s.records ++ (counted row_bytes s.rows ++ rest)))) (le-leb s.head (length lasts) is.there))
+    ∙ step (λ n. test (has_room lasts s.head n.0) ((to_le_bytes w32 (length s.records) ++ (pages_bytes ws (pages_for ws (length s.records)) s.records ++ (counted row_bytes s.rows ++ rest)))) >>= λ few. repeat (next_page ws) (pages_for ws n.0) (n.0, no_records) n.1 >>= λ p. number_at w32 p.1 >>= λ k. test (nat_le k.0 (length lasts)) (p.1) >>= λ rows_few. repeat (next_row lasts n.0) k.0 no_rows k.1 >>= λ rows. Ok (seen ++ record { head = s.head; records = p.0.1; rows = rows.0 } ∷ [], rows.1)) (number_4 (length s.records) (pages_bytes ws (pages_for ws (length s.records)) s.records ++ (counted row_bytes s.rows ++ rest)) is.few)
+    ∙ step (λ few. repeat (next_page ws) (pages_for ws (length s.records)) ((length s.records), no_records) (pages_bytes ws (pages_for ws (length s.records)) s.records ++ (counted row_bytes s.rows ++ rest)) >>= λ p. number_at w32 p.1 >>= λ k. test (nat_le k.0 (length lasts)) (p.1) >>= λ rows_few. repeat (next_row lasts (length s.records)) k.0 no_rows k.1 >>= λ rows. Ok (seen ++ record { head = s.head; records = p.0.1; rows = rows.0 } ∷ [], rows.1)) (test_is (has_room lasts s.head (length s.records)) (to_le_bytes w32 (length s.records) ++ (pages_bytes ws (pages_for ws (length s.records)) s.records ++ (counted row_bytes s.rows ++ rest))) is.room)
+    ∙ step (λ p. number_at w32 p.1 >>= λ k. test (nat_le k.0 (length lasts)) (p.1) >>= λ rows_few. repeat (next_row lasts (length s.records)) k.0 no_rows k.1 >>= λ rows. Ok (seen ++ record { head = s.head; records = p.0.1; rows = rows.0 } ∷ [], rows.1)) (pages_back ws are (pages_for ws (length s.records)) no_records s.records (counted row_bytes s.rows ++ rest) (enough_room ws (length s.records) (capacity_some ws are)) is.records)
     ∙ step (λ k. test (nat_le k.0 (length lasts)) ((counted row_bytes s.rows ++ rest)) >>= λ rows_few. repeat (next_row lasts (length s.records)) k.0 no_rows k.1 >>= λ rows. Ok (seen ++ record { head = s.head; records = (pages_read s).1; rows = rows.0 } ∷ [], rows.1)) (number_4 (length s.rows) (flat_map row_bytes s.rows ++ rest) is.few_rows)
     ∙ step (λ rows_few. repeat (next_row lasts (length s.records)) (length s.rows) no_rows (flat_map row_bytes s.rows ++ rest) >>= λ rows. Ok (seen ++ record { head = s.head; records = (pages_read s).1; rows = rows.0 } ∷ [], rows.1)) (test_is (nat_le (length s.rows) (length lasts)) (counted row_bytes s.rows ++ rest) (le-leb (length s.rows) (length lasts) is.rows_within))
     ∙ step (λ rows. Ok (seen ++ record { head = s.head; records = (pages_read s).1; rows = rows.0 } ∷ [], rows.1)) (repeat_onto (IsNextRow lasts (length s.records)) row_bytes (next_row lasts (length s.records)) (row_back lasts (length s.records)) no_rows s.rows rest is.rows)
 
-pub segment_back : (columns : ℕ) → 0 < columns → columns ≤ 15 → (lasts : List ℕ) (seen : List SegmentPart) (s : SegmentPart) (rest : List ℕ) → IsSegment columns lasts s → next_segment columns lasts seen (segment_bytes columns s ++ rest) ≡ Ok (onto seen s, rest)
-segment_back columns some most lasts seen s rest is =
-    ap (λ b. next_segment columns lasts seen (to_le_bytes w32 s.head ++ (to_le_bytes w32 (length s.records) ++ b))) (append_assoc (pages_bytes columns (pages_for columns (length s.records)) s.records) (counted row_bytes s.rows) rest)
-    ∙ segment_read columns lasts seen s rest some most is
+pub segment_back : (ws : List ℕ) → are_widths ws ≡ true → (lasts : List ℕ) (seen : List SegmentPart) (s : SegmentPart) (rest : List ℕ) → IsSegment ws lasts s → next_segment ws lasts seen (segment_bytes ws s ++ rest) ≡ Ok (onto seen s, rest)
+segment_back ws are lasts seen s rest is =
+    ap (λ b. next_segment ws lasts seen (to_le_bytes w32 s.head ++ (to_le_bytes w32 (length s.records) ++ b))) (append_assoc (pages_bytes ws (pages_for ws (length s.records)) s.records) (counted row_bytes s.rows) rest)
+    ∙ segment_read ws lasts seen s rest are is
 
-pub segments_back : (relations : List Relation) (lasts : List ℕ) (seen : List (List SegmentPart)) (ss : List SegmentPart) (rest : List ℕ) → 0 < length (columns_at relations (length seen)) → length (columns_at relations (length seen)) ≤ 15 → AreSegments (length (columns_at relations (length seen))) lasts ss → next_segments relations lasts seen (counted (segment_bytes (length (columns_at relations (length seen)))) ss ++ rest) ≡ Ok (onto seen ss, rest)
+pub segments_back : (relations : List Relation) (lasts : List ℕ) (seen : List (List SegmentPart)) (ss : List SegmentPart) (rest : List ℕ) → are_widths (widths_at relations (length seen)) ≡ true → AreSegments (widths_at relations (length seen)) lasts ss → next_segments relations lasts seen (counted (segment_bytes (widths_at relations (length seen))) ss ++ rest) ≡ Ok (onto seen ss, rest)
 unfolding next_segments
-segments_back relations lasts seen ss rest some most are =
-    step (λ n. test (nat_lt n.0 (2 * length lasts)) (counted (segment_bytes (length (columns_at relations (length seen)))) ss ++ rest) >>= λ few. repeat (next_segment (length (columns_at relations (length seen))) lasts) n.0 no_segments n.1 >>= λ xs. Ok (seen ++ xs.0 ∷ [], xs.1)) (number_4 (length ss) (flat_map (segment_bytes (length (columns_at relations (length seen)))) ss ++ rest) are.count)
-    ∙ step (λ few. repeat (next_segment (length (columns_at relations (length seen))) lasts) (length ss) no_segments (flat_map (segment_bytes (length (columns_at relations (length seen)))) ss ++ rest) >>= λ xs. Ok (seen ++ xs.0 ∷ [], xs.1)) (test_is (nat_lt (length ss) (2 * length lasts)) (counted (segment_bytes (length (columns_at relations (length seen)))) ss ++ rest) (lt-ltb (length ss) (2 * length lasts) are.few))
-    ∙ step (λ xs. Ok (seen ++ xs.0 ∷ [], xs.1)) (repeat_all (IsSegment (length (columns_at relations (length seen))) lasts) (segment_bytes (length (columns_at relations (length seen)))) (next_segment (length (columns_at relations (length seen))) lasts) (segment_back (length (columns_at relations (length seen))) some most lasts) no_segments ss rest are.each)
+segments_back relations lasts seen ss rest wide are =
+    step (λ n. test (nat_lt n.0 (2 * length lasts)) (counted (segment_bytes (widths_at relations (length seen))) ss ++ rest) >>= λ few. repeat (next_segment (widths_at relations (length seen)) lasts) n.0 no_segments n.1 >>= λ xs. Ok (seen ++ xs.0 ∷ [], xs.1)) (number_4 (length ss) (flat_map (segment_bytes (widths_at relations (length seen))) ss ++ rest) are.count)
+    ∙ step (λ few. repeat (next_segment (widths_at relations (length seen)) lasts) (length ss) no_segments (flat_map (segment_bytes (widths_at relations (length seen))) ss ++ rest) >>= λ xs. Ok (seen ++ xs.0 ∷ [], xs.1)) (test_is (nat_lt (length ss) (2 * length lasts)) (counted (segment_bytes (widths_at relations (length seen))) ss ++ rest) (lt-ltb (length ss) (2 * length lasts) are.few))
+    ∙ step (λ xs. Ok (seen ++ xs.0 ∷ [], xs.1)) (repeat_all (IsSegment (widths_at relations (length seen)) lasts) (segment_bytes (widths_at relations (length seen))) (next_segment (widths_at relations (length seen)) lasts) (segment_back (widths_at relations (length seen)) wide lasts) no_segments ss rest are.each)

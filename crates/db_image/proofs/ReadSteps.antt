@@ -1,13 +1,12 @@
 -- Reading what is spelled, step by step.
 use Rattle.std.proofs.Common.{◌≡◌, ℕ, zero, suc, ◌^◌, ◌<◌, ◌≤◌, Bool, true, false, cond, List, [], ◌∷◌, ◌++◌, length, replicate, Result, Ok, Err, refl, sym, ap, ◌∙◌, arith, append_assoc}
 use Rattle.std.specs.Prelude.{nat_lt}
-use Rattle.std.specs.List.{All, AllByRecursion, flat_map}
-use Rattle.std.specs.Int.{w16, w32, w64, from_le_bytes, to_le_bytes}
+use Rattle.std.specs.List.{All, flat_map}
+use Rattle.std.specs.Int.{w32, w64, from_le_bytes, to_le_bytes}
 use Rattle.std.proofs.lemmas.Bool.{le-ltb}
 use Rattle.std.proofs.lemmas.List.{append-nil}
-use Rattle.std.proofs.lemmas.List.Elements.{All-nil, All-cons}
-use Rattle.std.proofs.lemmas.Nat.{from_le_bytes-to_le_bytes_2, from_le_bytes-to_le_bytes_4, from_le_bytes-to_le_bytes_8}
-use Rattle.image_text.specs.Reading.{◌>>=◌, Read, test, enough, repeat, number_at, are_zero}
+use Rattle.std.proofs.lemmas.Nat.{from_le_bytes-to_le_bytes_4, from_le_bytes-to_le_bytes_8}
+use Rattle.image_text.specs.Reading.{◌>>=◌, Read, test, enough, repeat, number_at}
 use Rattle.db_image.specs.Rules.{EachNext, after, onto}
 
 -- a step that gives a value
@@ -24,11 +23,6 @@ test_is false bytes e = absurd cc
 
 pub enough_is : (n : ℕ) (bytes : List ℕ) → n ≤ length bytes → enough n bytes ≡ Ok tt
 enough_is n bytes l = passes (nat_lt (length bytes) n) (Err 0) (Ok tt) (le-ltb (length bytes) n l)
-
-pub number_2 : (n : ℕ) (rest : List ℕ) → n < 2 ^ 16 → number_at w16 (to_le_bytes w16 n ++ rest) ≡ Ok (n, rest)
-number_2 n rest l =
-    passes (nat_lt (length (to_le_bytes w16 n ++ rest)) 2) (Err 0) (Ok (from_le_bytes w16 (to_le_bytes w16 n), rest)) (le-ltb (length (to_le_bytes w16 n ++ rest)) 2 (omega arith))
-    ∙ ap (λ m. Ok (m, rest)) (from_le_bytes-to_le_bytes_2 n l)
 
 pub number_4 : (n : ℕ) (rest : List ℕ) → n < 2 ^ 32 → number_at w32 (to_le_bytes w32 n ++ rest) ≡ Ok (n, rest)
 number_4 n rest l =
@@ -69,11 +63,3 @@ pub repeat_all : {A : Type 0} (P : A → Type 0) (spell : A → List ℕ) (item 
     → ((s : List A) (x : A) (rest : List ℕ) → P x → item s (spell x ++ rest) ≡ Ok (onto s x, rest))
     → (s xs : List A) (rest : List ℕ) → All P xs → repeat item (length xs) s (flat_map spell xs ++ rest) ≡ Ok (s ++ xs, rest)
 repeat_all P spell item one s xs rest all = repeat_onto (λ t x. P x) spell item one s xs rest (each_of P s xs all)
-
-pub all_of : {A : Type 0} (P : A → Type 0) (xs : List A) → AllByRecursion P xs → All P xs
-all_of P [] all = All-nil P
-all_of P (x ∷ xs) all = All-cons P x xs all.0 (all_of P xs all.1)
-
-pub zeros_zero : (n : ℕ) → are_zero (replicate n 0) ≡ true
-zeros_zero zero = refl
-zeros_zero (suc n) = zeros_zero n

@@ -79,12 +79,12 @@ none_combined : (m slot : ℕ) → combined (take m no_deltas) slot ≡ false
 none_combined zero slot = refl
 none_combined (suc m) slot = refl
 
-live_fields : (columns slot : ℕ) (xs : List Record) (p : ℕ → Bool) → All (HasFields columns) xs → All (HasFields columns) (live_from slot xs p)
-live_fields columns slot [] p all = All-nil (HasFields columns)
-live_fields columns slot (x ∷ xs) p all = at (p slot) (live_fields columns (suc slot) xs p (λ k d l. all (suc k) d (omega (arith, l))))
+live_fields : (ws : List ℕ) (slot : ℕ) (xs : List Record) (p : ℕ → Bool) → All (HasFields ws) xs → All (HasFields ws) (live_from slot xs p)
+live_fields ws slot [] p all = All-nil (HasFields ws)
+live_fields ws slot (x ∷ xs) p all = at (p slot) (live_fields ws (suc slot) xs p (λ k d l. all (suc k) d (omega (arith, l))))
   where
-    at : (r : Bool) → All (HasFields columns) (live_from (suc slot) xs p) → All (HasFields columns) (cond r (x ∷ live_from (suc slot) xs p) (live_from (suc slot) xs p))
-    at true h = All-cons (HasFields columns) x (live_from (suc slot) xs p) (all 0 x (omega arith)) h
+    at : (r : Bool) → All (HasFields ws) (live_from (suc slot) xs p) → All (HasFields ws) (cond r (x ∷ live_from (suc slot) xs p) (live_from (suc slot) xs p))
+    at true h = All-cons (HasFields ws) x (live_from (suc slot) xs p) (all 0 x (omega arith)) h
     at false h = h
 
 rises_lower : (k : ℕ) (rows : List Row) → rises (suc k) rows ≡ true → rises k rows ≡ true
@@ -107,7 +107,7 @@ laid_at relations r (s ∷ ss) (suc j) l = laid_at relations r ss j (omega (arit
 pub length_laid : (relations : List Relation) (r : ℕ) (ss : List SegmentPart) → length (laid_segments relations r ss) ≡ length ss
 length_laid relations r ss = length-map (map (segment_part relations r) ss) segment_laid ∙ length-map ss (segment_part relations r)
 
-module _ (relations : List Relation) (r columns : ℕ) (lasts : List ℕ) (b : ℕ) (whole : List Segment) where
+module _ (relations : List Relation) (r : ℕ) (ws : List ℕ) (lasts : List ℕ) (b : ℕ) (whole : List Segment) where
   -- segments stand in the whole list from a number on
   pub record Sits (k : ℕ) (ss : List SegmentPart) : Type 0 where
     pub at : (j : ℕ) → j < length ss → get_or whole (k + j) no_segment ≡ segment_laid (segment_part relations r (get_or ss j no_part))
@@ -134,13 +134,13 @@ module _ (relations : List Relation) (r columns : ℕ) (lasts : List ℕ) (b : �
   rows_one : (k : ℕ) (s : SegmentPart) (ss : List SegmentPart) → IsOne lasts b (length s.records) s.rows → rows k (s ∷ ss) ≡ one_laid k s ∷ rows (suc k) ss
   rows_one k s ss one = ap (λ l. map (laid.row_laid k) l ++ rows (suc k) ss) one.own
 
-  own : (s : SegmentPart) → IsSegment columns lasts s → IsNone b (length s.records) s.rows ⊎ IsOne lasts b (length s.records) s.rows
+  own : (s : SegmentPart) → IsSegment ws lasts s → IsNone b (length s.records) s.rows ⊎ IsOne lasts b (length s.records) s.rows
   own s is = own_row lasts b (length s.records) s.rows is.rows.ascend is.rows.each
 
-  later : (s : SegmentPart) (ss : List SegmentPart) → All (IsSegment columns lasts) (s ∷ ss) → All (IsSegment columns lasts) ss
+  later : (s : SegmentPart) (ss : List SegmentPart) → All (IsSegment ws lasts) (s ∷ ss) → All (IsSegment ws lasts) ss
   later s ss all = λ k d l. all (suc k) d (omega (arith, l))
 
-  first : (s : SegmentPart) (ss : List SegmentPart) → All (IsSegment columns lasts) (s ∷ ss) → IsSegment columns lasts s
+  first : (s : SegmentPart) (ss : List SegmentPart) → All (IsSegment ws lasts) (s ∷ ss) → IsSegment ws lasts s
   first s ss all = all 0 s (omega arith)
 
   -- its rows are rows
@@ -160,7 +160,7 @@ module _ (relations : List Relation) (r columns : ℕ) (lasts : List ℕ) (b : �
       inside n slot e (inl l) = subst (λ (x : Segment). slot < length x.records) (sym (sits_first k s ss sits)) l
       inside n slot e (inr l) = absurd (let z : true ≡ false = sym e ∙ no_bit k (length s.records) (row_of b s.rows) n slot l in cc)
 
-  pub are_rows : (k : ℕ) (ss : List SegmentPart) → Sits k ss → All (IsSegment columns lasts) ss → All (IsRow whole (suc (last_of lasts b))) (rows k ss)
+  pub are_rows : (k : ℕ) (ss : List SegmentPart) → Sits k ss → All (IsSegment ws lasts) ss → All (IsRow whole (suc (last_of lasts b))) (rows k ss)
   are_rows k [] sits all = All-nil (IsRow whole (suc (last_of lasts b)))
   are_rows k (s ∷ ss) sits all = at (own s (first s ss all)) (are_rows (suc k) ss (sits_later k s ss sits) (later s ss all))
     where
@@ -168,7 +168,7 @@ module _ (relations : List Relation) (r columns : ℕ) (lasts : List ℕ) (b : �
       at (inl none) rest = subst (All (IsRow whole (suc (last_of lasts b)))) (sym (rows_none k s ss none)) rest
       at (inr one) rest = subst (All (IsRow whole (suc (last_of lasts b)))) (sym (rows_one k s ss one)) (All-cons (IsRow whole (suc (last_of lasts b))) (one_laid k s) (rows (suc k) ss) (row_is k s ss sits one) rest)
 
-  pub rows_rise : (k : ℕ) (ss : List SegmentPart) → All (IsSegment columns lasts) ss → rises k (rows k ss) ≡ true
+  pub rows_rise : (k : ℕ) (ss : List SegmentPart) → All (IsSegment ws lasts) ss → rises k (rows k ss) ≡ true
   rows_rise k [] all = refl
   rows_rise k (s ∷ ss) all = at (own s (first s ss all)) (rows_rise (suc k) ss (later s ss all))
     where
@@ -178,7 +178,7 @@ module _ (relations : List Relation) (r columns : ℕ) (lasts : List ℕ) (b : �
 
   -- ---- its head
 
-  pub head_row : (k : ℕ) (ss : List SegmentPart) → Sits k ss → All (IsSegment columns lasts) ss → list_all is_kept ss ≡ true → 0 < heads_of b ss → has_head b whole (rows k ss) ≡ true
+  pub head_row : (k : ℕ) (ss : List SegmentPart) → Sits k ss → All (IsSegment ws lasts) ss → list_all is_kept ss ≡ true → 0 < heads_of b ss → has_head b whole (rows k ss) ≡ true
   head_row k [] sits all kept some = absurd (omega (arith, some))
   head_row k (s ∷ ss) sits all kept some = at (cases_eq s.head (suc b)) (own s (first s ss all)) (head_row (suc k) ss (sits_later k s ss sits) (later s ss all))
     where
@@ -213,7 +213,7 @@ module _ (relations : List Relation) (r columns : ℕ) (lasts : List ℕ) (b : �
   abbrev none : List ℕ
   none = []
 
-  pub keys_are : (k n : ℕ) (ss : List SegmentPart) → Sits k ss → All (IsSegment columns lasts) ss → map key_of (live_in whole n (rows k ss)) ≡ keys_at b n ss
+  pub keys_are : (k n : ℕ) (ss : List SegmentPart) → Sits k ss → All (IsSegment ws lasts) ss → map key_of (live_in whole n (rows k ss)) ≡ keys_at b n ss
   keys_are k n [] sits all = refl
   keys_are k n (s ∷ ss) sits all = at (own s (first s ss all)) (keys_are (suc k) n ss (sits_later k s ss sits) (later s ss all))
     where
@@ -232,16 +232,16 @@ module _ (relations : List Relation) (r columns : ℕ) (lasts : List ℕ) (b : �
           ∙ map-append key_of (live_of whole n (one_laid k s)) (live_in whole n (rows (suc k) ss))
           ∙ (λ i. own_keys i ++ rest i)
 
-  pub live_have : (k n : ℕ) (ss : List SegmentPart) → Sits k ss → All (IsSegment columns lasts) ss → All (HasFields columns) (live_in whole n (rows k ss))
-  live_have k n [] sits all = All-nil (HasFields columns)
+  pub live_have : (k n : ℕ) (ss : List SegmentPart) → Sits k ss → All (IsSegment ws lasts) ss → All (HasFields ws) (live_in whole n (rows k ss))
+  live_have k n [] sits all = All-nil (HasFields ws)
   live_have k n (s ∷ ss) sits all = at (own s (first s ss all)) (live_have (suc k) n ss (sits_later k s ss sits) (later s ss all))
     where
-      here : All (HasFields columns) (live_of whole n (one_laid k s))
-      here = subst (λ (x : Segment). All (HasFields columns) (live_from 0 x.records (bit (one_laid k s) n))) (sym (sits_first k s ss sits)) (live_fields columns 0 s.records (bit (one_laid k s) n) (first s ss all).records)
+      here : All (HasFields ws) (live_of whole n (one_laid k s))
+      here = subst (λ (x : Segment). All (HasFields ws) (live_from 0 x.records (bit (one_laid k s) n))) (sym (sits_first k s ss sits)) (live_fields ws 0 s.records (bit (one_laid k s) n) (first s ss all).records)
 
-      at : IsNone b (length s.records) s.rows ⊎ IsOne lasts b (length s.records) s.rows → All (HasFields columns) (live_in whole n (rows (suc k) ss)) → All (HasFields columns) (live_in whole n (rows k (s ∷ ss)))
-      at (inl h) rest = subst (λ l. All (HasFields columns) (live_in whole n l)) (sym (rows_none k s ss h)) rest
-      at (inr h) rest = subst (λ l. All (HasFields columns) (live_in whole n l)) (sym (rows_one k s ss h)) (All-append (HasFields columns) (live_of whole n (one_laid k s)) (live_in whole n (rows (suc k) ss)) here rest)
+      at : IsNone b (length s.records) s.rows ⊎ IsOne lasts b (length s.records) s.rows → All (HasFields ws) (live_in whole n (rows (suc k) ss)) → All (HasFields ws) (live_in whole n (rows k (s ∷ ss)))
+      at (inl h) rest = subst (λ l. All (HasFields ws) (live_in whole n l)) (sym (rows_none k s ss h)) rest
+      at (inr h) rest = subst (λ l. All (HasFields ws) (live_in whole n l)) (sym (rows_one k s ss h)) (All-append (HasFields ws) (live_of whole n (one_laid k s)) (live_in whole n (rows (suc k) ss)) here rest)
 
 -- ---- a branch has one head
 

@@ -5,7 +5,8 @@ use Rattle.std.proofs.lemmas.Bool.{eqb-true, eq-eqb, ne_eqb, lt-ltb, le-leb, cas
 use Rattle.std.proofs.lemmas.List.{length-append, length-map, get_or-map}
 use Rattle.std.proofs.lemmas.List.Elements.{All-nil, All-push}
 use Rattle.std.proofs.lemmas.List.FromFn.{get_or-map-range_with_len, length-map-range_with_len}
-use Rattle.db_value.specs.Relations.{columns_at}
+use Rattle.db_value.specs.Widths.{meets}
+use Rattle.db_value.specs.Relations.{widths_at}
 use Rattle.db_value.specs.declared.record.Record.{Record}
 use Rattle.record_page.specs.Page.{IsRecord}
 use Rattle.db_store.specs.Sound.{IsSound}
@@ -63,8 +64,8 @@ blank_of zero ds h = refl
 blank_of (suc from) [] h = ap (λ q. q || true) (ne_eqb (suc from) 0 (λ e. omega (arith, e)))
 blank_of (suc from) (d ∷ ds) h = λ i. ne_eqb (suc from) 0 (λ e. omega (arith, e)) i || are_blank (delta_image (h (omega arith) i) ∷ [])
 
-all_records : (columns : ℕ) (xs : List Record) → All (λ (x : Record). length x.fields ≡ columns) xs → All IsRanged xs → All (IsRecord columns) xs
-all_records columns xs wide ranged = λ k d l. record { key = (ranged k d l).key; width = wide k d l; values = (ranged k d l).values }
+all_records : (ws : List ℕ) (xs : List Record) → All (λ (x : Record). meets ws x.fields ≡ true) xs → All IsRanged xs → All (IsRecord ws) xs
+all_records ws xs wide ranged = λ k d l. record { key = (ranged k d l).key; meets = wide k d l; values = (ranged k d l).values }
 
 module _ (l : Layout) (laid : IsLaid l) (sound : IsSound (dataset_in l)) (within : AreWithin l) (are : AreInOrder l) (has : HasSegments l) (numbers : AllNumbersFit l) (r : ℕ) (hr : r < length l.schema) where
   abbrev ss : List Segment
@@ -141,7 +142,7 @@ module _ (l : Layout) (laid : IsLaid l) (sound : IsSound (dataset_in l)) (within
           (omega (arith, h), le-leb (size s) (65536 * last_of (lasts l) b) (subst (λ k. size s ≤ 65536 * k) same room))
       at (inr g) = absurd (let z : true ≡ false = sym (ap (is_head_of b) e ∙ eq-eqb b b refl) ∙ laid.heads r s b hr hs g in cc)
 
-  pub segment_ruled : (s : ℕ) → s < length ss → IsSegment (length (columns_at l.schema r)) (lasts l) (segment_image l r s)
+  pub segment_ruled : (s : ℕ) → s < length ss → IsSegment (widths_at l.schema r) (lasts l) (segment_image l r s)
   segment_ruled s hs =
       let head = head_there s hs (head_at ss s) refl in
       let f = lanes_few l are sound in
@@ -153,13 +154,13 @@ module _ (l : Layout) (laid : IsLaid l) (sound : IsSound (dataset_in l)) (within
         there = omega (arith, h, c);
         few = (numbers r hr s no_segment hs).few;
         room = head.1;
-        records = all_records (length (columns_at l.schema r)) (records_at ss s) (has.filled r hr s no_segment hs).wide (numbers r hr s no_segment hs).records;
+        records = all_records (widths_at l.schema r) (records_at ss s) (has.filled r hr s no_segment hs).wide (numbers r hr s no_segment hs).records;
         few_rows = omega (arith, n, f);
         rows_within = omega (arith, n, c);
         rows = rows_each s hs (length l.lanes) 0 [] (All-nil (λ (y : RowPart). y.branch < 0)) (omega arith);
       }
 
-  pub segments_ruled : AreSegments (length (columns_at l.schema r)) (lasts l) (segments_image l r)
+  pub segments_ruled : AreSegments (widths_at l.schema r) (lasts l) (segments_image l r)
   segments_ruled =
       let n = length-map-range_with_len (segment_image l r) 0 (length (segments_at l.segments r)) in
       let few = has.few r hr in
@@ -170,10 +171,10 @@ module _ (l : Layout) (laid : IsLaid l) (sound : IsSound (dataset_in l)) (within
         few = omega (arith, n, few, c);
         each = λ k d h.
             let g : k < length (segments_at l.segments r) = omega (arith, n, h) in
-            subst (IsSegment (length (columns_at l.schema r)) (lasts l)) (sym (get_or-map-range_with_len (segment_image l r) 0 (length (segments_at l.segments r)) k k d g (omega arith))) (segment_ruled k g);
+            subst (IsSegment (widths_at l.schema r) (lasts l)) (sym (get_or-map-range_with_len (segment_image l r) 0 (length (segments_at l.segments r)) k k d g (omega arith))) (segment_ruled k g);
       }
 
-by_from : (l : Layout) → ((r : ℕ) → r < length l.schema → AreSegments (length (columns_at l.schema r)) (lasts l) (segments_image l r)) → (m k : ℕ) → k + m ≤ length l.schema → AreByRelation l.schema (lasts l) k (map (segments_image l) (range_with_len k m))
+by_from : (l : Layout) → ((r : ℕ) → r < length l.schema → AreSegments (widths_at l.schema r) (lasts l) (segments_image l r)) → (m k : ℕ) → k + m ≤ length l.schema → AreByRelation l.schema (lasts l) k (map (segments_image l) (range_with_len k m))
 by_from l f zero k le = tt
 by_from l f (suc m) k le = (f k (omega (arith, le)), by_from l f m (k + 1) (omega (arith, le)))
 

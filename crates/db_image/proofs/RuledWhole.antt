@@ -8,7 +8,7 @@ use Rattle.std.proofs.lemmas.Bool.{and_from, eqb-true, eq-eqb, ne_eqb, le-leb, c
 use Rattle.std.proofs.lemmas.List.{length-map, length-replicate}
 use Rattle.std.proofs.lemmas.List.FromFn.{get_or-map-range_with_len, length-map-range_with_len}
 use Rattle.db_value.specs.Value.{Value}
-use Rattle.db_value.specs.Relations.{columns_at}
+use Rattle.db_value.specs.Relations.{widths_at}
 use Rattle.db_value.specs.declared.record.Record.{Record}
 use Rattle.db_value.specs.declared.version.VersionPlace.{VersionPlace}
 use Rattle.db_store.specs.Table.{Contents, relation_at}
@@ -28,7 +28,7 @@ use Rattle.image_text.specs.declared.image.RowPart.{RowPart}
 use Rattle.image_text.specs.declared.image.BranchPart.{BranchPart}
 use Rattle.image_text.specs.declared.image.SegmentPart.{SegmentPart}
 use Rattle.image_text.specs.Spelling.{segment_bytes}
-use Rattle.image_text.proofs.Counted.{some_columns}
+use Rattle.db_value.proofs.SchemaLemmas.{relation_widths}
 use Rattle.image_text.specs.Reading.{last_of, is_there}
 use Rattle.image_parts.specs.Walk.{no_segment as no_part}
 use Rattle.image_parts.specs.Whole.{are_made, has_row, is_kept, counts_from, heads_once, keys_at, are_distinct, is_table, is_keyed, keys_once, is_whole}
@@ -251,24 +251,24 @@ module _ (l : Layout) (laid : IsLaid l) (sound : IsSound (dataset_in l)) (counte
   rows_are : (b : ℕ) → b < length l.lanes → rows_from b 0 (map (segment_part l.schema r) parts) ≡ rows_in l r b
   rows_are b hb = ap (rows_from b 0) (sym (parts_are l r hr)) ∙ rows_back l r b hb hr ((within.lanes b hb).rows r hr)
 
-  read : (s : ℕ) → s < length ss → IsSegment (length (columns_at l.schema r)) (lasts l) (segment_image l r s)
+  read : (s : ℕ) → s < length ss → IsSegment (widths_at l.schema r) (lasts l) (segment_image l r s)
   read s hs =
-      let some = some_columns l.schema r hr counted.relations in
-      let a = segment_adds (length (columns_at l.schema r)) (lasts l) [] (segment_bytes (length (columns_at l.schema r)) (segment_image l r s) ++ []) (segment_image l r s ∷ [], [])
-      (segment_back (length (columns_at l.schema r)) some.0 some.1 (lasts l) [] (segment_image l r s) [] (segment_ruled l laid sound within are has numbers r hr s hs)) in
-      subst (IsSegment (length (columns_at l.schema r)) (lasts l)) (ap (λ (xs : List SegmentPart). get_or xs 0 no_part) (sym a.2)) a.1
+      let own = relation_widths l.schema r counted.relations hr in
+      let a = segment_adds (widths_at l.schema r) (lasts l) [] (segment_bytes (widths_at l.schema r) (segment_image l r s) ++ []) (segment_image l r s ∷ [], [])
+      (segment_back (widths_at l.schema r) own (lasts l) [] (segment_image l r s) [] (segment_ruled l laid sound within are has numbers r hr s hs)) in
+      subst (IsSegment (widths_at l.schema r) (lasts l)) (ap (λ (xs : List SegmentPart). get_or xs 0 no_part) (sym a.2)) a.1
 
-  all_read : All (IsSegment (length (columns_at l.schema r)) (lasts l)) parts
+  all_read : All (IsSegment (widths_at l.schema r) (lasts l)) parts
   all_read = λ k d h.
       let g : k < length ss = let n = parts_count in omega (arith, n, h) in
-      subst (IsSegment (length (columns_at l.schema r)) (lasts l)) (sym (part_is k d g)) (read k g)
+      subst (IsSegment (widths_at l.schema r) (lasts l)) (sym (part_is k d g)) (read k g)
 
   abbrev live : ℕ → ℕ → List Record
   live b m = live_in ss m (rows_in l r b)
 
   keys_live : (b m : ℕ) → b < length l.lanes → keys_at b m parts ≡ map key_of (live b m)
   keys_live b m hb =
-      sym (keys_are l.schema r (length (columns_at l.schema r)) (lasts l) b whole 0 m parts
+      sym (keys_are l.schema r (widths_at l.schema r) (lasts l) b whole 0 m parts
       (record {
         at = λ j h. ap (λ k. get_or whole k no_segment) (omega arith) ∙ laid_at l.schema r parts j h;
         ends = let n = length_laid l.schema r parts in omega (arith, n);

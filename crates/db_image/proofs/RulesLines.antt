@@ -1,17 +1,19 @@
 -- Relations, branches and versions that are read keep their rules, but for how great their numbers are.
 use Rattle.std.proofs.Common.{◌≡◌, ℕ, ◌<◌, ◌≤◌, Bool, true, false, ◌&&◌, not, List, [], length, take, drop, replicate, Option, Some, None, refl, arith}
 use Rattle.std.specs.Prelude.{nat_lt, nat_le, ◌==◌}
-use Rattle.std.specs.List.{list_any}
 use Rattle.std.specs.Int.{w32}
 use Rattle.std.proofs.lemmas.Bool.{and_parts, ltb-true, leb-true}
-use Rattle.db_value.specs.Text.{same, is_name}
+use Rattle.db_value.specs.Text.{is_name}
 use Rattle.db_value.specs.Schema.{is_declared}
+use Rattle.db_value.specs.declared.schema.Column.{Column}
 use Rattle.db_value.specs.declared.schema.Relation.{Relation}
 use Rattle.db_value.specs.declared.version.VersionPlace.{VersionPlace}
+use Rattle.image_text.specs.declared.image.Format.{Format}
 use Rattle.image_text.specs.declared.image.BranchPart.{BranchPart}
 use Rattle.image_text.specs.declared.image.MadeVersion.{MadeVersion}
-use Rattle.image_text.specs.Reading.{enough, byte_at, number_at, name_at, next_name, next_relation, relations_at, has_turn, is_earlier, is_position, next_branch, branches_at, last_of, is_begun, second_at, next_version, versions_at}
-use Rattle.db_image.specs.Rules.{EachNext, after, onto, IsNextName, IsNextRelation, branch_next, version_next}
+use Rattle.image_text.specs.Reading.{enough, byte_at, number_at, name_at, width_at, has_column, next_column, next_relation, relations_at, has_turn, is_earlier, is_position, next_branch, branches_at, last_of, is_begun, second_at, next_version, versions_at}
+use Rattle.image_text.proofs.Counted.{width_known}
+use Rattle.db_image.specs.Rules.{EachNext, after, onto, IsNextColumn, IsNextRelation, branch_next, version_next}
 use Rattle.db_image.proofs.RulesSteps.{Keeps, MakesOne, first_read, then_read, if_tested, either_read, all_read, so_kept, each_read, from_none}
 
 not_true : (b : Bool) → not b ≡ true → b ≡ false
@@ -29,34 +31,39 @@ name_kept b =
     if_tested (is_name (take n.0 n.1)) b _ (λ named.
     all_read (take n.0 n.1, drop n.0 n.1) named))))
 
-next_name_kept : (s : List (List ℕ)) (b : List ℕ) → Keeps (next_name s b) (MakesOne onto IsNextName s)
-unfolding next_name
-next_name_kept s b =
-    first_read _ (name_kept b) (λ n named.
-    if_tested (not (list_any (same n.0) s)) b _ (λ fresh.
-    all_read _ (n.0, refl, record { name = named; fresh = not_true _ fresh })))
+-- a width that is read is 0
+width_kept : (format : Format) (b : List ℕ) → Keeps (width_at format b) (λ x. x.0 ≡ 0)
+width_kept format b = record { holds = λ x e. width_known format b x e }
 
-next_relation_kept : (s : List Relation) (b : List ℕ) → Keeps (next_relation s b) (MakesOne onto IsNextRelation s)
+next_column_kept : (format : Format) (s : List Column) (b : List ℕ) → Keeps (next_column format s b) (MakesOne onto IsNextColumn s)
+unfolding next_column
+next_column_kept format s b =
+    first_read _ (name_kept b) (λ n named.
+    if_tested (not (has_column s n.0)) b _ (λ fresh.
+    first_read _ (width_kept format n.1) (λ w number.
+    all_read _ (record { name = n.0; width = w.0 }, refl, record { name = named; fresh = not_true _ fresh; number = number }))))
+
+next_relation_kept : (format : Format) (s : List Relation) (b : List ℕ) → Keeps (next_relation format s b) (MakesOne onto IsNextRelation s)
 unfolding next_relation
-next_relation_kept s b =
+next_relation_kept format s b =
     first_read _ (name_kept b) (λ name named.
     if_tested (not (is_declared s name.0)) b _ (λ fresh.
     then_read (byte_at name.1) _ (λ n.
     if_tested (nat_lt 0 n.0 && nat_le n.0 15) name.1 _ (λ counted.
-    first_read _ (each_read onto IsNextName next_name next_name_kept n.0 [] n.1) (λ columns made.
-    let m = from_none IsNextName n.0 columns made in
+    first_read _ (each_read onto IsNextColumn (next_column format) (next_column_kept format) n.0 [] n.1) (λ columns made.
+    let m = from_none IsNextColumn n.0 columns made in
     let two = and_parts (nat_lt 0 n.0) (nat_le n.0 15) counted in
     let some = ltb-true 0 n.0 two.0 in
     let few = leb-true n.0 15 two.1 in
     let count = m.0 in
     all_read _ (record { name = name.0; columns = columns.0 }, refl, record { name = named; fresh = not_true _ fresh; some = omega (arith, count, some); few = omega (arith, count, few); columns = m.1 }))))))
 
-pub relations_kept : (b : List ℕ) → Keeps (relations_at b) (λ x. EachNext onto IsNextRelation [] x.0)
+pub relations_kept : (format : Format) (b : List ℕ) → Keeps (relations_at format b) (λ x. EachNext onto IsNextRelation [] x.0)
 unfolding relations_at
-relations_kept b =
+relations_kept format b =
     then_read (byte_at b) _ (λ n.
     if_tested (nat_lt 0 n.0 && nat_le n.0 8) b _ (λ counted.
-    so_kept (each_read onto IsNextRelation next_relation next_relation_kept n.0 [] n.1) (λ rs made. (from_none IsNextRelation n.0 rs made).1)))
+    so_kept (each_read onto IsNextRelation (next_relation format) (next_relation_kept format) n.0 [] n.1) (λ rs made. (from_none IsNextRelation n.0 rs made).1)))
 
 -- ---- branches
 

@@ -2,17 +2,17 @@
 use Rattle.std.proofs.Common.{◌≡◌, ◌⊎◌, inl, inr, ℕ, zero, suc, ◌+◌, ◌-◌, ◌*◌, ◌<◌, ◌≤◌, true, ◌&&◌, ◌||◌, List, [], ◌∷◌, ◌++◌, length, take, drop, Ok, Err, refl, sym, ap, subst, ◌∙◌, arith}
 use Rattle.std.specs.Prelude.{nat_lt, nat_le, ◌==◌}
 use Rattle.std.specs.List.{All}
-use Rattle.std.specs.Int.{w16, w32, w64}
-use Rattle.std.proofs.lemmas.Bool.{cases_lt, lt-ltb, le-ltb}
+use Rattle.std.specs.Int.{w32, w64}
+use Rattle.std.proofs.lemmas.Bool.{cases_lt, lt-ltb, le-ltb, eqb-true, and_parts}
 use Rattle.std.proofs.lemmas.List.{length-append}
-use Rattle.db_value.specs.Value.{Value}
-use Rattle.db_value.specs.Relations.{columns_at}
+use Rattle.db_value.specs.Relations.{widths_at}
 use Rattle.db_value.specs.declared.record.Record.{Record}
 use Rattle.db_value.specs.declared.schema.Relation.{Relation}
+use Rattle.record_page.specs.Page.{capacity, is_page, rows_in}
 use Rattle.image_text.specs.declared.image.Delta.{Delta}
 use Rattle.image_text.specs.declared.image.RowPart.{RowPart}
 use Rattle.image_text.specs.declared.image.SegmentPart.{SegmentPart}
-use Rattle.image_text.specs.Reading.{Read, enough, repeat, byte_at, number_at, next_value, next_record, are_zero, page_in, at_fault, capacity, on_page, next_page, pages_for, next_word, spans, are_words, next_delta, rises, are_blank, last_of, next_row, has_room, next_segment, next_segments}
+use Rattle.image_text.specs.Reading.{Read, enough, repeat, number_at, is_page_of, on_page, next_page, pages_for, next_word, spans, are_words, next_delta, rises, are_blank, last_of, next_row, has_room, next_segment, next_segments}
 use Rattle.image_text.proofs.PageLaw.{rooms}
 use Rattle.image_text.proofs.SegmentLaw.{enough_room}
 use Rattle.db_image.specs.Rules.{onto}
@@ -21,84 +21,51 @@ use Rattle.db_image.proofs.RulesSteps.{Keeps, MakesOne, MakesAll, first_read, th
 
 -- ---- records
 
--- so many records more
-abbrev HasMore : List Record → ℕ → List Record × List ℕ → Type 0
-HasMore s count t = length t.0 ≡ length s + count
-
 -- nothing is asked of an item
 abbrev Any : {S A : Type 0} → S → A → Type 0
 Any s a = Unit {0}
 
-abbrev no_values : List Value
-no_values = []
-
 abbrev no_bytes : List ℕ
 no_bytes = []
 
-next_record_kept : (columns : ℕ) (s : List Record) (b : List ℕ) → Keeps (next_record columns s b) (MakesOne onto Any s)
-unfolding next_record
-next_record_kept columns s b =
-    then_read (number_at w64 b) _ (λ key.
-    then_read (repeat next_value columns no_values key.1) _ (λ fields.
-    all_read (s ++ record { key = key.0; fields = fields.0 } ∷ [], fields.1) (record { key = key.0; fields = fields.0 }, refl, tt)))
-
-more_read : (s : List Record) (count : ℕ) (t : List Record × List ℕ) → MakesAll onto Any count s t → HasMore s count t
-more_read s count t made = let e = ap length (made.2 ∙ after_onto s made.0) in let n = length-append s made.0 in let c = made.1 in omega (arith, e, n, c)
-
-page_in_kept : (columns count : ℕ) (s : List Record) (b : List ℕ) → Keeps (page_in columns count s b) (HasMore s count)
-unfolding page_in
-page_in_kept columns count s b =
-    then_read (number_at w16 b) _ (λ n.
-    if_tested (n.0 == count) b _ (λ counted.
-    then_read (byte_at n.1) _ (λ f.
-    if_tested (f.0 == columns) n.1 _ (λ wide.
-    then_read (enough 13 f.1) _ (λ there.
-    if_tested (are_zero (take 13 f.1)) f.1 _ (λ blank.
-    first_read _ (each_read onto Any (next_record columns) (next_record_kept columns) count s (drop 13 f.1)) (λ rows made.
-    if_tested (are_zero rows.1) rows.1 _ (λ ended.
-    all_read (rows.0, no_bytes) (more_read s count rows made)))))))))
-
--- a page is at fault as a whole
-page_of : (b rest : List ℕ) (s : List Record) (count : ℕ) (r : Read (List Record)) → Keeps r (HasMore s count) → Keeps (at_fault b rest r) (HasMore s count)
-page_of b rest s count (Ok x) k = all_read (x.0, rest) (k.holds x refl)
-page_of b rest s count (Err e) k = record { holds = λ x f. absurd cc }
-
 -- the records of one page more
-abbrev IsPage : ℕ → ℕ × List Record → (ℕ × List Record) × List ℕ → Type 0
-IsPage columns s t = (t.0.0 ≡ s.0 - on_page columns s.0) × (length t.0.1 ≡ length s.1 + on_page columns s.0)
+abbrev IsPage : List ℕ → ℕ × List Record → (ℕ × List Record) × List ℕ → Type 0
+IsPage ws s t = (t.0.0 ≡ s.0 - on_page ws s.0) × (length t.0.1 ≡ length s.1 + on_page ws s.0)
 
-next_page_kept : (columns : ℕ) (s : ℕ × List Record) (b : List ℕ) → Keeps (next_page columns s b) (IsPage columns s)
+next_page_kept : (ws : List ℕ) (s : ℕ × List Record) (b : List ℕ) → Keeps (next_page ws s b) (IsPage ws s)
 unfolding next_page
-next_page_kept columns s b =
+next_page_kept ws s b =
     then_read (enough 4096 b) _ (λ there.
-    first_read _ (page_of b (drop 4096 b) s.1 (on_page columns s.0) (page_in columns (on_page columns s.0) s.1 (take 4096 b)) (page_in_kept columns (on_page columns s.0) s.1 (take 4096 b))) (λ rows more.
-    all_read ((s.0 - on_page columns s.0, rows.0), rows.1) (refl, more)))
+    if_tested (is_page_of ws (on_page ws s.0) (take 4096 b)) b _ (λ page.
+    let count = eqb-true (length (rows_in ws (take 4096 b)).records) (on_page ws s.0) (and_parts (is_page ws (take 4096 b)) (length (rows_in ws (take 4096 b)).records == on_page ws s.0) page).1 in
+    let n = length-append s.1 (rows_in ws (take 4096 b)).records in
+    all_read ((s.0 - on_page ws s.0, s.1 ++ (rows_in ws (take 4096 b)).records), drop 4096 b) (refl, omega (arith, n, count))))
 
-left_over : (columns more : ℕ) → more - on_page columns more ≤ more - capacity columns
-left_over columns more = by (cases_lt more (capacity columns))
+left_over : (ws : List ℕ) (more : ℕ) → more - on_page ws more ≤ more - capacity ws
+left_over ws more = by (cases_lt more (capacity ws))
   where
-    by : (more < capacity columns) ⊎ (capacity columns ≤ more) → more - on_page columns more ≤ more - capacity columns
-    by (inl l) = rw (lt-ltb more (capacity columns) l) (omega arith)
-    by (inr g) = rw (le-ltb more (capacity columns) g) (omega arith)
+    by : (more < capacity ws) ⊎ (capacity ws ≤ more) → more - on_page ws more ≤ more - capacity ws
+    by (inl l) = rw (lt-ltb more (capacity ws) l) (omega arith)
+    by (inr g) = rw (le-ltb more (capacity ws) g) (omega arith)
 
-within : (columns more : ℕ) → on_page columns more ≤ more
-within columns more = by (cases_lt more (capacity columns))
+within : (ws : List ℕ) (more : ℕ) → on_page ws more ≤ more
+within ws more = by (cases_lt more (capacity ws))
   where
-    by : (more < capacity columns) ⊎ (capacity columns ≤ more) → on_page columns more ≤ more
-    by (inl l) = rw (lt-ltb more (capacity columns) l) (omega arith)
-    by (inr g) = rw (le-ltb more (capacity columns) g) (omega arith)
+    by : (more < capacity ws) ⊎ (capacity ws ≤ more) → on_page ws more ≤ more
+    by (inl l) = rw (lt-ltb more (capacity ws) l) (omega arith)
+    by (inr g) = rw (le-ltb more (capacity ws) g) (omega arith)
 
 -- all records are read where the pages hold them
-pages_kept : (columns k : ℕ) (s : ℕ × List Record) (b : List ℕ) → s.0 ≤ rooms (capacity columns) k → Keeps (repeat (next_page columns) k s b) (λ t. length t.0.1 ≡ length s.1 + s.0)
+pages_kept : (ws : List ℕ) (k : ℕ) (s : ℕ × List Record) (b : List ℕ) → s.0 ≤ rooms (capacity ws) k → Keeps (repeat (next_page ws) k s b) (λ t. length t.0.1 ≡ length s.1 + s.0)
 unfolding repeat
-pages_kept columns zero s b room = all_read (s, b) (omega (arith, room))
-pages_kept columns (suc k) s b room =
-    first_read _ (next_page_kept columns s b) (λ t is.
+pages_kept ws zero s b room = all_read (s, b) (omega (arith, room))
+pages_kept ws (suc k) s b room =
+    first_read _ (next_page_kept ws s b) (λ t is.
     let left = is.0 in
     let more = is.1 in
-    let over = left_over columns s.0 in
-    let most = within columns s.0 in
-    so_kept (pages_kept columns k t.0 t.1 (omega (arith, left, over, room))) (λ u n. omega (arith, n, left, more, most)))
+    let over = left_over ws s.0 in
+    let most = within ws s.0 in
+    so_kept (pages_kept ws k t.0 t.1 (omega (arith, left, over, room))) (λ u n. omega (arith, n, left, more, most)))
 
 -- ---- rows
 
@@ -151,14 +118,14 @@ no_records = []
 abbrev no_rows : List RowPart
 no_rows = []
 
-next_segment_kept : (columns : ℕ) (lasts : List ℕ) → columns ≤ 15 → (s : List SegmentPart) (b : List ℕ) → Keeps (next_segment columns lasts s b) (MakesOne onto (λ t x. IsRoomy lasts x) s)
+next_segment_kept : (ws lasts : List ℕ) → 0 < capacity ws → (s : List SegmentPart) (b : List ℕ) → Keeps (next_segment ws lasts s b) (MakesOne onto (λ t x. IsRoomy lasts x) s)
 unfolding next_segment
-next_segment_kept columns lasts fifteen s b =
+next_segment_kept ws lasts some s b =
     then_read (number_at w32 b) _ (λ h.
     if_tested (nat_le h.0 (length lasts)) b _ (λ there.
     then_read (number_at w32 h.1) _ (λ n.
     if_tested (has_room lasts h.0 n.0) h.1 _ (λ room.
-    first_read _ (pages_kept columns (pages_for columns n.0) (n.0, no_records) n.1 (enough_room columns n.0 fifteen)) (λ p size.
+    first_read _ (pages_kept ws (pages_for ws n.0) (n.0, no_records) n.1 (enough_room ws n.0 some)) (λ p size.
     then_read (number_at w32 p.1) _ (λ k.
     if_tested (nat_le k.0 (length lasts)) p.1 _ (λ rows_within.
     first_read _ (each_read onto (λ t x. IsBlankRow x) (next_row lasts n.0) (next_row_kept lasts n.0) k.0 no_rows k.1) (λ rows made.
@@ -169,15 +136,15 @@ next_segment_kept columns lasts fifteen s b =
 abbrev no_segments : List SegmentPart
 no_segments = []
 
-next_segments_kept : (relations : List Relation) (lasts : List ℕ) → ((r : ℕ) → length (columns_at relations r) ≤ 15) → (s : List (List SegmentPart)) (b : List ℕ) → Keeps (next_segments relations lasts s b) (MakesOne onto (λ t ss. All (IsRoomy lasts) ss) s)
+next_segments_kept : (relations : List Relation) (lasts : List ℕ) → ((r : ℕ) → 0 < capacity (widths_at relations r)) → (s : List (List SegmentPart)) (b : List ℕ) → Keeps (next_segments relations lasts s b) (MakesOne onto (λ t ss. All (IsRoomy lasts) ss) s)
 unfolding next_segments
-next_segments_kept relations lasts fifteen s b =
+next_segments_kept relations lasts some s b =
     then_read (number_at w32 b) _ (λ n.
     if_tested (nat_lt n.0 (2 * length lasts)) b _ (λ few.
-    first_read _ (each_read onto (λ t x. IsRoomy lasts x) (next_segment (length (columns_at relations (length s))) lasts) (next_segment_kept (length (columns_at relations (length s))) lasts (fifteen (length s))) n.0 no_segments n.1) (λ ss made.
+    first_read _ (each_read onto (λ t x. IsRoomy lasts x) (next_segment (widths_at relations (length s)) lasts) (next_segment_kept (widths_at relations (length s)) lasts (some (length s))) n.0 no_segments n.1) (λ ss made.
     all_read (s ++ ss.0 ∷ [], ss.1) (ss.0, refl, all_of (IsRoomy lasts) n.0 ss made))))
 
 -- the segments of all relations
-pub all_segments_kept : (relations : List Relation) (lasts : List ℕ) → ((r : ℕ) → length (columns_at relations r) ≤ 15) → (k : ℕ) (b : List ℕ) → Keeps (repeat (next_segments relations lasts) k [] b) (λ x. All (λ ss. All (IsRoomy lasts) ss) x.0)
-all_segments_kept relations lasts fifteen k b =
-    so_kept (each_read onto (λ t ss. All (IsRoomy lasts) ss) (next_segments relations lasts) (next_segments_kept relations lasts fifteen) k [] b) (λ x made. all_of (λ ss. All (IsRoomy lasts) ss) k x made)
+pub all_segments_kept : (relations : List Relation) (lasts : List ℕ) → ((r : ℕ) → 0 < capacity (widths_at relations r)) → (k : ℕ) (b : List ℕ) → Keeps (repeat (next_segments relations lasts) k [] b) (λ x. All (λ ss. All (IsRoomy lasts) ss) x.0)
+all_segments_kept relations lasts some k b =
+    so_kept (each_read onto (λ t ss. All (IsRoomy lasts) ss) (next_segments relations lasts) (next_segments_kept relations lasts some) k [] b) (λ x made. all_of (λ ss. All (IsRoomy lasts) ss) k x made)

@@ -6,7 +6,7 @@ use Rattle.std.proofs.lemmas.Bool.{and_parts, eqb-true, leb-true, cases_eq, case
 use Rattle.std.proofs.lemmas.List.{length-map, length-append, length_push, get_or_past}
 use Rattle.std.proofs.lemmas.List.Elements.{All-nil, All-cons, All-append}
 use Rattle.db_value.specs.Value.{Value}
-use Rattle.db_value.specs.Relations.{columns_at}
+use Rattle.db_value.specs.Relations.{widths_at}
 use Rattle.db_value.specs.declared.version.VersionPlace.{VersionPlace}
 use Rattle.db_value.specs.declared.record.Record.{Record}
 use Rattle.db_value.specs.declared.entry.Change.{Change}
@@ -14,7 +14,8 @@ use Rattle.db_value.specs.declared.entry.Entry.{Entry}
 use Rattle.db_value.specs.declared.entry.Entry.TheVariants.{Commit, Branch as NewBranch}
 use Rattle.db_value.specs.declared.schema.Relation.{Relation}
 use Rattle.db_store.specs.Dataset.{apply, IsMade}
-use Rattle.db_store.specs.Fits.{fits, change_fits, has_fields}
+use Rattle.db_store.specs.Fits.{fits, change_fits, has_fields, has_widths}
+use Rattle.db_value.specs.Widths.{meets}
 use Rattle.db_store.specs.Growth.{commit_parts, made_from, made_stays}
 use Rattle.db_store.specs.Sound.{IsSound}
 use Rattle.db_store.specs.Layout.{Segment, Row, Lane, Layout, no_lane, lane_at, records_at, segments_at, rows_at, dataset_in, new_layout, head_segment, head_row, slots_where, bit}
@@ -40,24 +41,28 @@ all_flat Q f (x ∷ xs) h = All-append Q (f x) (flat_map f xs) (h x) (all_flat Q
 
 -- ---- what changes put
 
--- a record has so many fields
-abbrev IsWide : ℕ → Record → Type 0
-IsWide columns x = length x.fields ≡ columns
+-- a record meets widths
+abbrev IsWide : List ℕ → Record → Type 0
+IsWide ws x = meets ws x.fields ≡ true
 
-puts_are : (schema : List Relation) (cs : List Change) (r : ℕ) → list_all (change_fits schema) cs ≡ true → All (IsWide (length (columns_at schema r))) (puts cs r) × (length (puts cs r) ≤ length cs)
-puts_are schema [] r e = (All-nil (IsWide (length (columns_at schema r))), omega arith)
-puts_are schema (c ∷ cs) r e = at (c.relation == r) refl c.fields (and_parts (nat_lt c.relation (length schema)) (has_fields (length (columns_at schema c.relation)) c.fields) two.0).1 (puts_are schema cs r two.1)
+puts_are : (schema : List Relation) (cs : List Change) (r : ℕ) → list_all (change_fits schema) cs ≡ true → All (IsWide (widths_at schema r)) (puts cs r) × (length (puts cs r) ≤ length cs)
+puts_are schema [] r e = (All-nil (IsWide (widths_at schema r)), omega arith)
+puts_are schema (c ∷ cs) r e = at (c.relation == r) refl c.fields own.0 (puts_are schema cs r two.1)
   where
     two : (change_fits schema c ≡ true) × (list_all (change_fits schema) cs ≡ true)
     two = and_parts (change_fits schema c) (list_all (change_fits schema) cs) e
 
-    at : (q : Bool) → (c.relation == r) ≡ q → (fields : Option (List Value)) → has_fields (length (columns_at schema c.relation)) fields ≡ true
-        → All (IsWide (length (columns_at schema r))) (puts cs r) × (length (puts cs r) ≤ length cs)
-        → All (IsWide (length (columns_at schema r))) (put_before q c.key fields (puts cs r)) × (length (put_before q c.key fields (puts cs r)) ≤ suc (length cs))
+    own : (has_fields (widths_at schema c.relation) c.fields ≡ true) × (has_widths (widths_at schema c.relation) c.fields c.widths ≡ true)
+    own = and_parts (has_fields (widths_at schema c.relation) c.fields) (has_widths (widths_at schema c.relation) c.fields c.widths)
+        (and_parts (nat_lt c.relation (length schema)) (has_fields (widths_at schema c.relation) c.fields && has_widths (widths_at schema c.relation) c.fields c.widths) two.0).1
+
+    at : (q : Bool) → (c.relation == r) ≡ q → (fields : Option (List Value)) → has_fields (widths_at schema c.relation) fields ≡ true
+        → All (IsWide (widths_at schema r)) (puts cs r) × (length (puts cs r) ≤ length cs)
+        → All (IsWide (widths_at schema r)) (put_before q c.key fields (puts cs r)) × (length (put_before q c.key fields (puts cs r)) ≤ suc (length cs))
     at true h (Some fields) w rest =
         let n = rest.1 in
-        let width : length fields ≡ length (columns_at schema r) = eqb-true (length fields) (length (columns_at schema c.relation)) w ∙ ap (λ k. length (columns_at schema k)) (eqb-true c.relation r h) in
-        (All-cons (IsWide (length (columns_at schema r))) (record { key = c.key; fields = fields }) (puts cs r) width rest.0, omega (arith, n))
+        let wide : meets (widths_at schema r) fields ≡ true = subst (λ k. meets (widths_at schema k) fields ≡ true) (eqb-true c.relation r h) w in
+        (All-cons (IsWide (widths_at schema r)) (record { key = c.key; fields = fields }) (puts cs r) wide rest.0, omega (arith, n))
     at true h None w rest = let n = rest.1 in (rest.0, omega (arith, n))
     at false h fields w rest = let n = rest.1 in (rest.0, omega (arith, n))
 
@@ -92,10 +97,10 @@ module _ (l : Layout) (b : ℕ) (second : Option VersionPlace) (changes : List C
   longer : last_at m b ≡ length (lane_at l b).seconds
   longer = let s = ap (λ (xs : List (Option VersionPlace)). length xs) (own_seconds l b second changes are sound h) in let n = length_push (lane_at l b).seconds second in omega (arith, s, n)
 
-  filled_after : (r : ℕ) (s : Segment) → IsFilled (length (columns_at l.schema r)) (last_at l) s → IsFilled (length (columns_at l.schema r)) (last_at m) (segment_after b (puts changes r) s)
+  filled_after : (r : ℕ) (s : Segment) → IsFilled (widths_at l.schema r) (last_at l) s → IsFilled (widths_at l.schema r) (last_at m) (segment_after b (puts changes r) s)
   filled_after r s is = at (is_head_of b s.head) refl
     where
-      at : (q : Bool) → is_head_of b s.head ≡ q → IsFilled (length (columns_at l.schema r)) (last_at m) (record { head = s.head; records = cond q (s.records ++ puts changes r) s.records })
+      at : (q : Bool) → is_head_of b s.head ≡ q → IsFilled (widths_at l.schema r) (last_at m) (record { head = s.head; records = cond q (s.records ++ puts changes r) s.records })
       at false e = record {
         wide = is.wide;
         room = λ c g. let a = is.room c g in let n = grown c in omega (arith, a, n);
@@ -109,7 +114,7 @@ module _ (l : Layout) (b : ℕ) (second : Option VersionPlace) (changes : List C
           let k = longer in
           let some = (laid.lanes b h).some in
           record {
-            wide = All-append (IsWide (length (columns_at l.schema r))) s.records (puts changes r) is.wide p.0;
+            wide = All-append (IsWide (widths_at l.schema r)) s.records (puts changes r) is.wide p.0;
             room = λ c g.
                 let same_branch : b ≡ c = some_same b c (sym own ∙ g) in
                 subst (λ d. length (s.records ++ puts changes r) ≤ 65536 * last_at m d) same_branch (omega (arith, size, a, n, few, k, some));
@@ -139,8 +144,8 @@ module _ (l : Layout) (b : ℕ) (second : Option VersionPlace) (changes : List C
         let f = has.few r hr in
         omega (arith, n, k, c, f);
     filled = λ r hr.
-        subst (All (IsFilled (length (columns_at l.schema r)) (last_at m))) (sym (segments_now r hr))
-        (all_map (IsFilled (length (columns_at l.schema r)) (last_at l)) (IsFilled (length (columns_at l.schema r)) (last_at m)) (segment_after b (puts changes r)) (segments_at l.segments r) (filled_after r) (has.filled r hr));
+        subst (All (IsFilled (widths_at l.schema r) (last_at m))) (sym (segments_now r hr))
+        (all_map (IsFilled (widths_at l.schema r) (last_at l)) (IsFilled (widths_at l.schema r) (last_at m)) (segment_after b (puts changes r)) (segments_at l.segments r) (filled_after r) (has.filled r hr));
     blank = λ c r hc hr. at c r hr (let n = count l b second changes are sound h in omega (arith, n, hc)) (cases_eq c b);
   }
     where
@@ -153,27 +158,27 @@ module _ (l : Layout) (b : ℕ) (second : Option VersionPlace) (changes : List C
 
 -- ---- a new branch
 
-filled_more : (columns : ℕ) (last now : ℕ → ℕ) (s : Segment) → ((c : ℕ) → last c ≤ now c) → IsFilled columns last s → IsFilled columns now s
-filled_more columns last now s more is = record { wide = is.wide; room = λ c g. let a = is.room c g in let n = more c in omega (arith, a, n) }
+filled_more : (ws : List ℕ) (last now : ℕ → ℕ) (s : Segment) → ((c : ℕ) → last c ≤ now c) → IsFilled ws last s → IsFilled ws now s
+filled_more ws last now s more is = record { wide = is.wide; room = λ c g. let a = is.room c g in let n = more c in omega (arith, a, n) }
 
-filled_without : (columns b : ℕ) (now : ℕ → ℕ) (s : Segment) → IsFilled columns now s → IsFilled columns now (without_head b s)
-filled_without columns b now s is = at (is_head_of b s.head)
+filled_without : (ws : List ℕ) (b : ℕ) (now : ℕ → ℕ) (s : Segment) → IsFilled ws now s → IsFilled ws now (without_head b s)
+filled_without ws b now s is = at (is_head_of b s.head)
   where
-    at : (q : Bool) → IsFilled columns now (internal_if q s)
+    at : (q : Bool) → IsFilled ws now (internal_if q s)
     at true = record { wide = is.wide; room = λ c g. absurd cc }
     at false = is
 
-filled_head : (columns b : ℕ) (now : ℕ → ℕ) → IsFilled columns now (head_segment b)
-filled_head columns b now = record { wide = All-nil (IsWide columns); room = λ c g. omega arith }
+filled_head : (ws : List ℕ) (b : ℕ) (now : ℕ → ℕ) → IsFilled ws now (head_segment b)
+filled_head ws b now = record { wide = All-nil (IsWide ws); room = λ c g. omega arith }
 
-filled_with : (columns b c : ℕ) (last now : ℕ → ℕ) (q : Bool) (ss : List Segment) → ((d : ℕ) → last d ≤ now d) → All (IsFilled columns last) ss → All (IsFilled columns now) (segments_with q b c ss)
-filled_with columns b c last now true ss more all =
-    All-append (IsFilled columns now) (map (without_head b) ss) (head_segment b ∷ head_segment c ∷ [])
-    (all_map (IsFilled columns last) (IsFilled columns now) (without_head b) ss (λ s is. filled_without columns b now s (filled_more columns last now s more is)) all)
-    (All-cons (IsFilled columns now) (head_segment b) (head_segment c ∷ []) (filled_head columns b now) (All-cons (IsFilled columns now) (head_segment c) [] (filled_head columns c now) (All-nil (IsFilled columns now))))
-filled_with columns b c last now false ss more all =
-    All-append (IsFilled columns now) ss (head_segment c ∷ []) (λ k d g. filled_more columns last now (get_or ss k d) more (all k d g))
-    (All-cons (IsFilled columns now) (head_segment c) [] (filled_head columns c now) (All-nil (IsFilled columns now)))
+filled_with : (ws : List ℕ) (b c : ℕ) (last now : ℕ → ℕ) (q : Bool) (ss : List Segment) → ((d : ℕ) → last d ≤ now d) → All (IsFilled ws last) ss → All (IsFilled ws now) (segments_with q b c ss)
+filled_with ws b c last now true ss more all =
+    All-append (IsFilled ws now) (map (without_head b) ss) (head_segment b ∷ head_segment c ∷ [])
+    (all_map (IsFilled ws last) (IsFilled ws now) (without_head b) ss (λ s is. filled_without ws b now s (filled_more ws last now s more is)) all)
+    (All-cons (IsFilled ws now) (head_segment b) (head_segment c ∷ []) (filled_head ws b now) (All-cons (IsFilled ws now) (head_segment c) [] (filled_head ws c now) (All-nil (IsFilled ws now))))
+filled_with ws b c last now false ss more all =
+    All-append (IsFilled ws now) ss (head_segment c ∷ []) (λ k d g. filled_more ws last now (get_or ss k d) more (all k d g))
+    (All-cons (IsFilled ws now) (head_segment c) [] (filled_head ws c now) (All-nil (IsFilled ws now)))
 
 length_with : (b c : ℕ) (q : Bool) (ss : List Segment) → length (segments_with q b c ss) ≤ length ss + 2
 length_with b c true ss = let n = length-append (map (without_head b) ss) (head_segment b ∷ head_segment c ∷ []) in let m = length-map ss (without_head b) in omega (arith, n, m)
@@ -234,8 +239,8 @@ module _ (l : Layout) (q : Bool) (name : List ℕ) (origin : VersionPlace) (are 
         let f = has.few r hr in
         omega (arith, n, k, c, f);
     filled = λ r hr.
-        subst (All (IsFilled (length (columns_at l.schema r)) (last_at wide))) (sym (segments_then r hr))
-        (filled_with (length (columns_at l.schema r)) origin.branch (length l.lanes) (last_at l) (last_at wide) q (segments_at l.segments r) more (has.filled r hr));
+        subst (All (IsFilled (widths_at l.schema r) (last_at wide))) (sym (segments_then r hr))
+        (filled_with (widths_at l.schema r) origin.branch (length l.lanes) (last_at l) (last_at wide) q (segments_at l.segments r) more (has.filled r hr));
     blank = λ c r hc hr. blank_then c r hr hc;
   }
 
@@ -279,8 +284,8 @@ new_imaged schema names = record {
   segments = record {
     few = λ r hr. let n = ap (λ (xs : List Segment). length xs) (at_relation schema (λ k. head_segment 0 ∷ []) r [] hr) in omega (arith, n);
     filled = λ r hr.
-        subst (All (IsFilled (length (columns_at schema r)) (last_at (new_layout schema)))) (sym (at_relation schema (λ k. head_segment 0 ∷ []) r [] hr))
-        (All-cons (IsFilled (length (columns_at schema r)) (last_at (new_layout schema))) (head_segment 0) [] (filled_head (length (columns_at schema r)) 0 (last_at (new_layout schema))) (All-nil (IsFilled (length (columns_at schema r)) (last_at (new_layout schema)))));
+        subst (All (IsFilled (widths_at schema r) (last_at (new_layout schema)))) (sym (at_relation schema (λ k. head_segment 0 ∷ []) r [] hr))
+        (All-cons (IsFilled (widths_at schema r) (last_at (new_layout schema))) (head_segment 0) [] (filled_head (widths_at schema r) 0 (last_at (new_layout schema))) (All-nil (IsFilled (widths_at schema r) (last_at (new_layout schema)))));
     blank = λ b r h hr. blank b r h hr;
   };
 }

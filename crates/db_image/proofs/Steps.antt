@@ -2,20 +2,24 @@
 use Rattle.std.proofs.Common.{◌≡◌, ℕ, zero, suc, ◌+◌, ◌-◌, ◌<◌, ◌≤◌, Bool, true, false, cond, ◌&&◌, ◌||◌, List, [], ◌∷◌, ◌++◌, length, take, drop, Option, Some, None, Ok, Err, refl, subst, arith}
 use Rattle.std.specs.Prelude.{nat_lt, nat_le, ◌==◌, set}
 use Rattle.std.specs.List.{All}
-use Rattle.std.specs.Int.{w16, w32, w64}
-use Rattle.std.proofs.lemmas.Bool.{ltb-true, leb-true}
+use Rattle.std.specs.Int.{w32, w64}
+use Rattle.std.proofs.lemmas.Bool.{and_from, ltb-true, leb-true, le-leb}
 use Rattle.std.proofs.lemmas.List.{length_push}
-use Rattle.std.proofs.lemmas.List.Elements.{All-push}
-use Rattle.db_value.specs.Value.{Value}
+use Rattle.std.proofs.lemmas.List.Elements.{All-nil, All-cons, All-append}
+use Rattle.db_value.specs.RowForm.{field_size, text_len, text_in, field_in, row_in}
+use Rattle.db_value.specs.Widths.{fits_width, meets}
+use Rattle.db_value.proofs.RowForms.{text_within}
 use Rattle.db_value.specs.declared.record.Record.{Record}
 use Rattle.db_value.specs.declared.version.VersionPlace.{VersionPlace}
+use Rattle.record_page.specs.Spelling.{record_size, record_in, records_in}
+use Rattle.record_page.specs.Page.{count_in, rows_in}
 use Rattle.image_text.specs.declared.image.BranchPart.{BranchPart}
 use Rattle.image_text.specs.declared.image.MadeVersion.{MadeVersion}
 use Rattle.image_text.specs.declared.image.Delta.{Delta}
 use Rattle.image_text.specs.declared.image.RowPart.{RowPart}
 use Rattle.image_text.specs.declared.image.SegmentPart.{SegmentPart}
-use Rattle.image_text.specs.Reading.{◌>>=◌, Read, test, enough, repeat, byte_at, number_at, name_at, next_value, next_record, page_in, at_fault, on_page, next_page, are_zero, has_turn, is_earlier, is_position, base_of, next_branch, last_of, is_begun, second_at, next_version, next_word, next_delta, spans, are_words, are_blank, rises, next_row}
-use Rattle.image_text.proofs.Loop.{bind_ok, ok_is, values_counted}
+use Rattle.image_text.specs.Reading.{◌>>=◌, Read, test, enough, repeat, byte_at, number_at, name_at, is_page_of, on_page, next_page, has_turn, is_earlier, is_position, base_of, next_branch, last_of, is_begun, second_at, next_version, next_word, next_delta, spans, are_words, are_blank, rises, next_row}
+use Rattle.image_text.proofs.Loop.{bind_ok, ok_is}
 use Rattle.image_text.proofs.Counted.{adds, tested, both_true}
 
 -- what each item keeps, all of them keep
@@ -30,20 +34,8 @@ repeat_keeps P item one (suc k) s b x p e =
 abbrev none : List ℕ
 none = []
 
-abbrev no_values : List Value
-no_values = []
-
 abbrev no_deltas : List Delta
 no_deltas = []
-
-abbrev no_records : List Record
-no_records = []
-
-abbrev no_rows : List RowPart
-no_rows = []
-
-abbrev no_segments : List SegmentPart
-no_segments = []
 
 -- ---- branches
 
@@ -131,45 +123,40 @@ version_adds bases s b x e =
 
 -- ---- records
 
--- so many fields
-abbrev pub HasFields : ℕ → Record → Type 0
-HasFields columns x = length x.fields ≡ columns
+-- fields that meet the widths
+abbrev pub HasFields : List ℕ → Record → Type 0
+HasFields ws x = meets ws x.fields ≡ true
 
-record_keeps : (columns : ℕ) (s : List Record) (b : List ℕ) (x : List Record × List ℕ) → All (HasFields columns) s → next_record columns s b ≡ Ok x → All (HasFields columns) x.0
-unfolding next_record
-record_keeps columns s b x all e =
-    let k = bind_ok (number_at w64 b) (λ k. repeat next_value columns no_values k.1 >>= λ f. Ok (s ++ record { key = k.0; fields = f.0 } ∷ [], f.1)) x e in
-    let f = bind_ok (repeat next_value columns no_values k.0.1) (λ f. Ok (s ++ record { key = k.0.0; fields = f.0 } ∷ [], f.1)) x k.2 in
-    let count : length f.0.0 ≡ columns = omega (arith, values_counted columns no_values k.0.1 f.0.0 f.0.1 f.1) in
-    subst (λ (y : List Record × List ℕ). All (HasFields columns) y.0) (ok_is (s ++ record { key = k.0.0; fields = f.0.0 } ∷ [], f.0.1) x f.2) (All-push (HasFields columns) s (record { key = k.0.0; fields = f.0.0 }) all count)
+short : (n : ℕ) (bytes : List ℕ) → length (take n bytes) ≤ n
+short zero bytes = omega arith
+short (suc n) [] = omega arith
+short (suc n) (b ∷ bytes) = let l = short n bytes in omega (arith, l)
 
-page_in_keeps : (columns count : ℕ) (s : List Record) (b : List ℕ) (x : List Record × List ℕ) → All (HasFields columns) s → page_in columns count s b ≡ Ok x → All (HasFields columns) x.0
-unfolding page_in
-page_in_keeps columns count s b x all e =
-    let n = bind_ok (number_at w16 b) (λ n. test (n.0 == count) b >>= λ c. byte_at n.1 >>= λ f. test (f.0 == columns) n.1 >>= λ g. enough 13 f.1 >>= λ h. test (are_zero (take 13 f.1)) f.1 >>= λ z. repeat (next_record columns) count s (drop 13 f.1) >>= λ rows. test (are_zero rows.1) rows.1 >>= λ d. Ok (rows.0, none)) x e in
-    let c = bind_ok (test (n.0.0 == count) b) (λ c. byte_at n.0.1 >>= λ f. test (f.0 == columns) n.0.1 >>= λ g. enough 13 f.1 >>= λ h. test (are_zero (take 13 f.1)) f.1 >>= λ z. repeat (next_record columns) count s (drop 13 f.1) >>= λ rows. test (are_zero rows.1) rows.1 >>= λ d. Ok (rows.0, none)) x n.2 in
-    let f = bind_ok (byte_at n.0.1) (λ f. test (f.0 == columns) n.0.1 >>= λ g. enough 13 f.1 >>= λ h. test (are_zero (take 13 f.1)) f.1 >>= λ z. repeat (next_record columns) count s (drop 13 f.1) >>= λ rows. test (are_zero rows.1) rows.1 >>= λ d. Ok (rows.0, none)) x c.2 in
-    let g = bind_ok (test (f.0.0 == columns) n.0.1) (λ g. enough 13 f.0.1 >>= λ h. test (are_zero (take 13 f.0.1)) f.0.1 >>= λ z. repeat (next_record columns) count s (drop 13 f.0.1) >>= λ rows. test (are_zero rows.1) rows.1 >>= λ d. Ok (rows.0, none)) x f.2 in
-    let h = bind_ok (enough 13 f.0.1) (λ h. test (are_zero (take 13 f.0.1)) f.0.1 >>= λ z. repeat (next_record columns) count s (drop 13 f.0.1) >>= λ rows. test (are_zero rows.1) rows.1 >>= λ d. Ok (rows.0, none)) x g.2 in
-    let z = bind_ok (test (are_zero (take 13 f.0.1)) f.0.1) (λ z. repeat (next_record columns) count s (drop 13 f.0.1) >>= λ rows. test (are_zero rows.1) rows.1 >>= λ d. Ok (rows.0, none)) x h.2 in
-    let rows = bind_ok (repeat (next_record columns) count s (drop 13 f.0.1)) (λ rows. test (are_zero rows.1) rows.1 >>= λ d. Ok (rows.0, none)) x z.2 in
-    let d = bind_ok (test (are_zero rows.0.1) rows.0.1) (λ d. Ok (rows.0.0, none)) x rows.2 in
-    subst (λ (y : List Record × List ℕ). All (HasFields columns) y.0) (ok_is (rows.0.0, none) x d.2) (repeat_keeps (All (HasFields columns)) (next_record columns) (record_keeps columns) count s (drop 13 f.0.1) rows.0 all rows.1)
+field_meets : (w : ℕ) (bytes : List ℕ) → fits_width w (field_in w bytes) ≡ true
+field_meets zero bytes = refl
+field_meets (suc w) bytes =
+    let text = take (suc w) bytes in
+    let a = short (text_len text) text in
+    let b = text_within text in
+    let c = short (suc w) bytes in
+    le-leb (length (text_in text)) (suc w) (omega (arith, a, b, c))
 
-at_fault_ok : {A : Type 0} (b rest : List ℕ) (r : Read A) (y : A × List ℕ) → at_fault b rest r ≡ Ok y → (x : A × List ℕ) × (r ≡ Ok x) × ((x.0, rest) ≡ y)
-at_fault_ok b rest (Ok x) y e = (x, refl, ok_is (x.0, rest) y e)
-at_fault_ok b rest (Err d) y e = absurd cc
+row_meets : (ws bytes : List ℕ) → meets ws (row_in ws bytes) ≡ true
+row_meets [] bytes = refl
+row_meets (w ∷ ws) bytes = and_from (fits_width w (field_in w bytes)) (meets ws (row_in ws (drop (field_size w) bytes))) (field_meets w bytes) (row_meets ws (drop (field_size w) bytes))
 
-pub page_keeps : (columns : ℕ) (s : ℕ × List Record) (b : List ℕ) (x : (ℕ × List Record) × List ℕ) → All (HasFields columns) s.1 → next_page columns s b ≡ Ok x → All (HasFields columns) x.0.1
+records_meet : (ws : List ℕ) (n : ℕ) (bytes : List ℕ) → All (HasFields ws) (records_in ws n bytes)
+records_meet ws zero bytes = All-nil (HasFields ws)
+records_meet ws (suc n) bytes = All-cons (HasFields ws) (record_in ws bytes) (records_in ws n (drop (record_size ws) bytes)) (row_meets ws (drop 8 bytes)) (records_meet ws n (drop (record_size ws) bytes))
+
+pub page_keeps : (ws : List ℕ) (s : ℕ × List Record) (b : List ℕ) (x : (ℕ × List Record) × List ℕ) → All (HasFields ws) s.1 → next_page ws s b ≡ Ok x → All (HasFields ws) x.0.1
 unfolding next_page
-page_keeps columns s b x all e =
-    let there = bind_ok (enough 4096 b) (λ there. at_fault b (drop 4096 b) (page_in columns (on_page columns s.0) s.1 (take 4096 b)) >>= λ rows. Ok ((s.0 - on_page columns s.0, rows.0), rows.1)) x e in
-    let rows = bind_ok (at_fault b (drop 4096 b) (page_in columns (on_page columns s.0) s.1 (take 4096 b))) (λ rows. Ok ((s.0 - on_page columns s.0, rows.0), rows.1)) x there.2 in
-    let p = at_fault_ok b (drop 4096 b) (page_in columns (on_page columns s.0) s.1 (take 4096 b)) rows.0 rows.1 in
-    let kept : All (HasFields columns) p.0.0 = page_in_keeps columns (on_page columns s.0) s.1 (take 4096 b) p.0 all p.1 in
-    let same_rows : All (HasFields columns) rows.0.0 = subst (λ (y : List Record × List ℕ). All (HasFields columns) y.0) p.2 kept in
-    let made : (ℕ × List Record) × List ℕ = ((s.0 - on_page columns s.0, rows.0.0), rows.0.1) in
-    subst (λ (y : (ℕ × List Record) × List ℕ). All (HasFields columns) y.0.1) (ok_is made x rows.2) same_rows
+page_keeps ws s b x all e =
+    let there = bind_ok (enough 4096 b) (λ there. test (is_page_of ws (on_page ws s.0) (take 4096 b)) b >>= λ page. Ok ((s.0 - on_page ws s.0, s.1 ++ (rows_in ws (take 4096 b)).records), drop 4096 b)) x e in
+    let page = bind_ok (test (is_page_of ws (on_page ws s.0) (take 4096 b)) b) (λ page. Ok ((s.0 - on_page ws s.0, s.1 ++ (rows_in ws (take 4096 b)).records), drop 4096 b)) x there.2 in
+    let made : (ℕ × List Record) × List ℕ = ((s.0 - on_page ws s.0, s.1 ++ (rows_in ws (take 4096 b)).records), drop 4096 b) in
+    subst (λ (y : (ℕ × List Record) × List ℕ). All (HasFields ws) y.0.1) (ok_is made x page.2)
+    (All-append (HasFields ws) s.1 (rows_in ws (take 4096 b)).records all (records_meet ws (count_in (take 4096 b)) (drop 16 (take 4096 b))))
 
 -- ---- rows
 

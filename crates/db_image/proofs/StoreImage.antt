@@ -3,6 +3,7 @@ use Rattle.std.proofs.Common.{◌≡◌, ℕ, List, sym, ap, ◌∙◌, arith}
 use Rattle.db_store.specs.State.{laid}
 use Rattle.hybrid_store.specs.declared.store.HybridStore.{HybridStore}
 use Rattle.hybrid_store.specs.Store.{layout_of, state_of}
+use Rattle.image_text.specs.declared.image.Format.TheVariants.{Two}
 use Rattle.image_text.specs.Spelling.{spelling}
 use Rattle.image_parts.specs.Whole.{image_at}
 use Rattle.db_image.specs.Images.{image_of}
@@ -13,9 +14,9 @@ use Rattle.db_image.proofs.ReadWhole.{image_back}
 use Rattle.db_image.proofs.Ruled.{ruled}
 use Rattle.db_image.proofs.StoreWithin.{are_within}
 
-pub store_image : (s : HybridStore) (bytes : List ℕ) → bytes ≡ spelling (image_of (layout_of s)) → AllNumbersFit (layout_of s) → IsImaged (layout_of s) → IsImageOf bytes (state_of s)
+pub store_image : (s : HybridStore) (bytes : List ℕ) → bytes ≡ spelling Two (image_of (layout_of s)) → AllNumbersFit (layout_of s) → IsImaged (layout_of s) → IsImageOf Two bytes (state_of s)
 store_image s bytes e numbers is = record {
   image = image_of (layout_of s);
-  read = ap image_at e ∙ image_back (image_of (layout_of s)) (ruled (layout_of s) s.laid s.sound s.counted (are_within s.schema s.lanes.items s.order.items s.segments.items s.laid) (let n = s.numbered in omega (arith, n)) numbers is);
+  read = ap (image_at Two) e ∙ image_back Two (image_of (layout_of s)) (ruled (layout_of s) s.laid s.sound s.counted (are_within s.schema s.lanes.items s.order.items s.segments.items s.laid) (let n = s.numbered in omega (arith, n)) numbers is);
   layout = ap laid (sym (layout_back (layout_of s) (are_within s.schema s.lanes.items s.order.items s.segments.items s.laid) is.ordered));
 }

@@ -2,7 +2,7 @@
 use Rattle.std.proofs.Common.{◌≡◌, ℕ, zero, suc, ◌+◌, ◌<◌, List, [], ◌∷◌, ◌++◌, map, take, length, get_or, refl, sym, ap, subst, ◌∙◌, arith, append_assoc}
 use Rattle.std.specs.List.{All}
 use Rattle.std.proofs.lemmas.List.{append-nil}
-use Rattle.db_value.specs.Relations.{columns_at, no_relation}
+use Rattle.db_value.specs.Relations.{widths_at, no_relation}
 use Rattle.db_value.specs.declared.schema.Relation.{Relation}
 use Rattle.hybrid_store.specs.declared.parts.SegmentPart.{SegmentPart as SegmentLaid}
 use Rattle.image_text.specs.declared.image.SegmentPart.{SegmentPart}
@@ -20,9 +20,9 @@ from_more relations k (suc r) (ss ∷ sss) l =
     ap (λ x. map (segment_part relations k) ss ++ x) (from_more relations (suc k) r sss (omega (arith, l)) ∙ ap (λ m. segments_from relations (suc k) (take r sss) ++ map (segment_part relations m) (get_or sss r none_read)) e)
     ∙ sym (append_assoc (map (segment_part relations k) ss) (segments_from relations (suc k) (take r sss)) (map (segment_part relations (k + suc r)) (get_or sss r none_read)))
 
-pub goes : (relations : List Relation) (r columns : ℕ) (sss : List (List SegmentPart)) (old new : List SegmentLaid) → r < length sss → columns ≡ length (columns_at relations r)
-    → old ≡ segments_from relations 0 (take r sss) → new ≡ old ++ map (segment_with r columns) (get_or sss r none_read) → new ≡ segments_from relations 0 (take (r + 1) sss)
-goes relations r columns sss old new l c o n =
+pub goes : (relations : List Relation) (r : ℕ) (ws : List ℕ) (sss : List (List SegmentPart)) (old new : List SegmentLaid) → r < length sss → ws ≡ widths_at relations r
+    → old ≡ segments_from relations 0 (take r sss) → new ≡ old ++ map (segment_with r ws) (get_or sss r none_read) → new ≡ segments_from relations 0 (take (r + 1) sss)
+goes relations r ws sss old new l c o n =
     let e : 0 + r ≡ r = omega arith in
     let s : r + 1 ≡ suc r = omega arith in
     n
@@ -36,11 +36,8 @@ same_default [] i d e l = absurd (omega (arith, l))
 same_default (x ∷ xs) zero d e l = refl
 same_default (x ∷ xs) (suc i) d e l = same_default xs i d e (omega (arith, l))
 
-pub columns_are : (relations : List Relation) (r : ℕ) (x : Relation) (columns : List (List ℕ)) → r < length relations → columns ≡ (get_or relations r x).columns → length columns ≡ length (columns_at relations r)
-columns_are relations r x columns l e = ap length e ∙ ap (λ (y : Relation). length y.columns) (same_default relations r x no_relation l)
-
 pub list_is : (sss : List (List SegmentPart)) (r : ℕ) (x ss : List SegmentPart) → r < length sss → ss ≡ get_or sss r x → ss ≡ get_or sss r none_read
 list_is sss r x ss l e = e ∙ same_default sss r x none_read l
 
-pub fit_here : (relations : List Relation) (sss : List (List SegmentPart)) (r columns : ℕ) (ss : List SegmentPart) → AllFit relations sss → r < length sss → columns ≡ length (columns_at relations r) → ss ≡ get_or sss r none_read → All (Fits columns) ss
-fit_here relations sss r columns ss all l c e = subst (λ n. All (Fits n) ss) (sym c) (subst (All (Fits (length (columns_at relations r)))) (sym e) (all r l))
+pub fit_here : (relations : List Relation) (sss : List (List SegmentPart)) (r : ℕ) (ws : List ℕ) (ss : List SegmentPart) → AllFit relations sss → r < length sss → ws ≡ widths_at relations r → ss ≡ get_or sss r none_read → All (Fits ws) ss
+fit_here relations sss r ws ss all l c e = subst (λ n. All (Fits n) ss) (sym c) (subst (All (Fits (widths_at relations r))) (sym e) (all r l))

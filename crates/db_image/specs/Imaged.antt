@@ -1,11 +1,11 @@
 -- The layouts of which an image tells all.
 use Rattle.std.specs.Prelude.{◌≡◌, ℕ, ◌-◌, ◌*◌, ◌^◌, ◌<◌, ◌≤◌, true, List, [], length, map, replicate, Some}
 use Rattle.std.specs.List.{All, AllByRecursion, range_with_len}
-use Rattle.std.specs.Int.{w64}
-use Rattle.std.specs.Int.RustNames.{FitsSigned}
 use Rattle.std.proofs.Common.{get_or}
 use Rattle.db_value.specs.Text.{is_name}
-use Rattle.db_value.specs.Relations.{columns_at}
+use Rattle.db_value.specs.Value.{IsValue}
+use Rattle.db_value.specs.Widths.{meets}
+use Rattle.db_value.specs.Relations.{widths_at}
 use Rattle.db_value.specs.declared.record.Record.{Record}
 use Rattle.db_value.specs.declared.entry.Entry.{Entry}
 use Rattle.db_value.specs.declared.entry.Entry.TheVariants.{Commit, Branch as NewBranch}
@@ -76,9 +76,9 @@ abbrev pub IsNamed : Entry → Type 0
 IsNamed (Commit b second changes) = Unit {0}
 IsNamed (NewBranch name origin) = is_name name ≡ true
 
--- the records of a segment have so many fields, and the head of a branch has at most 65,536 of them for each version after position 0
-pub record IsFilled (columns : ℕ) (last : ℕ → ℕ) (s : Segment) : Type 0 where
-  pub wide : All (λ (x : Record). length x.fields ≡ columns) s.records
+-- the records of a segment meet widths, and the head of a branch has at most 65,536 of them for each version after position 0
+pub record IsFilled (ws : List ℕ) (last : ℕ → ℕ) (s : Segment) : Type 0 where
+  pub wide : All (λ (x : Record). meets ws x.fields ≡ true) s.records
   pub room : (b : ℕ) → s.head ≡ Some b → length s.records ≤ 65536 * last b
 
 -- the last position of a branch
@@ -92,13 +92,13 @@ IsBlank row = 0 < row.from → get_or row.deltas 0 [] ≡ []
 -- the segments and the rows of a layout are such that an image can have them
 pub record HasSegments (l : Layout) : Type 0 where
   pub few : (r : ℕ) → r < length l.schema → length (segments_at l.segments r) < 2 * length l.lanes
-  pub filled : (r : ℕ) → r < length l.schema → All (IsFilled (length (columns_at l.schema r)) (last_at l)) (segments_at l.segments r)
+  pub filled : (r : ℕ) → r < length l.schema → All (IsFilled (widths_at l.schema r) (last_at l)) (segments_at l.segments r)
   pub blank : (b r : ℕ) → b < length l.lanes → r < length l.schema → All IsBlank (rows_at (lane_at l b) r)
 
--- the key and each value of a record have 64 bits
+-- the key of a record has 64 bits, and its fields hold values
 pub record IsRanged (x : Record) : Type 0 where
   pub key : x.key < 2 ^ 64
-  pub values : AllByRecursion (FitsSigned w64) x.fields
+  pub values : AllByRecursion IsValue x.fields
 
 -- so has each record of a segment of an image, and of the segments of a relation
 abbrev pub AreRanged : SegmentPart → Type 0
@@ -107,7 +107,7 @@ AreRanged s = All IsRanged s.records
 abbrev pub AllAreRanged : List SegmentPart → Type 0
 AllAreRanged ss = All AreRanged ss
 
--- a segment has fewer than 2^32 records, of which each number has 64 bits
+-- a segment has fewer than 2^32 records, each of which has its ranges
 pub record NumbersFit (s : Segment) : Type 0 where
   pub few : length s.records < 2 ^ 32
   pub records : All IsRanged s.records

@@ -3,7 +3,7 @@ use Rattle.std.specs.Prelude.{ℕ, zero, suc, ◌-◌, ◌^◌, ◌<◌, Bool, L
 use Rattle.std.specs.List.{All, range_with_len}
 use Rattle.segment.specs.Pages.{AreWide}
 use Rattle.std.proofs.Common.{get_or}
-use Rattle.db_value.specs.Relations.{columns_at}
+use Rattle.db_value.specs.Relations.{widths_at}
 use Rattle.db_value.specs.declared.schema.Relation.{Relation}
 use Rattle.hybrid_store.specs.declared.made.MadeVersion.{MadeVersion as VersionLaid}
 use Rattle.hybrid_store.specs.declared.parts.BranchPart.{BranchPart as BranchLaid}
@@ -43,22 +43,22 @@ abbrev pub head_part : ℕ → Option ℕ
 head_part zero = None
 head_part (suc b) = Some b
 
--- a segment of a relation with so many columns, as the layout has it
-abbrev pub segment_with : ℕ → ℕ → SegmentPart → SegmentLaid
-segment_with r columns s = record {
+-- a segment of a relation with these widths, as the layout has it
+abbrev pub segment_with : ℕ → List ℕ → SegmentPart → SegmentLaid
+segment_with r ws s = record {
   relation = r;
   head = head_part s.head;
-  records = record { fields = columns; records = s.records };
+  records = record { widths = ws; records = s.records };
   rows = map (row_part (length s.records)) s.rows;
 }
 
 -- the same, by the relations
 abbrev pub segment_part : List Relation → ℕ → SegmentPart → SegmentLaid
-segment_part relations r s = segment_with r (length (columns_at relations r)) s
+segment_part relations r s = segment_with r (widths_at relations r) s
 
--- the numbers of a segment are such that a layout can have it
-pub record Fits (columns : ℕ) (s : SegmentPart) : Type 0 where
-  pub wide : AreWide columns s.records
+-- a segment is such that a layout can have it: its records meet the widths, and its numbers fit
+pub record Fits (ws : List ℕ) (s : SegmentPart) : Type 0 where
+  pub wide : AreWide ws s.records
   pub few : length s.records < 2 ^ 32
   pub short : All IsShort s.rows
 
@@ -69,7 +69,7 @@ segments_from relations r (ss ∷ sss) = map (segment_part relations r) ss ++ se
 
 -- those of each relation fit
 abbrev pub AllFit : List Relation → List (List SegmentPart) → Type 0
-AllFit relations sss = (r : ℕ) → r < length sss → All (Fits (length (columns_at relations r))) (get_or sss r [])
+AllFit relations sss = (r : ℕ) → r < length sss → All (Fits (widths_at relations r)) (get_or sss r [])
 
 -- the parts that an image stands for
 abbrev pub parts_of : Image → LayoutParts

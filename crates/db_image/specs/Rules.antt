@@ -1,9 +1,10 @@
 -- The rules of an image, part by part.
 use Rattle.std.specs.Prelude.{◌≡◌, ℕ, suc, ◌+◌, ◌-◌, ◌*◌, ◌^◌, ◌<◌, ◌≤◌, ◌==◌, ◌||◌, true, false, List, [], ◌∷◌, ◌++◌, length, set, take, replicate, Option, Some, None}
-use Rattle.std.specs.List.{All, list_any}
-use Rattle.db_value.specs.Text.{same, is_name}
+use Rattle.std.specs.List.{All}
+use Rattle.db_value.specs.Text.{is_name}
 use Rattle.db_value.specs.Schema.{is_declared}
-use Rattle.db_value.specs.Relations.{columns_at}
+use Rattle.db_value.specs.Relations.{widths_at}
+use Rattle.db_value.specs.declared.schema.Column.{Column}
 use Rattle.db_value.specs.declared.schema.Relation.{Relation}
 use Rattle.db_value.specs.declared.version.VersionPlace.{VersionPlace}
 use Rattle.record_page.specs.Page.{IsRecord}
@@ -13,7 +14,7 @@ use Rattle.image_text.specs.declared.image.Delta.{Delta}
 use Rattle.image_text.specs.declared.image.RowPart.{RowPart}
 use Rattle.image_text.specs.declared.image.SegmentPart.{SegmentPart}
 use Rattle.image_text.specs.declared.image.Image.{Image}
-use Rattle.image_text.specs.Reading.{has_turn, is_earlier, is_position, base_of, last_of, is_begun, spans, are_words, rises, are_blank, has_room}
+use Rattle.image_text.specs.Reading.{has_column, has_turn, is_earlier, is_position, base_of, last_of, is_begun, spans, are_words, rises, are_blank, has_room}
 use Rattle.image_parts.specs.Whole.{is_whole}
 
 -- each item keeps a rule that knows what those before it made
@@ -32,10 +33,11 @@ onto seen x = seen ++ x ∷ []
 
 -- ---- relations
 
--- a name, which none of those before it is
-pub record IsNextName (seen : List (List ℕ)) (added : List ℕ) : Type 0 where
-  pub name : is_name added ≡ true
-  pub fresh : list_any (same added) seen ≡ false
+-- a column of numbers with a name that none of those before it has
+pub record IsNextColumn (seen : List Column) (c : Column) : Type 0 where
+  pub name : is_name c.name ≡ true
+  pub fresh : has_column seen c.name ≡ false
+  pub number : c.width ≡ 0
 
 -- a relation of a new name, with one to 15 columns
 pub record IsNextRelation (seen : List Relation) (r : Relation) : Type 0 where
@@ -43,7 +45,7 @@ pub record IsNextRelation (seen : List Relation) (r : Relation) : Type 0 where
   pub fresh : is_declared seen r.name ≡ false
   pub some : 0 < length r.columns
   pub few : length r.columns ≤ 15
-  pub columns : EachNext onto IsNextName [] r.columns
+  pub columns : EachNext onto IsNextColumn [] r.columns
 
 -- ---- branches and versions
 
@@ -101,22 +103,22 @@ pub record IsNextRow (lasts : List ℕ) (size : ℕ) (seen : List RowPart) (r : 
   pub blank : (r.from == 0 || are_blank (take 1 r.deltas)) ≡ true
   pub deltas : All (IsDelta size) r.deltas
 
--- a segment for records with so many fields
-pub record IsSegment (columns : ℕ) (lasts : List ℕ) (s : SegmentPart) : Type 0 where
+-- a segment for records of these widths
+pub record IsSegment (ws : List ℕ) (lasts : List ℕ) (s : SegmentPart) : Type 0 where
   pub head : s.head < 2 ^ 32
   pub there : s.head ≤ length lasts
   pub few : length s.records < 2 ^ 32
   pub room : has_room lasts s.head (length s.records) ≡ true
-  pub records : All (IsRecord columns) s.records
+  pub records : All (IsRecord ws) s.records
   pub few_rows : length s.rows < 2 ^ 32
   pub rows_within : length s.rows ≤ length lasts
   pub rows : EachNext onto (IsNextRow lasts (length s.records)) [] s.rows
 
 -- the segments of a relation: fewer than twice as many as branches
-pub record AreSegments (columns : ℕ) (lasts : List ℕ) (ss : List SegmentPart) : Type 0 where
+pub record AreSegments (ws : List ℕ) (lasts : List ℕ) (ss : List SegmentPart) : Type 0 where
   pub count : length ss < 2 ^ 32
   pub few : length ss < 2 * length lasts
-  pub each : All (IsSegment columns lasts) ss
+  pub each : All (IsSegment ws lasts) ss
 
 -- ---- the image
 
@@ -135,7 +137,7 @@ lasts_of i = (versions_seen i).0
 -- the segments of each relation, from a relation on, keep the rules of segments
 abbrev pub AreByRelation : List Relation → List ℕ → ℕ → List (List SegmentPart) → Type 0
 AreByRelation relations lasts r [] = Unit {0}
-AreByRelation relations lasts r (ss ∷ sss) = AreSegments (length (columns_at relations r)) lasts ss × AreByRelation relations lasts (r + 1) sss
+AreByRelation relations lasts r (ss ∷ sss) = AreSegments (widths_at relations r) lasts ss × AreByRelation relations lasts (r + 1) sss
 
 -- an image keeps all rules
 pub record IsRuled (i : Image) : Type 0 where

@@ -2,6 +2,7 @@
 ghost use Rattle.std.specs.Prelude.{◌≡◌, IfOk};
 ghost use Rattle.std.specs.List.{All};
 ghost use Rattle.hybrid_store.specs.Store.{layout_of, state_of};
+ghost use Rattle.image_text.specs.declared.image.Format.TheVariants.{Two};
 ghost use Rattle.image_text.specs.Spelling.{Fits, spelling};
 ghost use Rattle.db_image.specs.Images.{image_of};
 ghost use Rattle.db_image.specs.Imaged.{AllAreRanged, IsImaged};
@@ -36,11 +37,13 @@ pub fn image_of_store(alloc: Global, store: &HybridStore) -> Result<Image, Alloc
     })
 }
 
-/// The one spelling of the image of a store's layout.
+/// The one spelling of the image of a store's layout, in format two. It is read as an image of the store
+/// if each column of the schema is one of numbers.
 pub fn encode(alloc: Global, store: &HybridStore) -> Result<ImageBytes, AllocError>
-    ensures spelled { IfOk result (λ bytes. bytes ≡ spelling (image_of (layout_of store.now))) }
+    ensures spelled { IfOk result
+        (λ bytes. bytes ≡ spelling Two (image_of (layout_of store.now))) }
     ensures image { IsImaged (layout_of store.now)
-        → IfOk result (λ bytes. IsImageOf bytes (state_of store.now)) }
+        → IfOk result (λ bytes. IsImageOf Two bytes (state_of store.now)) }
 {
     let image = image_of_store(alloc, store)?;
     let bytes = image_parts::encode(alloc, &image)?;

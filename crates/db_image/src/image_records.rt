@@ -1,8 +1,5 @@
-//! The ranges of a record's numbers, which its types tell.
+//! The ranges of a record's key and fields, which its types tell.
 ghost use Rattle.std.specs.Prelude.{◌<◌, ◌^◌};
-ghost use Rattle.std.specs.Int.{w64};
-ghost use Rattle.std.specs.Int.RustNames.{FitsSigned};
-ghost use Rattle.std.specs.List.{AllByRecursion};
 ghost use Rattle.db_image.specs.Imaged.{IsRanged};
 
 use db_value::Record;
@@ -13,18 +10,10 @@ fn key_fits(key: u64)
     let _key = key;
 }
 
-fn values_fit(values: &[i64])
-    ensures { AllByRecursion (FitsSigned w64) values.now }
-{
-    for value in values {
-        let _value = *value;
-    }
-}
-
-/// Each number of a record has 64 bits. It does nothing.
+/// The key of a record has 64 bits, and its fields hold values. It does nothing.
 pub(crate) fn fits_its_types(row: &Record)
     ensures { IsRanged row.now }
 {
     key_fits(row.key);
-    values_fit(row.fields.as_slice());
+    let _packed = row.fields.packed();
 }

@@ -1,6 +1,9 @@
 //! The rows and the segments of an image, from those of a store.
-ghost use Rattle.std.specs.Prelude.{◌≡◌, ◌+◌, ◌<◌, ◌≤◌, ◌^◌, ◌++◌, length, IfOk, IfSome, OnOk};
+ghost use Rattle.std.specs.Prelude.{◌≡◌, ℕ, ◌+◌, ◌<◌, ◌≤◌, ◌^◌, ◌++◌, [], length, IfOk, IfSome, OnOk};
 ghost use Rattle.std.specs.List.{All};
+ghost use Rattle.std.proofs.Common.{get_or};
+ghost use Rattle.db_value.specs.Relations.{widths_at};
+ghost use Rattle.segment.specs.Pages.{AreWide};
 ghost use Rattle.db_store.specs.Layout.{by_relation, segments_at};
 ghost use Rattle.hybrid_store.specs.Store.{layout_of};
 ghost use Rattle.image_text.specs.Spelling.{FitsRow, FitsSegment, FitsSegments};
@@ -101,6 +104,7 @@ fn records_image(segment: &Segment) -> Result<PagedRecords, AllocError>
     ensures value { IfOk result (λ records. records ≡ segment.now.records) }
     ensures ranged { IfOk result (λ records. All IsRanged records) }
     ensures few { length segment.now.records < 2 ^ 32 }
+    ensures wide { AreWide segment.now.widths segment.now.records }
 {
     let _count = segment.len();
     fit_their_types::<Brand>(segment, Blank::new(1));
@@ -129,7 +133,7 @@ fn segment_image(
     requires index { index < length (segments_at (layout_of store.now).segments relation) }
     ensures value { IfOk result (λ made.
         made ≡ segment_image (layout_of store.now) relation index) }
-    ensures fits { IfOk result FitsSegment }
+    ensures fits { IfOk result (FitsSegment (widths_at (layout_of store.now).schema relation)) }
     ensures ranged { IfOk result AreRanged }
 {
     let head = head_image(store.head(relation, index));
@@ -150,7 +154,7 @@ fn segments_image(
 ) -> Result<ListOf<SegmentRead>, AllocError>
     requires { relation < length (layout_of store.now).schema }
     ensures value { IfOk result (λ made. made ≡ segments_image (layout_of store.now) relation) }
-    ensures fits { IfOk result FitsSegments }
+    ensures fits { IfOk result (FitsSegments (widths_at (layout_of store.now).schema relation)) }
     ensures ranged { IfOk result (λ made. All AreRanged made) }
 {
     let mut made = Vec::new(alloc);
@@ -167,7 +171,8 @@ pub(crate) fn all_segments(
 ) -> Result<ListOf<ListOf<SegmentRead>>, AllocError>
     ensures value { IfOk result (λ made. made
         ≡ by_relation (layout_of store.now).schema (segments_image (layout_of store.now))) }
-    ensures fits { IfOk result (λ made. All FitsSegments made) }
+    ensures fits { IfOk result (λ made. (r : ℕ) → r < length (layout_of store.now).schema
+        → FitsSegments (widths_at (layout_of store.now).schema r) (get_or made r [])) }
     ensures ranged { IfOk result (λ made. All AllAreRanged made) }
 {
     let mut made = Vec::new(alloc);

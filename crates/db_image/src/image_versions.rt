@@ -1,6 +1,7 @@
 //! The relations, branches and versions of an image, from those of a store.
-ghost use Rattle.std.specs.Prelude.{◌≡◌, ◌<◌, ◌≤◌, ◌^◌, length, IfOk};
+ghost use Rattle.std.specs.Prelude.{◌≡◌, ◌<◌, ◌≤◌, ◌^◌, true, length, IfOk};
 ghost use Rattle.std.specs.List.{All};
+ghost use Rattle.db_value.specs.Relations.{has_columns};
 ghost use Rattle.db_store.specs.Layout.{lane_at};
 ghost use Rattle.hybrid_store.specs.Store.{layout_of};
 ghost use Rattle.image_text.specs.Spelling.{FitsRelation};
@@ -8,32 +9,32 @@ ghost use Rattle.db_image.specs.Images.{branch_image, branches_image, versions_i
 
 use crate::image_segments::branch_count;
 use db_store::Store;
-use db_value::{ListOf, Name, Names, Relation};
+use db_value::{Column, Columns, ListOf, Relation};
 use hybrid_store::HybridStore;
 use image_text::{BranchPart as BranchRead, MadeVersion as VersionRead};
 use std::alloc::{AllocError, Global};
 
-// The same names.
-fn names_image(alloc: Global, names: &[Name]) -> Result<Names, AllocError>
-    ensures value { IfOk result (λ made. made ≡ names.now) }
-    ensures short { IfOk result (λ made. All (λ name. length name ≤ 32) made) }
+// The same columns.
+fn columns_image(alloc: Global, columns: &[Column]) -> Result<Columns, AllocError>
+    ensures value { IfOk result (λ made. made ≡ columns.now) }
+    ensures short { IfOk result (λ made. All (λ column. length column.name ≤ 32) made) }
 {
-    let mut made = Vec::with_capacity(alloc, names.len())?;
-    for name in names {
-        let _count = name.count();
-        made.push(*name)?;
+    let mut made = Vec::with_capacity(alloc, columns.len())?;
+    for column in columns {
+        let _count = column.name.count();
+        made.push(*column)?;
     }
     Ok(ListOf::of(made))
 }
 
 // The same relation.
 fn relation_image(alloc: Global, relation: &Relation) -> Result<Relation, AllocError>
-    requires { length relation.now.columns ≤ 15 }
+    requires { has_columns relation.now ≡ true }
     ensures value { IfOk result (λ made. made ≡ relation.now) }
     ensures fits { IfOk result FitsRelation }
 {
     let _count = relation.name.count();
-    let columns = names_image(alloc, relation.columns.as_slice())?;
+    let columns = columns_image(alloc, relation.columns.as_slice())?;
     Ok(Relation {
         name: relation.name,
         columns,
@@ -45,7 +46,7 @@ pub(crate) fn relations_image(
     alloc: Global,
     relations: &[Relation],
 ) -> Result<ListOf<Relation>, AllocError>
-    requires { All (λ relation. length relation.columns ≤ 15) relations.now }
+    requires { All (λ relation. has_columns relation ≡ true) relations.now }
     ensures value { IfOk result (λ made. made ≡ relations.now) }
     ensures fits { IfOk result (λ made. All FitsRelation made) }
 {

@@ -12,6 +12,7 @@ ghost use Rattle.db_store.specs.LayoutGrowth.{grow_layout};
 ghost use Rattle.hybrid_store.specs.declared.parts.LayoutParts.{LayoutParts};
 ghost use Rattle.hybrid_store.specs.Parts.{AreSound, layout_of_parts};
 ghost use Rattle.hybrid_store.specs.Store.{layout_of};
+ghost use Rattle.image_text.specs.declared.image.Format.{Format};
 ghost use Rattle.image_text.specs.declared.image.Image.{Image};
 ghost use Rattle.image_parts.specs.Whole.{image_at, is_whole};
 ghost use Rattle.image_text.specs.Laws.{IsBytes};
@@ -27,12 +28,12 @@ use hybrid_store::HybridStore;
 
 /// The parts that an image stands for are sound.
 pub fn parts_law()
-    ensures { (b : List ℕ) (i : Image) → image_at b ≡ Ok i → AreSound (parts_of i) }
+    ensures { (f : Format) (b : List ℕ) (i : Image) → image_at f b ≡ Ok i → AreSound (parts_of i) }
 {}
 
 /// An image that is read is one of which the parts can be made.
 pub fn fit_law()
-    ensures { (b : List ℕ) (i : Image) → IsBytes b → image_at b ≡ Ok i → IsFit i }
+    ensures { (f : Format) (b : List ℕ) (i : Image) → IsBytes b → image_at f b ≡ Ok i → IsFit i }
 {}
 
 /// The image of a layout stands for the layout, if its rows are those of its segments and its versions
@@ -58,9 +59,9 @@ pub fn order_law()
         → AreInOrder (layout_of_parts p) }
 {}
 
-/// An image that keeps all rules is read from its spelling.
+/// An image that keeps all rules is read from its spelling in either format.
 pub fn rules_law()
-    ensures { (i : Image) → IsRuled i → image_at (spelling i) ≡ Ok i }
+    ensures { (f : Format) (i : Image) → IsRuled i → image_at f (spelling f i) ≡ Ok i }
 {}
 
 /// The delta of an image of slots keeps the rules of deltas, and changes these slots.
@@ -107,6 +108,6 @@ pub fn imaged_law()
 
 /// An image can be of the layout that an image which is read stands for.
 pub fn read_law()
-    ensures { (b : List ℕ) (i : Image) → image_at b ≡ Ok i
+    ensures { (f : Format) (b : List ℕ) (i : Image) → image_at f b ≡ Ok i
         → IsImaged (layout_of_parts (parts_of i)) }
 {}

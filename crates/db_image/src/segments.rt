@@ -1,9 +1,10 @@
 //! The segments of a layout, from those of an image.
-ghost use Rattle.std.specs.Prelude.{◌≡◌, ◌-◌, ◌<◌, ◌≤◌, ◌++◌, map, Some, IfOk, OnOk};
+ghost use Rattle.std.specs.Prelude.{◌≡◌, ◌-◌, ◌++◌, map, Some, IfOk, OnOk};
 ghost use Rattle.std.specs.List.{All};
 ghost use Rattle.db_image.specs.Parts.{head_part, segment_with, Fits};
 
 use crate::rows::rows_of;
+use db_value::Widths;
 use hybrid_store::SegmentPart;
 use image_text::SegmentPart as SegmentRead;
 use std::alloc::{AllocError, Global};
@@ -19,19 +20,17 @@ fn head_of(head: u32) -> Option<u32>
     Some(head - 1)
 }
 
-/// A segment of a relation, for records of so many fields.
+/// A segment of a relation, for records of these widths.
 pub fn segment_of(
     alloc: Global,
     relation: u8,
-    fields: u8,
+    widths: &Widths,
     part: &SegmentRead,
 ) -> Result<SegmentPart, AllocError>
-    requires some { 0 < fields }
-    requires few { fields ≤ 15 }
-    requires fits { Fits fields part.now }
-    ensures { IfOk result (λ made. made ≡ segment_with relation fields part.now) }
+    requires { Fits widths.now part.now }
+    ensures { IfOk result (λ made. made ≡ segment_with relation widths.now part.now) }
 {
-    let records = part.records.as_segment(alloc, fields)?;
+    let records = part.records.as_segment(alloc, widths)?;
     let rows = rows_of(alloc, part.rows.as_slice(), part.records.len())?;
     Ok(SegmentPart {
         relation,
@@ -46,17 +45,15 @@ pub fn put_segments(
     alloc: Global,
     made: &mut Vec<SegmentPart>,
     relation: u8,
-    fields: u8,
+    widths: &Widths,
     parts: &[SegmentRead],
 ) -> Result<(), AllocError>
-    requires some { 0 < fields }
-    requires few { fields ≤ 15 }
-    requires fit { All (Fits fields) parts.now }
+    requires { All (Fits widths.now) parts.now }
     ensures { OnOk result (made.new.items
-        ≡ made.old.items ++ map (segment_with relation fields) parts.now) }
+        ≡ made.old.items ++ map (segment_with relation widths.now) parts.now) }
 {
     for part in parts {
-        made.push(segment_of(alloc, relation, fields, part)?)?;
+        made.push(segment_of(alloc, relation, widths, part)?)?;
     }
     Ok(())
 }

@@ -1,15 +1,26 @@
 //! The parts of a layout, from an image.
-ghost use Rattle.std.specs.Prelude.{◌≡◌, true, length, IfOk};
-ghost use Rattle.db_value.specs.Relations.{is_counted, columns_at};
+ghost use Rattle.std.specs.Prelude.{◌≡◌, ◌<◌, true, length, IfOk};
+ghost use Rattle.db_value.specs.Relations.{is_counted, widths_at};
 ghost use Rattle.db_image.specs.Parts.{parts_of, segments_from, AllFit};
 ghost use Rattle.db_image.specs.Read.{IsFit};
 
 use crate::segments::put_segments;
 use crate::versions::{branches_of, versions_of};
-use db_value::{ListOf, Relation, Schema};
+use db_value::schema::widths_of;
+use db_value::{ListOf, Relation, Schema, Widths};
 use hybrid_store::{LayoutParts, SegmentParts};
 use image_text::{Image, SegmentPart as SegmentRead};
 use std::alloc::{AllocError, Global};
+
+// The widths of a relation.
+#[tactic(auto, using(db_value::proofs::SchemaLemmas::relation_widths))]
+fn widths_at(relations: &[Relation], at: usize) -> Widths
+    requires counted { is_counted relations.now ≡ true }
+    requires within { at < length relations.now }
+    ensures { result ≡ widths_at relations.now at }
+{
+    widths_of(relations[at].columns.as_slice())
+}
 
 // The segments by relation, in one list.
 fn segments_of(
@@ -24,8 +35,8 @@ fn segments_of(
 {
     let mut made = Vec::new(alloc);
     for r in 0..lists.len() {
-        let columns = relations[r].columns.as_slice().len() as u8;
-        put_segments(alloc, &mut made, r as u8, columns, lists[r].as_slice())?;
+        let widths = widths_at(relations, r);
+        put_segments(alloc, &mut made, r as u8, &widths, lists[r].as_slice())?;
     }
     Ok(ListOf::of(made))
 }

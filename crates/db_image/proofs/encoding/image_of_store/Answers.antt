@@ -1,15 +1,17 @@
-use Rattle.std.proofs.Common.{◌≤◌, ◌∙◌, List, length, ap, sym, arith}
-use Rattle.db_value.specs.Relations.{is_counted}
+use Rattle.std.proofs.Common.{◌≤◌, ◌∙◌, List, [], length, get_or, ap, sym, subst, arith}
+use Rattle.db_value.specs.Relations.{is_counted, widths_at}
 use Rattle.db_value.specs.declared.schema.Relation.{Relation}
 use Rattle.db_store.proofs.SegmentLemmas.{length_by}
 use Rattle.hybrid_store.specs.Store.{layout_of}
 use Rattle.image_text.specs.declared.image.SegmentPart.{SegmentPart}
+use Rattle.image_text.specs.Spelling.{FitsSegments}
+use Rattle.db_image.proofs.FitsRelations.{all_fit}
 use Rattle.db_image.specs.Images.{segments_image}
-use Rattle.db_image.proofs.FewColumns.{few_columns, few_relations}
+use Rattle.db_image.proofs.FewColumns.{all_columns, few_relations}
 use Rattle.db_image.proofs.encoding.image_of_store.Goals as goal
 
 pub relations_image-requires : goal.relations_image-requires
-relations_image-requires c = few_columns c.relations.result.now (ap is_counted c.relations.ensures.value ∙ c.relations.ensures.counted)
+relations_image-requires c = all_columns c.relations.result.now (ap is_counted c.relations.ensures.value ∙ c.relations.ensures.counted)
 
 pub returns-clause-value : goal.returns-clause-value
 returns-clause-value c =
@@ -31,5 +33,7 @@ returns-clause-fits c =
           ap (λ (xs : List (List SegmentPart)). length xs) c.in_ok-segments.ensures.value
           ∙ length_by (layout_of c.args.store.now).schema (segments_image (layout_of c.args.store.now))
           ∙ sym (ap (λ (xs : List Relation). length xs) relations);
-      segments = c.in_ok-segments.ensures.fits;
+      segments = all_fit c.in_ok-relations.relations c.in_ok-segments.segments (λ r h k.
+          subst (λ (rs : List Relation). FitsSegments (widths_at rs r) (get_or c.in_ok-segments.segments r [])) (sym relations)
+          (c.in_ok-segments.ensures.fits r (let n = ap (λ (xs : List Relation). length xs) relations in omega (arith, n, h))));
     }

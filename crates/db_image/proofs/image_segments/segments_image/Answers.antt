@@ -2,6 +2,7 @@ use Rattle.std.proofs.Common.{List, ap, sym, subst, length, arith}
 use Rattle.std.specs.List.{All}
 use Rattle.std.proofs.lemmas.List.Elements.{All-push}
 use Rattle.std.proofs.lemmas.List.FromFn.{length-map-range_with_len}
+use Rattle.db_value.specs.Relations.{widths_at}
 use Rattle.hybrid_store.specs.Store.{layout_of}
 use Rattle.image_text.specs.declared.image.SegmentPart.{SegmentPart}
 use Rattle.image_text.specs.Spelling.{FitsSegment}
@@ -16,7 +17,7 @@ loop-index-preserved c =
     let e = c.in_ok-push.ensures.items in
     record {
       value = range_next (segment_image (layout_of c.args.store.now) c.args.relation) c.loop-index.index c.loop-index.made.items c.push.new.self.items c.in_ok-segment_image.field-0 e c.in_ok-segment_image.ensures.value v.value;
-      fits = subst (All FitsSegment) (sym e) (All-push FitsSegment c.loop-index.made.items c.in_ok-segment_image.field-0 v.fits c.in_ok-segment_image.ensures.fits);
+      fits = subst (All (FitsSegment (widths_at (layout_of c.args.store.now).schema c.args.relation))) (sym e) (All-push (FitsSegment (widths_at (layout_of c.args.store.now).schema c.args.relation)) c.loop-index.made.items c.in_ok-segment_image.field-0 v.fits c.in_ok-segment_image.ensures.fits);
       ranged = subst (All AreRanged) (sym e) (All-push AreRanged c.loop-index.made.items c.in_ok-segment_image.field-0 v.ranged c.in_ok-segment_image.ensures.ranged);
     }
 
@@ -26,4 +27,4 @@ returns-clause-fits c =
     let a = ap (λ (xs : List SegmentPart). length xs) c.of.ensures in
     let b = ap (λ (xs : List SegmentPart). length xs) v.value in
     let n = length-map-range_with_len (segment_image (layout_of c.args.store.now) c.args.relation) 0 c.loop-index.index in
-    record { few = omega (arith, a, b, n, c.loop-index.auto, c.segments-index-end.type_inv); each = subst (All FitsSegment) (sym c.of.ensures) v.fits }
+    record { few = omega (arith, a, b, n, c.loop-index.auto, c.segments-index-end.type_inv); each = subst (All (FitsSegment (widths_at (layout_of c.args.store.now).schema c.args.relation))) (sym c.of.ensures) v.fits }
