@@ -3,7 +3,7 @@ import hashlib, struct
 
 import images
 
-MARK = b"\x01DECIBEL1"
+MARK, OLD_MARK = b"\x01DECIBEL2", b"\x01DECIBEL1"
 MOST_KEYS, MOST_VERSIONS, MOST_BRANCHES = 262_144, 65_536, 1_024
 
 
@@ -19,16 +19,16 @@ def named(name):
     return bytes([len(name)]) + name
 
 
-def image_of(schema):
-    """The image of a new dataset. `schema` has a relation's name with its columns, in order."""
+def image_of(schema, widths=True):
+    """The image of a new dataset. `schema` has a relation's name with its columns, in order. In the first format they have no widths."""
     out = bytes([len(schema)])
     for name, columns in schema:
-        out += named(name) + bytes([len(columns)]) + b"".join(named(c) for c in columns)
+        out += named(name) + bytes([len(columns)]) + b"".join(named(c) + b"\0" * widths for c in columns)
     return out + u32(1) + named(b"master") + u32(0, 0) + u32(0) + u32(1, 1, 0, 1, 0, 0, 0, 0) * len(schema)
 
 
-def header(generation, image):
-    return MARK + struct.pack("<QQ", generation, len(image)) + hashlib.sha256(image).digest() + image
+def header(generation, image, mark=MARK):
+    return mark + struct.pack("<QQ", generation, len(image)) + hashlib.sha256(image).digest() + image
 
 
 def record(body):
@@ -64,6 +64,16 @@ class Reader:
     def name(self):
         return self.take(self.byte())
 
+    def value(self):
+        """A number, or a text behind the width of its column, as bytes."""
+        width = self.byte()
+        if not width:
+            return struct.unpack("<q", self.take(8))[0]
+        text = self.take(width).rstrip(b"\0") if width <= 64 else b"\0"
+        if not all(32 <= c <= 126 and c != 34 for c in text):
+            raise ValueError
+        return text
+
 
 def entries_in(body):
     """The entries of a body, or none if it isn't one or more of them."""
@@ -74,7 +84,7 @@ def entries_in(body):
             if kind == 2:
                 entries.append(("branch", r.name(), r.u32(), r.u32()))
                 continue
-            if kind != 1:
+            if kind not in (1, 3):
                 return None
             branch, has_second = r.u32(), r.byte()
             if has_second > 1:
@@ -85,7 +95,11 @@ def entries_in(body):
                 relation, fields = r.byte(), r.byte()
                 if relation > 7 or fields > 15:
                     return None
-                changes.append((relation, struct.unpack("<Q", r.take(8))[0], struct.unpack("<%dq" % fields, r.take(8 * fields))))
+                key = struct.unpack("<Q", r.take(8))[0]
+                values = struct.unpack("<%dq" % fields, r.take(8 * fields)) if kind == 1 else tuple(r.value() for _ in range(fields))
+                changes.append((relation, key, values))
+            if kind == 3 and not any(isinstance(v, bytes) for change in changes for v in change[2]):
+                return None
             if len(changes) > 65_536 or any(a[:2] >= b[:2] for a, b in zip(changes, changes[1:])) or not (changes or second):
                 return None
             entries.append(("commit", branch, second, changes))
@@ -115,7 +129,7 @@ class Dataset:
         _, branch, second, changes = entry
         if not self.is_made(branch, 0) or len(self.tables[branch]) >= MOST_VERSIONS or (second and not self.is_made(*second)):
             return False
-        if any(r >= len(self.schema) or (values and len(values) != len(self.schema[r][1])) for r, _, values in changes):
+        if any(r >= len(self.schema) or (values and len(values) != len(self.schema[r][1])) or any(isinstance(v, bytes) for v in values) for r, _, values in changes):
             return False
         table = dict(self.tables[branch][-1])
         for r, key, values in changes:
@@ -166,7 +180,7 @@ def opened(c):
     if hashlib.sha256(image).digest() != c[25:57]:
         raise Damage(25, "digest")
     try:
-        dataset, count = Dataset(images.read(image)), 0
+        dataset, count = Dataset(images.read(image, c[:9] == MARK)), 0
     except images.Fault as fault:
         raise Damage(57 + fault.args[0], "grammar") from fault
     for at, body in records_from(c, 57 + size):
@@ -185,7 +199,7 @@ def image_in(c):
 
 
 def has_header(c):
-    return len(c) >= 57 and c[:9] == MARK
+    return len(c) >= 57 and c[:9] in (MARK, OLD_MARK)
 
 
 def counted(first, second):

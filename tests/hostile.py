@@ -42,9 +42,9 @@ def when_cut(length):
     """What `check` writes of that file's first bytes."""
     if length < 57:
         return b"not a dataset\n"
-    if length < 124:
+    if length < 126:
         return b"damaged file 0 at 17 length\n"
-    return b"damaged file 0 at %d length\n" % (197 if length == 197 else 124)
+    return b"damaged file 0 at %d length\n" % (199 if length == 199 else 126)
 
 
 def when_changed(at, value, whole):
@@ -60,20 +60,20 @@ def when_changed(at, value, whole):
         generation = int.from_bytes(whole[9:at] + bytes([value]) + whole[at + 1:17], "little")
         return ok(generation, 1) if 1 <= generation <= 1 << 63 else damaged(9, b"grammar")
     if at == 17:
-        return damaged(25, b"digest") if value <= 141 else damaged(17, b"length")
+        return damaged(25, b"digest") if value <= 143 else damaged(17, b"length")
     if at <= 24:
         return damaged(17, b"length")
-    if at <= 123:
+    if at <= 125:
         return damaged(25, b"digest")
-    if at == 124:
+    if at == 126:
         return ok(1, 0)
-    if at == 125:
-        return damaged(124, b"digest" if 1 <= value <= 37 else b"length")
-    if at <= 128:
-        return damaged(124, b"length")
-    if at <= 196:
-        return damaged(124, b"digest")
-    return damaged(197, b"length") if value == 1 else ok(1, 1)
+    if at == 127:
+        return damaged(126, b"digest" if 1 <= value <= 37 else b"length")
+    if at <= 130:
+        return damaged(126, b"length")
+    if at <= 198:
+        return damaged(126, b"digest")
+    return damaged(199, b"length") if value == 1 else ok(1, 1)
 
 
 def each_byte(base):
@@ -86,7 +86,7 @@ def each_byte(base):
         if base.run("check")[1] != when_cut(length):
             wrong.append((length, base.run("check")))
     for at in range(len(whole)):
-        for value in sorted({0, 1, whole[at] ^ 1, whole[at] ^ 128, 37, 38, 141, 142, 255} - {whole[at]}):
+        for value in sorted({0, 1, whole[at] ^ 1, whole[at] ^ 128, 37, 38, 143, 144, 255} - {whole[at]}):
             base.write(0, whole[:at] + bytes([value]) + whole[at + 1:])
             tried += 1
             found = base.run("check")
@@ -95,12 +95,12 @@ def each_byte(base):
     print("tests/run: %d files of one insert, each cut or with a byte changed" % tried, flush=True)
     yield "each byte of the file of one insert", wrong, []
     for name, at, value, place, cause in (
-        ("the head of a branch that isn't there", 96, 2, 96, b"grammar"), ("a branch without a head", 96, 0, 124, b"grammar"), ("a column twice", 68, ord("a"), 67, b"grammar"),
-        ("a commit on a branch that isn't there", 162, 1, 124, b"entry"), ("a body that begins with 9", 161, 9, 124, b"grammar"),
+        ("the head of a branch that isn't there", 98, 2, 98, b"grammar"), ("a branch without a head", 98, 0, 126, b"grammar"), ("a column twice", 69, ord("a"), 68, b"grammar"),
+        ("a width that isn't 0", 67, 1, 67, b"grammar"), ("a commit on a branch that isn't there", 164, 1, 126, b"entry"), ("a body that begins with 9", 163, 9, 126, b"grammar"),
     ):
         data = whole[:at] + bytes([value]) + whole[at + 1:]
-        body = data[161:197]
-        base.write(0, mended(data[:129] + hashlib.sha256(body).digest() + data[161:]))
+        body = data[163:199]
+        base.write(0, mended(data[:131] + hashlib.sha256(body).digest() + data[163:]))
         yield name, (base.run("check"), base.told()), ((4, b"damaged file 0 at %d %s\n" % (place, cause), b"decibel: damaged file 0 at %d\n" % place),) * 2
 
 

@@ -112,13 +112,15 @@ def segment_in(r, columns, lasts):
     return None if head < 0 else head, records, rows
 
 
-def read(data):
-    """An image, or a fault."""
+def read(data, widths=True):
+    """An image, or a fault. In the first format the columns have no widths."""
     image, r = Image(), Reader(data)
     for _ in range(r.among(1, 8, 1)):
         name, columns = r.name([name for name, _ in image.relations]), []
         for _ in range(r.among(1, 15, 1)):
             columns.append(r.name(columns))
+            if widths:
+                r.among(0, 0, 1)
         image.relations.append((name, columns))
     begins = []  # of each branch the version at position 0
     for n in range(r.among(1, MOST_BRANCHES)):
@@ -197,9 +199,9 @@ def pages_of(columns, records):
 
 
 def spelled(image):
-    """The bytes of an image."""
+    """The bytes of an image, in the format that is written."""
     out = [bytes([len(image.relations)])]
-    out += [named(name) + bytes([len(columns)]) + b"".join(map(named, columns)) for name, columns in image.relations]
+    out += [named(name) + bytes([len(columns)]) + b"".join(named(c) + b"\0" for c in columns) for name, columns in image.relations]
     out += [u32(len(image.branches))] + [named(name) + u32(*origin) for name, origin in image.branches]
     out += [u32(len(image.versions))] + [u32(branch) + (b"\0" if second is None else b"\1" + u32(*second)) for branch, second in image.versions]
     for (_, columns), segments in zip(image.relations, image.segments):

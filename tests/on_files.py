@@ -9,6 +9,7 @@ import files, images, model, random_scripts, worked
 SCHEMA = worked.USUAL
 RELATIONS = [(b"items", [b"a", b"b"])]
 KILLED, COMMITS, LAYOUTS = 100, 2000, 300
+ONE = files.record(files.commit(0, [(0, 1, (1, 1))]))  # the record of `insert items 1 1 1`
 
 
 class Base:
@@ -112,8 +113,8 @@ def exported(base):
     for words in (("notes", "master"), ("items", "dev@4"), ("items", "master@3"), ("items", "master@18446744073709551615"), ("items", "nobody"), ("items", "nobody@0"), ("notes", "nobody")):
         yield "export %s %s" % words, base.run("export", b"", words), (11, b"", b"decibel: bad line 0\n")
     yield "export leaves the files", (base.read(0), base.read(1)), before
-    base.write(0, before[0][:150])
-    yield "export of a damaged file", base.run("export", b"", ("items", "master")), (4, b"", b"decibel: damaged file 0 at 124\n")
+    base.write(0, before[0][:152])
+    yield "export of a damaged file", base.run("export", b"", ("items", "master")), (4, b"", b"decibel: damaged file 0 at 126\n")
 
 
 def empty_ones(base):
@@ -129,21 +130,27 @@ def one_insert(base):
     """The bytes of one insert, and files that are spoilt."""
     yield "one insert", base.made(b"1 insert items 1 1 1\n"), (0, answered((b"1 insert items 1 1 1", b"ok master@1")), b"")
     whole = base.read(0)
-    yield "its bytes", whole, files.new_file(RELATIONS)[:-1] + files.record(files.commit(0, [(0, 1, (1, 1))])) + b"\0"
-    yield "their number", (len(whole), base.read(1)), (198, b"")
-    changed = whole[:161] + bytes([whole[161] ^ 1]) + whole[162:]
+    yield "its bytes", whole, files.new_file(RELATIONS)[:-1] + ONE + b"\0"
+    yield "their number", (len(whole), base.read(1)), (200, b"")
+    yield from spoilt(base, whole, 126)
+
+
+def spoilt(base, whole, gate):
+    """A file with one record, whose gate stands there, and what is said of it once it is spoilt."""
+    cut, end = gate + 26, gate + 73
+    changed = whole[:gate + 37] + bytes([whole[gate + 37] ^ 1]) + whole[gate + 38:]
     for name, data, line, status, said in (
-        ("a byte of the body changed", changed, b"damaged file 0 at 124 digest\n", 4, b"decibel: damaged file 0 at 124\n"),
-        ("cut in the body", whole[:150], b"damaged file 0 at 124 length\n", 4, b"decibel: damaged file 0 at 124\n"),
+        ("a byte of the body changed", changed, b"damaged file 0 at %d digest\n" % gate, 4, b"decibel: damaged file 0 at %d\n" % gate),
+        ("cut in the body", whole[:cut], b"damaged file 0 at %d length\n" % gate, 4, b"decibel: damaged file 0 at %d\n" % gate),
         ("other bytes behind the closed gate", whole + b"arbitrary 12", b"ok generation 1 branches 1 versions 2 entries 1\n", 0, b""),
-        ("cut before the last gate", whole[:197], b"damaged file 0 at 197 length\n", 4, b"decibel: damaged file 0 at 197\n"),
+        ("cut before the last gate", whole[:end], b"damaged file 0 at %d length\n" % end, 4, b"decibel: damaged file 0 at %d\n" % end),
         ("the first byte closed", b"\0" + whole[1:], b"not a dataset\n", 3, b"decibel: not a dataset\n"),
         ("generation 0", whole[:9] + bytes(8) + whole[17:], b"damaged file 0 at 9 grammar\n", 4, b"decibel: damaged file 0 at 9\n"),
         ("an image past the end", whole[:17] + b"\xff" + whole[18:], b"damaged file 0 at 17 length\n", 4, b"decibel: damaged file 0 at 17\n"),
         ("a byte of the image changed", whole[:60] + b"x" + whole[61:], b"damaged file 0 at 25 digest\n", 4, b"decibel: damaged file 0 at 25\n"),
-        ("an entry twice", whole[:-1] + whole[124:-1] + b"\0", b"ok generation 1 branches 1 versions 3 entries 2\n", 0, b""),
-        ("an entry of a branch that isn't there", whole[:-1] + files.record(files.commit(7, [(0, 1, ())])) + b"\0", b"damaged file 0 at 197 entry\n", 4, b"decibel: damaged file 0 at 197\n"),
-        ("a body that is no entry", whole[:-1] + files.record(b"\x03") + b"\0", b"damaged file 0 at 197 grammar\n", 4, b"decibel: damaged file 0 at 197\n"),
+        ("an entry twice", whole[:-1] + whole[gate:-1] + b"\0", b"ok generation 1 branches 1 versions 3 entries 2\n", 0, b""),
+        ("an entry of a branch that isn't there", whole[:-1] + files.record(files.commit(7, [(0, 1, ())])) + b"\0", b"damaged file 0 at %d entry\n" % end, 4, b"decibel: damaged file 0 at %d\n" % end),
+        ("a body that is no entry", whole[:-1] + files.record(b"\x03") + b"\0", b"damaged file 0 at %d grammar\n" % end, 4, b"decibel: damaged file 0 at %d\n" % end),
     ):
         base.write(0, data)
         yield name, base.run("check"), (status, line, said)
@@ -151,6 +158,21 @@ def one_insert(base):
         if status:
             yield name + ": a script", base.run("script", b"1 scan items\n"), (status, b"", said)
         yield name + ": the file stays", base.read(0), data
+
+
+def old_file(base):
+    """A file of the first format, which is read as before; a checkpoint leaves it, and writes the second one beside it."""
+    whole = files.header(1, files.image_of(RELATIONS, False), files.OLD_MARK) + ONE + b"\0"
+    yield "the bytes of an old file", len(whole), 198
+    yield from spoilt(base, whole, 124)
+    base.write(0, whole[:8] + b"2" + whole[9:])
+    yield "an old file by the new name", (base.run("check"), base.told()), ((4, b"damaged file 0 at 67 grammar\n", b"decibel: damaged file 0 at 67\n"),) * 2
+    base.write(0, whole)
+    script = (b"1 insert items 2 2 2", b"ok master@2"), (b"1 checkpoint", b"ok")
+    yield "a script on an old file", base.run("script", b"".join(line + b"\n" for line, _ in script)), (0, answered(*script), b"")
+    yield "the old file", (len(base.read(0)), base.read(0)[:198 - 1]), (271, whole[:-1])
+    yield "the new name beside it", base.read(1)[:9], files.MARK
+    yield "check of the new file", (base.run("check"), base.told()), ((0, b"ok generation 2 branches 1 versions 3 entries 0\n", b""),) * 2
 
 
 def two_bodies(base):
@@ -163,12 +185,12 @@ def two_bodies(base):
         ("the last generation", 2**63, image, one, two, b"ok generation 9223372036854775808 branches 1 versions 3 entries 2\n"),
         ("one past the last generation", 2**63 + 1, image, one, two, b"damaged file 0 at 9 grammar\n"),
         ("no image", 1, b"", one, two, b"damaged file 0 at 57 grammar\n"),
-        ("an image without its last byte", 1, image[:-1], one, two, b"damaged file 0 at 123 grammar\n"),
-        ("half an entry in the first body", 1, image, one[:-1], two, b"damaged file 0 at 124 grammar\n"),
-        ("half an entry in the second body", 1, image, one, two[:-1], b"damaged file 0 at 197 grammar\n"),
-        ("an empty body", 1, image, one, b"", b"damaged file 0 at 197 length\n"),
-        ("an unfit entry in front of half an entry", 1, image, unfit, two[:-1], b"damaged file 0 at 124 entry\n"),
-        ("an unfit entry behind one that fits", 1, image, one + unfit, two, b"damaged file 0 at 124 entry\n"),
+        ("an image without its last byte", 1, image[:-1], one, two, b"damaged file 0 at 125 grammar\n"),
+        ("half an entry in the first body", 1, image, one[:-1], two, b"damaged file 0 at 126 grammar\n"),
+        ("half an entry in the second body", 1, image, one, two[:-1], b"damaged file 0 at 199 grammar\n"),
+        ("an empty body", 1, image, one, b"", b"damaged file 0 at 199 length\n"),
+        ("an unfit entry in front of half an entry", 1, image, unfit, two[:-1], b"damaged file 0 at 126 entry\n"),
+        ("an unfit entry behind one that fits", 1, image, one + unfit, two, b"damaged file 0 at 126 entry\n"),
     ):
         base.write(0, files.header(generation, its_image) + files.record(first) + files.record(second) + b"\0")
         found = base.run("check")
@@ -210,7 +232,7 @@ def in_use(base):
 def image_by_hand():
     """The image of `insert items 1 1 1` on a new dataset, number by number as docs/FORMATS.md has them."""
     parts = (
-        b"\x01\x05items\x02\x01a\x01b",  # one relation with two columns
+        b"\x01\x05items\x02\x01a\0\x01b\0",  # one relation with two columns of width 0
         struct.pack("<I", 1) + b"\x06master" + struct.pack("<II", 0, 0),  # one branch
         struct.pack("<II", 1, 0) + b"\0",  # one version, on master, with one parent
         struct.pack("<III", 1, 1, 1),  # one segment, the head of the first branch, with one record
@@ -468,7 +490,7 @@ def examples(base, folder):
 
 def checks(program, top):
     """Names with what was found and what should be."""
-    for part in (new_ones, over_others, bad_schemas, last_comments, stored, exported, empty_ones, one_insert, two_bodies, generations, in_use, again, checkpoints, last_generation, layouts, not_there, closed_streams, full_disk, no_permission, killed, killed_at_checkpoints, examples):
+    for part in (new_ones, over_others, bad_schemas, last_comments, stored, exported, empty_ones, one_insert, old_file, two_bodies, generations, in_use, again, checkpoints, last_generation, layouts, not_there, closed_streams, full_disk, no_permission, killed, killed_at_checkpoints, examples):
         with tempfile.TemporaryDirectory() as folder:
             base = Base(program, folder)
             yield from part(base, os.path.join(top, "examples")) if part is examples else part(base)

@@ -120,8 +120,8 @@ def again(base):
     yield "check of two rows", base.run("check"), (0, b"ok generation 1 branches 1 versions 2 entries 1\n", b"")
     yield "a script behind an import", base.run("script", b"1 update items 2 a=7\n1 minus items master master@1\n"), (
         0, b"> 1 update items 2 a=7\nok master@2\n> 1 minus items master master@1\nrow 2 7 0\nrows 1\n", b"")
-    base.write(0, base.read(0)[:150])
-    yield "import into a damaged file", base.run("import", TWO, ("items",)), (4, b"", b"decibel: damaged file 0 at 124\n")
+    base.write(0, base.read(0)[:152])
+    yield "import into a damaged file", base.run("import", TWO, ("items",)), (4, b"", b"decibel: damaged file 0 at 126\n")
 
 
 def two_relations(base):

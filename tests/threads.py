@@ -73,7 +73,7 @@ def alone(base):
     yield "sessions of a bad line", base.run("sessions", b"hello\n"), (0, b"> hello\nrefused 1 bad line\n", b"")
     yield "none of them stored anything", base.run("check"), (0, b"ok generation 1 branches 1 versions 1 entries 0\n", b"")
     base.run("script", b"1 insert items 1 1 1\n")
-    for name, data, status, text in (("empty files", b"", 3, b"not a dataset"), ("a damaged file", base.read(0)[:150], 4, b"damaged file 0 at 124")):
+    for name, data, status, text in (("empty files", b"", 3, b"not a dataset"), ("a damaged file", base.read(0)[:152], 4, b"damaged file 0 at 126")):
         base.write(0, data)
         yield "sessions on " + name, base.run("sessions", b"1 begin\n"), (status, b"", b"decibel: %s\n" % text)
         yield "the files of sessions on " + name, (base.read(0), base.read(1)), (data, b"")

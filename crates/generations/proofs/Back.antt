@@ -11,11 +11,12 @@ use Rattle.db_outside.specs.Record.{most_body}
 use Rattle.entry_codec.specs.Grammar.{entries_in}
 use Rattle.gate_journal.specs.declared.cause.Cause.TheVariants.{Length, Digest}
 use Rattle.gate_journal.specs.Reading.{closed_at, damaged_at, Reading, size_in, digest_in, inner, is_long, is_sound, nothing, onto, one_record, reading}
+use Rattle.image_text.specs.declared.image.Format.{Format}
 use Rattle.image_text.specs.declared.image.Image.{Image}
 use Rattle.generations.specs.ImageState.{image_state}
 use Rattle.gate_journal.specs.Reading.{records_from}
 use Rattle.image_parts.specs.Whole.{image_at}
-use Rattle.generations.specs.Files.{mark, has_header, generation_of, image_length, image_digest, image_in, by_header, by_image}
+use Rattle.generations.specs.Files.{is_mark, named, has_header, format_of, generation_of, image_length, image_digest, image_in, by_header, by_image}
 use Rattle.generations.proofs.Opening.{header_3}
 use Rattle.generations.proofs.Walks.{behind_none}
 use Rattle.generations.specs.Ends.{Ends}
@@ -170,10 +171,13 @@ image_some size (Ok i) go t es at is = (i, refl, is)
 
 -- whatever stands behind a header and its image, the file is read from the image's state on
 module _ (front : List ℕ) (i : Image) (header : has_header front ≡ true) (can : nat_le 1 (generation_of front) && nat_le (generation_of front) (2 ^ 63) ≡ true)
-    (size : length front ≡ 57 + image_length front) (sound : pointwise nat_eq (sha256 (image_in front)) (image_digest front) ≡ true) (image : image_at (image_in front) ≡ Ok i) where
+    (size : length front ≡ 57 + image_length front) (sound : pointwise nat_eq (sha256 (image_in front)) (image_digest front) ≡ true) (image : image_at (format_of front) (image_in front) ≡ Ok i) where
   module _ (rest : List ℕ) where
     abbrev c : List ℕ
     c = front ++ rest
+
+    format_same : format_of c ≡ format_of front
+    format_same = ap named (window 0 9 front rest (omega (arith, size)))
 
     generation_same : generation_of c ≡ generation_of front
     generation_same = ap (λ (l : List ℕ). from_le_bytes w64 l) (window 9 8 front rest (omega (arith, size)))
@@ -203,7 +207,7 @@ module _ (front : List ℕ) (i : Image) (header : has_header front ≡ true) (ca
     reads_there =
         let place : 57 + image_length c ≡ length front = omega (arith, size, length_same) in
         header_3 _ _ _ _ can_there has_there sound_there
-        ∙ ap (λ (x : Result Image ℕ). by_image (length (image_in c)) x (λ j. walked (image_state j) (57 + image_length c) (records_from (57 + image_length c) c))) (ap image_at image_same ∙ image)
+        ∙ ap (λ (x : Result Image ℕ). by_image (length (image_in c)) x (λ j. walked (image_state j) (57 + image_length c) (records_from (57 + image_length c) c))) (ap (λ (f : Format). image_at f (image_in c)) format_same ∙ ap (λ (l : List ℕ). image_at (format_of front) l) image_same ∙ image)
         ∙ ap (λ (k : ℕ). walked (image_state i) k (records_from k c)) place
         ∙ ap (λ (l : List ℕ). walked (image_state i) (length front) (reading (length l) (length front) l)) (drop_at front rest (length front) refl)
 
@@ -212,16 +216,16 @@ module _ (front : List ℕ) (i : Image) (header : has_header front ≡ true) (ca
 
 mark_same : (front rest : List ℕ) → 57 ≤ length front → has_header (front ++ rest) ≡ true → has_header front ≡ true
 mark_same front rest long is =
-    let parts = and_parts (nat_le 57 (length (front ++ rest))) (pointwise nat_eq (take 9 (front ++ rest)) mark) is in
+    let parts = and_parts (nat_le 57 (length (front ++ rest))) (is_mark (take 9 (front ++ rest))) is in
     let whole_there : nat_le 57 (length front) ≡ true = search (arith, long) in
-    and_from (nat_le 57 (length front)) (pointwise nat_eq (take 9 front) mark) whole_there (ap (λ (l : List ℕ). pointwise nat_eq l mark) (sym (take-append-le 9 front rest (omega (arith, long)))) ∙ parts.1)
+    and_from (nat_le 57 (length front)) (is_mark (take 9 front)) whole_there (ap (λ (l : List ℕ). is_mark l) (sym (take-append-le 9 front rest (omega (arith, long)))) ∙ parts.1)
 
 -- a file that was read up to a closed gate is a front and that gate
 pub found : (s : List ℕ) (t : State) (es : List Entry) (p : ℕ) → has_header s ≡ true → file_reads s ≡ opened t es p → Found s (generation_of s) t es p
 found s t es p header read =
     let parts = header_some (nat_le 1 (generation_of s) && nat_le (generation_of s) (2 ^ 63)) (nat_le (57 + image_length s) (length s)) (pointwise nat_eq (sha256 (image_in s)) (image_digest s))
-    (by_image (length (image_in s)) (image_at (image_in s)) (λ i. walked (image_state i) (57 + image_length s) (records_from (57 + image_length s) s))) t es p read in
-    let found_image = image_some (length (image_in s)) (image_at (image_in s)) (λ i. walked (image_state i) (57 + image_length s) (records_from (57 + image_length s) s)) t es p parts.3 in
+    (by_image (length (image_in s)) (image_at (format_of s) (image_in s)) (λ i. walked (image_state i) (57 + image_length s) (records_from (57 + image_length s) s))) t es p read in
+    let found_image = image_some (length (image_in s)) (image_at (format_of s) (image_in s)) (λ i. walked (image_state i) (57 + image_length s) (records_from (57 + image_length s) s)) t es p parts.3 in
     let n = image_length s in
     let front = take (57 + n) s in
     let rest = drop (57 + n) s in
@@ -229,13 +233,14 @@ found s t es p header read =
     let size : length front ≡ 57 + n = length-take-le (57 + n) s fits in
     let split : s ≡ front ++ rest = sym (take-append-drop (57 + n) s) in
     let header_too : has_header front ≡ true = mark_same front rest (omega (arith, size)) (ap has_header (sym split) ∙ header) in
+    let format : format_of front ≡ format_of s = sym (ap named (window 0 9 front rest (omega (arith, size)))) ∙ ap format_of (sym split) in
     let generation : generation_of front ≡ generation_of s = sym (ap (λ (l : List ℕ). from_le_bytes w64 l) (window 9 8 front rest (omega (arith, size)))) ∙ ap generation_of (sym split) in
     let number : image_length front ≡ n = sym (ap (λ (l : List ℕ). from_le_bytes w64 l) (window 17 8 front rest (omega (arith, size)))) ∙ ap image_length (sym split) in
     let digest : image_digest front ≡ image_digest s = sym (window 25 32 front rest (omega (arith, size))) ∙ ap image_digest (sym split) in
     let image : image_in front ≡ image_in s =
     ap (λ (k : ℕ). take k (drop 57 front)) number ∙ sym (window 57 n front rest (omega (arith, size))) ∙ ap (λ (l : List ℕ). take n (drop 57 l)) (sym split) in
     let base = header_front front found_image.0 header_too (ap (λ (k : ℕ). nat_le 1 k && nat_le k (2 ^ 63)) generation ∙ parts.0) (size ∙ ap (λ (k : ℕ). 57 + k) (sym number))
-    (ap (λ (l : List ℕ). pointwise nat_eq (sha256 l) (image_digest front)) image ∙ ap (λ (l : List ℕ). pointwise nat_eq (sha256 (image_in s)) l) digest ∙ parts.2) (ap image_at image ∙ found_image.1) in
+    (ap (λ (l : List ℕ). pointwise nat_eq (sha256 l) (image_digest front)) image ∙ ap (λ (l : List ℕ). pointwise nat_eq (sha256 (image_in s)) l) digest ∙ parts.2) (ap (λ (f : Format). image_at f (image_in front)) format ∙ ap (λ (l : List ℕ). image_at (format_of s) l) image ∙ found_image.1) in
     let walks : walked (image_state found_image.0) (length front) (reading (length rest) (length front) rest) ≡ opened t es p =
     ap (λ (k : ℕ). walked (image_state found_image.0) k (reading (length rest) k rest)) size ∙ found_image.2 in
     subst (λ (g : ℕ). Found s g t es p) generation (found_from s (generation_of front) (length rest) front rest (image_state found_image.0) [] t es p base split (omega arith) walks)

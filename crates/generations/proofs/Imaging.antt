@@ -16,6 +16,7 @@ use Rattle.db_store.proofs.SoundLemmas.{sound_stays}
 use Rattle.hybrid_store.specs.Parts.{layout_of_parts}
 use Rattle.entry_codec.specs.Grammar.{entries_in}
 use Rattle.gate_journal.specs.Reading.{End, closed_at, damaged_at, records_from}
+use Rattle.image_text.specs.declared.image.Format.{Format}
 use Rattle.image_text.specs.declared.image.Image.{Image}
 use Rattle.image_parts.specs.Whole.{image_at}
 use Rattle.db_image.specs.Parts.{parts_of}
@@ -23,7 +24,7 @@ use Rattle.db_image.specs.Imaged.{IsImaged, IsNamed}
 use Rattle.db_image.proofs.Laid.{image_sound}
 use Rattle.db_image.proofs.ReadImaged.{read_imaged}
 use Rattle.db_image.proofs.SegmentsKept.{imaged_stays}
-use Rattle.generations.specs.Files.{generation_of, image_length, image_digest, image_in, by_image, by_state, file_reads, opened, applied, behind, walk, walked}
+use Rattle.generations.specs.Files.{format_of, generation_of, image_length, image_digest, image_in, by_image, by_state, file_reads, opened, applied, behind, walk, walked}
 use Rattle.generations.specs.Fronts.{IsFront}
 use Rattle.generations.specs.ImageState.{image_state}
 use Rattle.generations.proofs.Back.{same_opened, split_behind, by_entries_some, by_state_some, header_some, image_some}
@@ -68,11 +69,11 @@ walk_grown s at (body ∷ bodies) end t es p is has =
     walk_grown state.0 (at + (37 + length body)) bodies end t more.0 p more.1 (all_grown s state.0 read.0 (entries_named body read.0 read.1) state.1 has)
 
 -- what bytes are an image of
-begun : (b : List ℕ) (i : Image) → image_at b ≡ Ok i → HasImage (image_state i)
+begun : (format : Format) (b : List ℕ) (i : Image) → image_at format b ≡ Ok i → HasImage (image_state i)
 unfolding image_state
-begun b i is =
-    let sound = image_sound b i is in
-    record { layout = layout_of_parts (parts_of i); is = refl; kept = sound.laid; sound = sound.sound; imaged = read_imaged b i is }
+begun format b i is =
+    let sound = image_sound format b i is in
+    record { layout = layout_of_parts (parts_of i); is = refl; kept = sound.laid; sound = sound.sound; imaged = read_imaged format b i is }
 
 -- a front and a closed gate
 front_has : (front : List ℕ) (g : ℕ) (s : State) (es : List Entry) → IsFront front g s es → HasImage s
@@ -80,10 +81,10 @@ front_has front g s es is =
     let c : List ℕ = front ++ 0 ∷ [] in
     let read : file_reads (front ++ 0 ∷ []) ≡ opened s (es ++ []) (length front) = is.reads_on (0 ∷ []) in
     let parts = header_some (nat_le 1 (generation_of c) && nat_le (generation_of c) (2 ^ 63)) (nat_le (57 + image_length c) (length c)) (pointwise nat_eq (sha256 (image_in c)) (image_digest c))
-    (by_image (length (image_in c)) (image_at (image_in c)) (λ i. walked (image_state i) (57 + image_length c) (records_from (57 + image_length c) c))) s (es ++ []) (length front) read in
-    let image = image_some (length (image_in c)) (image_at (image_in c)) (λ i. walked (image_state i) (57 + image_length c) (records_from (57 + image_length c) c)) s (es ++ []) (length front) parts.3 in
+    (by_image (length (image_in c)) (image_at (format_of c) (image_in c)) (λ i. walked (image_state i) (57 + image_length c) (records_from (57 + image_length c) c))) s (es ++ []) (length front) read in
+    let image = image_some (length (image_in c)) (image_at (format_of c) (image_in c)) (λ i. walked (image_state i) (57 + image_length c) (records_from (57 + image_length c) c)) s (es ++ []) (length front) parts.3 in
     let r = records_from (57 + image_length c) c in
-    walk_grown (image_state image.0) (57 + image_length c) r.bodies r.ends s (es ++ []) (length front) image.2 (begun (image_in c) image.0 image.1)
+    walk_grown (image_state image.0) (57 + image_length c) r.bodies r.ends s (es ++ []) (length front) image.2 (begun (format_of c) (image_in c) image.0 image.1)
 
 layout_same : (l m : Layout) → laid l ≡ laid m → m ≡ l
 layout_same l m e = some_same m l (sym (ap (λ (t : State). t.layout) e))

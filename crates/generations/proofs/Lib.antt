@@ -8,6 +8,7 @@ pub mod Imaging
 pub mod Looking
 pub mod Named
 pub mod NewLaid
+pub mod NewRelations
 pub mod NewRead
 pub mod Opening
 pub mod Owing

@@ -10,6 +10,7 @@ use Rattle.hybrid_store.specs.declared.parts.SegmentPart.{SegmentPart as Segment
 use Rattle.hybrid_store.specs.Parts.{segment_laid, rows_from, layout_of_parts}
 use Rattle.hybrid_store.specs.Parts as layouts
 use Rattle.db_image.specs.Parts.{segment_part, segments_from, parts_of}
+use Rattle.image_text.specs.declared.image.Format.TheVariants.{Two}
 use Rattle.db_image.specs.Stores.{IsImageOf}
 use Rattle.new_image.specs.Image.{image_of}
 use Rattle.new_image.specs.Schemas.{IsSchema}
@@ -67,5 +68,5 @@ new_laid rs =
     ap (λ (l : List (List Row)). layout_with rs l (by_relation rs (λ r. map segment_laid (layouts.parts_of r segs)))) rows
     ∙ ap (λ (l : List (List Segment)). layout_with rs (by_relation rs (λ r. head_row 0 0 ∷ [])) l) segments
 
-pub new_image_is : (rs : List Relation) → IsSchema rs → IsImageOf (image_of rs) (new_state rs)
+pub new_image_is : (rs : List Relation) → IsSchema rs → IsImageOf Two (image_of rs) (new_state rs)
 new_image_is rs is = record { image = new_parts rs; read = new_read rs is; layout = sym (ap laid (new_laid rs)) }

@@ -1,8 +1,9 @@
 -- What the code's findings say of a file with a header.
-use Rattle.std.proofs.Common.{◌≡◌, ◌⊎◌, inl, inr, ℕ, ◌+◌, ◌<◌, ◌≤◌, ◌^◌, ◌&&◌, nat_le, nat_eq, Bool, true, false, List, length, take, drop, refl, sym, ◌∙◌, ap, subst, arith, Result}
+use Rattle.std.proofs.Common.{◌≡◌, ◌⊎◌, inl, inr, ℕ, ◌+◌, ◌-◌, ◌<◌, ◌≤◌, ◌^◌, ◌&&◌, nat_le, nat_eq, Bool, true, false, List, length, take, drop, refl, sym, ◌∙◌, ap, subst, arith, Result, Ok, Err}
 use Rattle.std.specs.Cmp.Lexicographic.{pointwise}
 use Rattle.sha2.specs.Sha256.{sha256}
 use Rattle.db_store.specs.State.{State}
+use Rattle.image_text.specs.declared.image.Format.{Format}
 use Rattle.image_text.specs.declared.image.Image.{Image}
 use Rattle.image_parts.specs.Whole.{image_at}
 use Rattle.db_image.specs.Stores.{IsImageOf}
@@ -15,15 +16,15 @@ use Rattle.generations.specs.declared.open.ImageFound.TheVariants.{Damaged as No
 use Rattle.generations.specs.declared.open.Opened.{Opened}
 use Rattle.generations.specs.declared.open.Opened.TheVariants.{Damaged, Whole}
 use Rattle.generations.specs.Headers.{Says}
-use Rattle.generations.specs.Files.{Outcome, damaged, generation_of, image_length, image_digest, image_in, by_header, by_image, walk, walked, file_reads}
+use Rattle.generations.specs.Files.{Outcome, damaged, format_of, generation_of, image_length, image_digest, image_in, by_header, by_image, walk, walked, file_reads}
 use Rattle.generations.specs.Openings.{IsImageBy, IsImageIn, IsReplayed, IsOpened}
 use Rattle.generations.specs.ImageState.{image_state}
 use Rattle.generations.specs.Stored.{state_in}
 
 -- the state that bytes are an image of
-pub state_is : (bytes : List ℕ) (s : State) (is : IsImageOf bytes s) → s ≡ image_state is.image
+pub state_is : (format : Format) (bytes : List ℕ) (s : State) (is : IsImageOf format bytes s) → s ≡ image_state is.image
 unfolding image_state
-state_is bytes s is = is.layout
+state_is format bytes s is = is.layout
 
 header_0 : (p q r : Bool) (o : Outcome) → p ≡ false → by_header p q r o ≡ damaged 9 Grammar
 header_0 true q r o is = absurd (cc is)
@@ -47,7 +48,7 @@ header_3 true false r o a b d = absurd (cc b)
 header_3 false q r o a b d = absurd (cc a)
 
 pub cannot : (s : List ℕ) (g : ℕ) → g ≡ generation_of s → (g ≡ 0) ⊎ (2 ^ 63 < g) → file_reads s ≡ damaged 9 Grammar
-cannot s g is bad = header_0 (nat_le 1 (generation_of s) && nat_le (generation_of s) (2 ^ 63)) (nat_le (57 + image_length s) (length s)) (pointwise nat_eq (sha256 (image_in s)) (image_digest s)) (by_image (length (image_in s)) (image_at (image_in s)) (λ i. walked (image_state i) (57 + image_length s) (records_from (57 + image_length s) s))) (by bad)
+cannot s g is bad = header_0 (nat_le 1 (generation_of s) && nat_le (generation_of s) (2 ^ 63)) (nat_le (57 + image_length s) (length s)) (pointwise nat_eq (sha256 (image_in s)) (image_digest s)) (by_image (length (image_in s)) (image_at (format_of s) (image_in s)) (λ i. walked (image_state i) (57 + image_length s) (records_from (57 + image_length s) s))) (by bad)
   where
     by : (g ≡ 0) ⊎ (2 ^ 63 < g) → nat_le 1 (generation_of s) && nat_le (generation_of s) (2 ^ 63) ≡ false
     by (inl zero_there) = let none : generation_of s ≡ 0 = sym is ∙ zero_there in ap (λ (n : ℕ). nat_le 1 n && nat_le n (2 ^ 63)) none
@@ -63,7 +64,7 @@ module _ (s : List ℕ) (h : Header) (n : ℕ) (says : Says h s n) (some : 1 ≤
   pub too_long : n ≡ length s → length s < 57 + h.image → file_reads s ≡ damaged 17 Length
   too_long len past =
       let far : length s < 57 + image_length s = subst (λ (k : ℕ). length s < 57 + k) says.image past in
-      header_1 (nat_le 1 (generation_of s) && nat_le (generation_of s) (2 ^ 63)) (nat_le (57 + image_length s) (length s)) (pointwise nat_eq (sha256 (image_in s)) (image_digest s)) (by_image (length (image_in s)) (image_at (image_in s)) (λ i. walked (image_state i) (57 + image_length s) (records_from (57 + image_length s) s))) can (let able : nat_le (57 + image_length s) (length s) ≡ false = search (arith, far) in able)
+      header_1 (nat_le 1 (generation_of s) && nat_le (generation_of s) (2 ^ 63)) (nat_le (57 + image_length s) (length s)) (pointwise nat_eq (sha256 (image_in s)) (image_digest s)) (by_image (length (image_in s)) (image_at (format_of s) (image_in s)) (λ i. walked (image_state i) (57 + image_length s) (records_from (57 + image_length s) s))) can (let able : nat_le (57 + image_length s) (length s) ≡ false = search (arith, far) in able)
 
   module _ (image : List ℕ) (len : n ≡ length s) (fits : 57 + h.image ≤ length s) (read : image ≡ take h.image (drop 57 s)) where
     has : nat_le (57 + image_length s) (length s) ≡ true
@@ -71,6 +72,10 @@ module _ (s : List ℕ) (h : Header) (n : ℕ) (says : Says h s n) (some : 1 ≤
 
     same : image ≡ image_in s
     same = read ∙ ap (λ (k : ℕ). take k (drop 57 s)) says.image
+
+    -- what is read of an image as the header says
+    read_is : (o : Result Image ℕ) → image_at h.format image ≡ o → image_at (format_of s) (image_in s) ≡ o
+    read_is o is = ap (λ (l : List ℕ). image_at (format_of s) l) (sym same) ∙ ap (λ (f : Format). image_at f image) (sym says.format) ∙ is
 
     digest : (q : Bool) → pointwise nat_eq (sha256 image) h.digest ≡ q → pointwise nat_eq (sha256 (image_in s)) (image_digest s) ≡ q
     digest q is = ap (λ (l : List ℕ). pointwise nat_eq (sha256 l) (image_digest s)) (sym same) ∙ ap (λ (l : List ℕ). pointwise nat_eq (sha256 image) l) (sym says.digest) ∙ is
@@ -80,13 +85,13 @@ module _ (s : List ℕ) (h : Header) (n : ℕ) (says : Says h s n) (some : 1 ≤
         header_2 _ _ _ _ can has (digest false bad.0) ∙ ap (λ (k : ℕ). damaged k Digest) (sym bad.1) ∙ ap (λ (x : Cause). damaged at x) (sym bad.2)
     image_is (NoImage at cause) (inr bad) =
         header_3 _ _ _ _ can has (digest true bad.0)
-        ∙ ap (λ (l : List ℕ). by_image (length l) (image_at l) (λ i. walked (image_state i) (57 + image_length s) (records_from (57 + image_length s) s))) (sym same)
-        ∙ ap (λ (o : Result Image ℕ). by_image (length image) o (λ i. walked (image_state i) (57 + image_length s) (records_from (57 + image_length s) s))) bad.2
+        ∙ ap (λ (o : Result Image ℕ). by_image (length (image_in s)) o (λ i. walked (image_state i) (57 + image_length s) (records_from (57 + image_length s) s))) (read_is (Err bad.1) bad.2)
+        ∙ ap (λ (l : List ℕ). damaged (57 + (length l - bad.1)) Grammar) (sym same)
         ∙ ap (λ (k : ℕ). damaged k Grammar) (sym bad.3) ∙ ap (λ (x : Cause). damaged at x) (sym bad.4)
     image_is (WholeImage store) there =
         header_3 _ _ _ _ can has (digest true there.0)
-        ∙ ap (λ (o : Result Image ℕ). by_image (length (image_in s)) o (λ i. walked (image_state i) (57 + image_length s) (records_from (57 + image_length s) s))) (ap image_at (sym same) ∙ there.1.read)
-        ∙ ap (λ (t : State). walked t (57 + image_length s) (records_from (57 + image_length s) s)) (sym (state_is image (state_in store) there.1))
+        ∙ ap (λ (o : Result Image ℕ). by_image (length (image_in s)) o (λ i. walked (image_state i) (57 + image_length s) (records_from (57 + image_length s) s))) (read_is (Ok there.1.image) there.1.read)
+        ∙ ap (λ (t : State). walked t (57 + image_length s) (records_from (57 + image_length s) s)) (sym (state_is h.format image (state_in store) there.1))
 
 pub opened_is : (o : Opened) (t : State) (s : List ℕ) (from : ℕ) (bodies : List (List ℕ)) (end : End) → file_reads s ≡ walked t (57 + image_length s) (records_from (57 + image_length s) s) → from ≡ 57 + image_length s
     → records_from from s ≡ record { bodies = bodies; ends = end } → IsReplayed o t from bodies end → IsOpened o s

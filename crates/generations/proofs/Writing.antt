@@ -8,10 +8,12 @@ use Rattle.std.specs.Cmp.Lexicographic.{pointwise}
 use Rattle.sha2.specs.Sha256.{sha256}
 use Rattle.sha2.proofs.Facts256.{length-sha256}
 use Rattle.db_store.specs.State.{State}
+use Rattle.image_text.specs.declared.image.Format.{Format}
+use Rattle.image_text.specs.declared.image.Format.TheVariants.{Two}
 use Rattle.image_parts.specs.Whole.{image_at}
 use Rattle.db_image.specs.Stores.{IsImageOf}
 use Rattle.new_image.proofs.Images.{same_self}
-use Rattle.generations.specs.Files.{mark, has_header, generation_of, image_length, image_digest, image_in}
+use Rattle.generations.specs.Files.{mark, is_mark, has_header, format_of, generation_of, image_length, image_digest, image_in}
 use Rattle.generations.specs.Fronts.{IsFront}
 use Rattle.generations.specs.ImageState.{image_state}
 use Rattle.generations.specs.Written.{behind_gate}
@@ -20,10 +22,10 @@ use Rattle.generations.proofs.Opening.{state_is}
 
 module _ (g : ℕ) (image : List ℕ) (far : g < 2 ^ 64) (few : length image < 2 ^ 64) where
   abbrev head : List ℕ
-  head = (((68 ∷ 69 ∷ 67 ∷ 73 ∷ 66 ∷ 69 ∷ 76 ∷ 49 ∷ []) ++ to_le_bytes w64 g) ++ to_le_bytes w64 (length image)) ++ sha256 image
+  head = (((68 ∷ 69 ∷ 67 ∷ 73 ∷ 66 ∷ 69 ∷ 76 ∷ 50 ∷ []) ++ to_le_bytes w64 g) ++ to_le_bytes w64 (length image)) ++ sha256 image
 
   head_long : length head ≡ 56
-  head_long = omega (arith, length-append (((68 ∷ 69 ∷ 67 ∷ 73 ∷ 66 ∷ 69 ∷ 76 ∷ 49 ∷ []) ++ to_le_bytes w64 g) ++ to_le_bytes w64 (length image)) (sha256 image), length-sha256 image)
+  head_long = omega (arith, length-append (((68 ∷ 69 ∷ 67 ∷ 73 ∷ 66 ∷ 69 ∷ 76 ∷ 50 ∷ []) ++ to_le_bytes w64 g) ++ to_le_bytes w64 (length image)) (sha256 image), length-sha256 image)
 
   pub front_long : length (1 ∷ behind_gate g image) ≡ 57 + length image
   front_long = omega (arith, length-append head image, head_long)
@@ -48,18 +50,21 @@ module _ (g : ℕ) (image : List ℕ) (far : g < 2 ^ 64) (few : length image < 2
   front_header =
       let long : 57 ≤ length (1 ∷ behind_gate g image) = omega (arith, front_long) in
       let able : nat_le 57 (length (1 ∷ behind_gate g image)) ≡ true = search (arith, long) in
-      and_from (nat_le 57 (length (1 ∷ behind_gate g image))) (pointwise nat_eq (take 9 (1 ∷ behind_gate g image)) mark) able refl
+      and_from (nat_le 57 (length (1 ∷ behind_gate g image))) (is_mark (take 9 (1 ∷ behind_gate g image))) able refl
+
+  front_format : format_of (1 ∷ behind_gate g image) ≡ Two
+  front_format = refl
 
 can_be : (g : ℕ) → 1 ≤ g → g ≤ 2 ^ 63 → nat_le 1 g && nat_le g (2 ^ 63) ≡ true
 can_be g some most = search (arith, some, most)
 
 -- a file that begins so is read from the image's state on
-pub front_is : (g : ℕ) (image : List ℕ) (s : State) → 1 ≤ g → g ≤ 2 ^ 63 → length image < 2 ^ 64 → IsImageOf image s → IsFront (1 ∷ behind_gate g image) g s []
+pub front_is : (g : ℕ) (image : List ℕ) (s : State) → 1 ≤ g → g ≤ 2 ^ 63 → length image < 2 ^ 64 → IsImageOf Two image s → IsFront (1 ∷ behind_gate g image) g s []
 front_is g image s some most few is =
     let far : g < 2 ^ 64 = omega (arith, most) in
     let front = 1 ∷ behind_gate g image in
     let can : nat_le 1 (generation_of front) && nat_le (generation_of front) (2 ^ 63) ≡ true = ap (λ (k : ℕ). nat_le 1 k && nat_le k (2 ^ 63)) (front_generation g image far few) ∙ can_be g some most in
     let sound : pointwise nat_eq (sha256 (image_in front)) (image_digest front) ≡ true =
     ap (λ (l : List ℕ). pointwise nat_eq (sha256 l) (image_digest front)) (front_image g image far few) ∙ ap (λ (l : List ℕ). pointwise nat_eq (sha256 image) l) (front_digest g image far few) ∙ same_self (sha256 image) in
-    let base = header_front front is.image (front_header g image far few) can (front_long g image far few ∙ ap (λ (k : ℕ). 57 + k) (sym (front_number g image far few))) sound (ap image_at (front_image g image far few) ∙ is.read) in
-    subst (λ (t : State). IsFront front g t []) (sym (state_is image s is)) (subst (λ (n : ℕ). IsFront front n (image_state is.image) []) (front_generation g image far few) base)
+    let base = header_front front is.image (front_header g image far few) can (front_long g image far few ∙ ap (λ (k : ℕ). 57 + k) (sym (front_number g image far few))) sound (ap (λ (l : List ℕ). image_at (format_of front) l) (front_image g image far few) ∙ ap (λ (f : Format). image_at f image) (front_format g image far few) ∙ is.read) in
+    subst (λ (t : State). IsFront front g t []) (sym (state_is Two image s is)) (subst (λ (n : ℕ). IsFront front n (image_state is.image) []) (front_generation g image far few) base)

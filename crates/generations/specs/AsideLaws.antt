@@ -1,5 +1,5 @@
 -- How the file that doesn't count stands, and what its images are.
-use Rattle.std.proofs.Common.{◌≡◌, ◌⊎◌, inl, inr, ℕ, ◌+◌, ◌<◌, ◌^◌, nat_le, nat_eq, Bool, true, false, List, [], ◌∷◌, ◌++◌, length, get_or, take, drop, refl, sym, ◌∙◌, ap, subst, arith, append_assoc, length-append}
+use Rattle.std.proofs.Common.{◌≡◌, ◌⊎◌, inl, inr, ℕ, ◌+◌, ◌<◌, ◌^◌, nat_le, nat_eq, Bool, true, false, List, [], ◌∷◌, ◌++◌, ◌&&◌, ◌||◌, length, get_or, take, drop, refl, sym, ◌∙◌, ap, subst, arith, append_assoc, length-append}
 use Rattle.std.proofs.lemmas.Bool.{and_parts, eqb-true}
 use Rattle.std.specs.Cmp.Lexicographic.{pointwise}
 use Rattle.db_value.specs.declared.entry.Entry.{Entry}
@@ -8,20 +8,24 @@ use Rattle.db_outside.specs.Disk.{Begins, InAll}
 use Rattle.gate_journal.specs.Gate.{IsShut, IsBehind, IsOpen, IsNoneOrWhole}
 use Rattle.gate_journal.specs.Leaves.{IsSameBehind}
 use Rattle.gate_journal.proofs.Gates.{none_or_whole, behind_there, shut_behind}
+use Rattle.image_text.specs.declared.image.Format.TheVariants.{One, Two}
 use Rattle.generations.specs.declared.other_gate.OtherGate.{OtherGate}
 use Rattle.generations.specs.declared.other_gate.OtherGate.TheVariants.{Unread, Low, Shut, Owed}
 use Rattle.generations.specs.Asides.{IsFront, IsBeside, IsLow, is_owed, is_unread, is_shut, StandsBy, IsBesideOrNext, IsGateOf}
 use Rattle.generations.specs.Ends.{Ends}
-use Rattle.generations.specs.Files.{mark, has_header, generation_of}
+use Rattle.generations.specs.Files.{mark, is_mark, has_header, generation_of}
 use Rattle.generations.specs.FrontLaws.{header_there, generation_there}
 
 -- a file with a header begins with an open gate
 first_byte : (c : List ℕ) → has_header c ≡ true → c ≡ 1 ∷ drop 1 c
 first_byte [] is = absurd (cc is)
 first_byte (x ∷ xs) is =
-    let parts = and_parts (nat_le 57 (length (x ∷ xs))) (pointwise nat_eq (take 9 (x ∷ xs)) mark) is in
-    let firsts = and_parts (nat_eq x 1) (pointwise nat_eq (take 8 xs) (drop 1 mark)) parts.1 in
-    ap (λ (k : ℕ). k ∷ xs) (eqb-true x 1 firsts.0)
+    let parts = and_parts (nat_le 57 (length (x ∷ xs))) (is_mark (take 9 (x ∷ xs))) is in
+    ap (λ (k : ℕ). k ∷ xs) (eqb-true x 1 (one_first (nat_eq x 1) (pointwise nat_eq (take 8 xs) (drop 1 (mark One))) (pointwise nat_eq (take 8 xs) (drop 1 (mark Two))) parts.1))
+  where
+    one_first : (p q r : Bool) → ((p && q) || (p && r)) ≡ true → p ≡ true
+    one_first true q r either = refl
+    one_first false q r either = absurd (cc either)
 
 open_gate : (c : List ℕ) → has_header c ≡ true → get_or c 0 1 ≡ 1
 open_gate c is = ap (λ (l : List ℕ). get_or l 0 1) (first_byte c is)

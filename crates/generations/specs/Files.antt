@@ -1,5 +1,5 @@
 -- What the bytes of two files stand for.
-use Rattle.std.specs.Prelude.{◌+◌, ◌-◌, ◌^◌, ◌&&◌, ℕ, Bool, true, false, nat_le, nat_lt, nat_eq, cond, List, [], ◌∷◌, ◌++◌, length, take, drop, Option, Some, None, Result, Ok, Err}
+use Rattle.std.specs.Prelude.{◌+◌, ◌-◌, ◌^◌, ◌&&◌, ◌||◌, ℕ, Bool, true, false, nat_le, nat_lt, nat_eq, cond, List, [], ◌∷◌, ◌++◌, length, take, drop, Option, Some, None, Result, Ok, Err}
 use Rattle.std.specs.Int.{w64, from_le_bytes}
 use Rattle.std.specs.Cmp.Lexicographic.{pointwise}
 use Rattle.sha2.specs.Sha256.{sha256}
@@ -10,17 +10,32 @@ pub use Rattle.entry_codec.specs.Logs.{applied}
 use Rattle.gate_journal.specs.declared.cause.Cause.{Cause}
 use Rattle.gate_journal.specs.declared.cause.Cause.TheVariants.{Grammar, Length, Digest, EntryUnfit}
 use Rattle.gate_journal.specs.Reading.{End, closed_at, damaged_at, Reading, records_from}
+use Rattle.image_text.specs.declared.image.Format.{Format}
+use Rattle.image_text.specs.declared.image.Format.TheVariants.{One, Two}
 use Rattle.image_text.specs.declared.image.Image.{Image}
 use Rattle.image_parts.specs.Whole.{image_at}
 use Rattle.generations.specs.ImageState.{image_state}
 
--- a gate that is open, and then DECIBEL1
-abbrev pub mark : List ℕ
-mark = 1 ∷ 68 ∷ 69 ∷ 67 ∷ 73 ∷ 66 ∷ 69 ∷ 76 ∷ 49 ∷ []
+-- a gate that is open, and then the name of a format: DECIBEL1 or DECIBEL2
+abbrev pub mark : Format → List ℕ
+mark One = 1 ∷ 68 ∷ 69 ∷ 67 ∷ 73 ∷ 66 ∷ 69 ∷ 76 ∷ 49 ∷ []
+mark Two = 1 ∷ 68 ∷ 69 ∷ 67 ∷ 73 ∷ 66 ∷ 69 ∷ 76 ∷ 50 ∷ []
+
+-- nine bytes are the mark of a format
+abbrev pub is_mark : List ℕ → Bool
+is_mark m = pointwise nat_eq m (mark One) || pointwise nat_eq m (mark Two)
+
+-- the format of which they are the mark
+abbrev pub named : List ℕ → Format
+named m = cond (pointwise nat_eq m (mark One)) One Two
 
 -- the file has a header
 abbrev pub has_header : List ℕ → Bool
-has_header c = nat_le 57 (length c) && pointwise nat_eq (take 9 c) mark
+has_header c = nat_le 57 (length c) && is_mark (take 9 c)
+
+-- the format that a header names
+abbrev pub format_of : List ℕ → Format
+format_of c = named (take 9 c)
 
 -- the generation that a header gives
 abbrev pub generation_of : List ℕ → ℕ
@@ -80,7 +95,7 @@ by_header can has sound next = cond can (cond has (cond sound next (damaged 25 D
 -- a file that has a header
 abbrev pub file_reads : List ℕ → Outcome
 file_reads c = by_header (nat_le 1 (generation_of c) && nat_le (generation_of c) (2 ^ 63)) (nat_le (57 + image_length c) (length c)) (pointwise nat_eq (sha256 (image_in c)) (image_digest c))
-    (by_image (length (image_in c)) (image_at (image_in c)) (λ i. walked (image_state i) (57 + image_length c) (records_from (57 + image_length c) c)))
+    (by_image (length (image_in c)) (image_at (format_of c) (image_in c)) (λ i. walked (image_state i) (57 + image_length c) (records_from (57 + image_length c) c)))
 
 -- what two files stand for: neither has a header, or one of them counts, with its generation
 pub data Files : Type 0 where

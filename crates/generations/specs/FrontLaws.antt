@@ -14,7 +14,7 @@ use Rattle.gate_journal.specs.Gate.{IsShut}
 use Rattle.gate_journal.specs.Reading.{closed_at, Reading, size_in, digest_in, inner, is_long, is_sound, nothing, onto, one_record, reading}
 use Rattle.gate_journal.proofs.Walk.{enough, pick_2}
 use Rattle.generations.specs.Ends.{with_record, Ends, MayEnd, EndsInOneOf}
-use Rattle.generations.specs.Files.{mark, has_header, generation_of, file_reads, applied, behind, walk, walked, by_entries, by_state, Outcome, damaged, opened, Files, counts, counting, reads_by, no_header, number_of}
+use Rattle.generations.specs.Files.{is_mark, has_header, generation_of, file_reads, applied, behind, walk, walked, by_entries, by_state, Outcome, damaged, opened, Files, counts, counting, reads_by, no_header, number_of}
 use Rattle.generations.specs.Asides.{IsFront, IsBeside}
 use Rattle.generations.specs.Fronts.{Follows, OpensTo, OpensToMore, MayOpenTo, OpensToOneOf}
 
@@ -67,13 +67,13 @@ walked_onto s at body r f =
 
 pub header_there : (front rest : List ℕ) → has_header front ≡ true → has_header (front ++ rest) ≡ true
 header_there front rest is =
-    let parts = and_parts (nat_le 57 (length front)) (pointwise nat_eq (take 9 front) mark) is in
+    let parts = and_parts (nat_le 57 (length front)) (is_mark (take 9 front)) is in
     let long : 57 ≤ length front = search (arith, parts.0) in
     let whole : nat_le 57 (length (front ++ rest)) ≡ true = search (arith, long, length-append front rest) in
-    and_from (nat_le 57 (length (front ++ rest))) (pointwise nat_eq (take 9 (front ++ rest)) mark) whole (ap (λ (l : List ℕ). pointwise nat_eq l mark) (take-append-le 9 front rest (omega (arith, long))) ∙ parts.1)
+    and_from (nat_le 57 (length (front ++ rest))) (is_mark (take 9 (front ++ rest))) whole (ap (λ (l : List ℕ). is_mark l) (take-append-le 9 front rest (omega (arith, long))) ∙ parts.1)
 
 long_front : (front : List ℕ) → has_header front ≡ true → 57 ≤ length front
-long_front front is = let parts = and_parts (nat_le 57 (length front)) (pointwise nat_eq (take 9 front) mark) is in search (arith, parts.0)
+long_front front is = let parts = and_parts (nat_le 57 (length front)) (is_mark (take 9 front)) is in search (arith, parts.0)
 
 pub generation_there : (front rest : List ℕ) → has_header front ≡ true → generation_of (front ++ rest) ≡ generation_of front
 generation_there front rest is =

@@ -19,8 +19,8 @@ use Rattle.generations.specs.Files.{damaged, opened, image_length, walk, walked,
 -- these bytes, which a header says are the image, have its digest and are an image of the store, or not
 abbrev pub IsImageBy : ImageFound → Header → List ℕ → Type 0
 IsImageBy (NoImage at cause) h image = ((pointwise nat_eq (sha256 image) h.digest ≡ false) × (at ≡ 25) × (cause ≡ Digest))
-    ⊎ ((pointwise nat_eq (sha256 image) h.digest ≡ true) × (left : ℕ) × (image_at image ≡ Err left) × (at ≡ 57 + (length image - left)) × (cause ≡ Grammar))
-IsImageBy (WholeImage store) h image = (pointwise nat_eq (sha256 image) h.digest ≡ true) × IsImageOf image (state_in store)
+    ⊎ ((pointwise nat_eq (sha256 image) h.digest ≡ true) × (left : ℕ) × (image_at h.format image ≡ Err left) × (at ≡ 57 + (length image - left)) × (cause ≡ Grammar))
+IsImageBy (WholeImage store) h image = (pointwise nat_eq (sha256 image) h.digest ≡ true) × IsImageOf h.format image (state_in store)
 
 -- what the file stands for, by its image: damaged, or what its records make of the image's store
 abbrev pub IsImageIn : ImageFound → List ℕ → Type 0

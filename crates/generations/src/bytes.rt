@@ -8,11 +8,11 @@ use gate_journal::Journal;
 use sha2::{Digest, Sha256};
 use std::alloc::{AllocError, Global};
 
-/// A closed gate, and the name of the format.
-const SHUT_MARK: [u8; 9] = [0, 68, 69, 67, 73, 66, 69, 76, 49];
+/// A closed gate, and the name of format two.
+const SHUT_MARK: [u8; 9] = [0, 68, 69, 67, 73, 66, 69, 76, 50];
 
-/// The name of the format.
-const NAME: [u8; 8] = [68, 69, 67, 73, 66, 69, 76, 49];
+/// The name of format two.
+const NAME: [u8; 8] = [68, 69, 67, 73, 66, 69, 76, 50];
 
 // Behind these bytes the rest of a header, an image, and the closed gate of the first record.
 fn with_image(

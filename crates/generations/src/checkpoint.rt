@@ -4,6 +4,7 @@ ghost use Rattle.db_value.specs.declared.entry.Entry.{Entry as LoggedEntry};
 ghost use Rattle.db_store.specs.State.{State};
 ghost use Rattle.db_outside.specs.Device.{CountsFaults};
 ghost use Rattle.db_outside.specs.Disk.{InAll};
+ghost use Rattle.image_text.specs.declared.image.Format.TheVariants.{Two};
 ghost use Rattle.db_image.specs.Stores.{IsImageOf};
 ghost use Rattle.gate_journal.specs.Gate.{IsShut};
 ghost use Rattle.entry_codec.specs.Logs.{Checkpoints, KeepsOrOwes, Renews, CountsStops, last_generation};
@@ -85,7 +86,7 @@ impl<D: Disk> Dataset<D> {
     /// the state. It takes memory before it calls a disk.
     pub fn checkpoint_bytes(&mut self, image: &[u8]) -> Result<(), CheckpointStop>
         ensures kept { (s : State) (es : List LoggedEntry) (f : Option (List ℕ)) →
-            IsImageOf image.now s →
+            IsImageOf Two image.now s →
             KeepsOrOwes KeepsIn OwesIn self.old s es f →
             Checkpoints KeepsIn OwesIn generation_in moment_in OpensSinceIn self.old self.new result
             s es f }

@@ -36,7 +36,7 @@ fn judged(alloc: Global, header: &Header, image: &[u8]) -> Result<ImageFound, Al
             cause: Cause::Digest,
         });
     }
-    match decode(alloc, image) {
+    match decode(alloc, image, header.format) {
         Err(ImageStop::Memory) => Err(AllocError),
         Err(ImageStop::NotAnImage { at }) => Ok(ImageFound::Damaged {
             at: HEADER + at,

@@ -1,7 +1,7 @@
 //! A crash at each call of making a dataset, of appends and of checkpoints, and after calls that
 //! failed. What is left was worked out by hand.
 use crate::asserts::{holds, holds_at_calls};
-use crate::files::{BOTH, ONE, TWO, batch_of, created, file_to, stored};
+use crate::files::{BOTH, ONE, TWO, batch_of, created, file_to, opened_old, stored};
 use db_memdev::{Fill, MemDisk};
 use db_store::Store;
 use entry_codec::Log;
@@ -48,23 +48,23 @@ struct Run {
 // No dataset; a new one; one with `ONE`, with `TWO` behind it, and with `BOTH` alone.
 const NO: Option<Told> = None;
 
-const NEW: Option<Told> = Some((1, 0, 124, 0, 0));
+const NEW: Option<Told> = Some((1, 0, 126, 0, 0));
 
-const WITH_ONE: Option<Told> = Some((1, 0, 197, 1, 1));
+const WITH_ONE: Option<Told> = Some((1, 0, 199, 1, 1));
 
-const WITH_TWO: Option<Told> = Some((1, 0, 270, 2, 2));
+const WITH_TWO: Option<Told> = Some((1, 0, 272, 2, 2));
 
-const WITH_BOTH: Option<Told> = Some((1, 0, 233, 2, 2));
+const WITH_BOTH: Option<Told> = Some((1, 0, 235, 2, 2));
 
 // The images of a dataset after one entry, after two of them, and after these and `BOTH`; and the second of
 // them with the record of `BOTH` behind it.
-const AT_ONE: Option<Told> = Some((2, 1, 4241, 0, 1));
+const AT_ONE: Option<Told> = Some((2, 1, 4243, 0, 1));
 
-const AT_TWO: Option<Told> = Some((2, 1, 4262, 0, 2));
+const AT_TWO: Option<Told> = Some((2, 1, 4264, 0, 2));
 
-const AT_TWO_BOTH: Option<Told> = Some((2, 1, 4371, 2, 4));
+const AT_TWO_BOTH: Option<Told> = Some((2, 1, 4373, 2, 4));
 
-const AT_FOUR: Option<Told> = Some((3, 0, 4304, 0, 4));
+const AT_FOUR: Option<Told> = Some((3, 0, 4306, 0, 4));
 
 // An append is the write of a record, a sync, the opening of its gate, and a sync. A checkpoint closes
 // the other file's gate and syncs, and then it is the same with an image.
@@ -73,8 +73,8 @@ const WHOLE: Run = Run {
     name: "no call fails",
     first: &[],
     second: &[],
-    calls: &[(Call::Append(&ONE), true), (Call::Append(&TWO), true), (Call::Checkpoint(270), true), (Call::Append(&BOTH), true), (Call::Checkpoint(379), true)],
-    at: (3, 0, 4304),
+    calls: &[(Call::Append(&ONE), true), (Call::Append(&TWO), true), (Call::Checkpoint(272), true), (Call::Append(&BOTH), true), (Call::Checkpoint(381), true)],
+    at: (3, 0, 4306),
     faults: 0,
     crashes: &[
         Crash { first: 0,  second: 0,  old: NO,          new: NO,          ones: NO },
@@ -122,7 +122,7 @@ const FAILED_APPENDS: [Run; 6] = [
         first: &[7],
         second: &[],
         calls: &[(Call::Append(&ONE), false), (Call::Append(&BOTH), true)],
-        at: (1, 0, 233),
+        at: (1, 0, 235),
         faults: 1,
         crashes: &[
             Crash { first: 7,  second: 2, old: NEW,       new: NEW,       ones: NEW },
@@ -137,7 +137,7 @@ const FAILED_APPENDS: [Run; 6] = [
         first: &[8],
         second: &[],
         calls: &[(Call::Append(&ONE), false), (Call::Append(&BOTH), true)],
-        at: (1, 0, 233),
+        at: (1, 0, 235),
         faults: 1,
         crashes: &[
             Crash { first: 8,  second: 2, old: NEW,       new: NEW,       ones: NEW },
@@ -152,7 +152,7 @@ const FAILED_APPENDS: [Run; 6] = [
         first: &[9],
         second: &[],
         calls: &[(Call::Append(&ONE), false), (Call::Append(&BOTH), true)],
-        at: (1, 0, 233),
+        at: (1, 0, 235),
         faults: 1,
         crashes: &[
             Crash { first: 9,  second: 2, old: NEW,       new: NEW,       ones: WITH_ONE },
@@ -169,7 +169,7 @@ const FAILED_APPENDS: [Run; 6] = [
         first: &[10],
         second: &[],
         calls: &[(Call::Append(&ONE), false), (Call::Append(&BOTH), true)],
-        at: (1, 0, 233),
+        at: (1, 0, 235),
         faults: 1,
         crashes: &[
             Crash { first: 10, second: 2, old: NEW,       new: WITH_ONE,  ones: WITH_ONE },
@@ -186,7 +186,7 @@ const FAILED_APPENDS: [Run; 6] = [
         first: &[10, 16],
         second: &[],
         calls: &[(Call::Append(&ONE), false), (Call::Append(&BOTH), false)],
-        at: (1, 0, 124),
+        at: (1, 0, 126),
         faults: 2,
         crashes: &[
             Crash { first: 10, second: 2, old: NEW,       new: WITH_ONE,  ones: WITH_ONE },
@@ -201,7 +201,7 @@ const FAILED_APPENDS: [Run; 6] = [
         first: &[10, 12],
         second: &[],
         calls: &[(Call::Append(&ONE), false), (Call::Append(&BOTH), false)],
-        at: (1, 0, 124),
+        at: (1, 0, 126),
         faults: 2,
         crashes: &[
             Crash { first: 10, second: 2, old: NEW,       new: WITH_ONE,  ones: WITH_ONE },
@@ -219,8 +219,8 @@ const FAILED_CHECKPOINTS: [Run; 2] = [
         name: "the write of an image fails",
         first: &[],
         second: &[5],
-        calls: &[(Call::Append(&ONE), true), (Call::Checkpoint(197), false), (Call::Append(&TWO), true)],
-        at: (1, 0, 270),
+        calls: &[(Call::Append(&ONE), true), (Call::Checkpoint(199), false), (Call::Append(&TWO), true)],
+        at: (1, 0, 272),
         faults: 1,
         crashes: &[
             Crash { first: 10, second: 5, old: WITH_ONE, new: WITH_ONE, ones: WITH_ONE },
@@ -232,8 +232,8 @@ const FAILED_CHECKPOINTS: [Run; 2] = [
         name: "the sync of an image's gate fails",
         first: &[],
         second: &[8],
-        calls: &[(Call::Append(&ONE), true), (Call::Checkpoint(197), false), (Call::Append(&TWO), true)],
-        at: (1, 0, 270),
+        calls: &[(Call::Append(&ONE), true), (Call::Checkpoint(199), false), (Call::Append(&TWO), true)],
+        at: (1, 0, 272),
         faults: 1,
         crashes: &[
             Crash { first: 10, second: 7,  old: WITH_ONE, new: AT_ONE,   ones: AT_ONE },
@@ -373,7 +373,29 @@ fn written(alloc: Global) -> Option<MemDisk> {
 #[test]
 fn writes_a_file_by_hand(rt: HostRuntime) -> Result<(), Fail> {
     let disk = written(rt.alloc()).ok_or("no file")?;
-    let file = file_to(rt.alloc(), 270).ok_or("no bytes")?;
+    let file = file_to(rt.alloc(), 272).ok_or("no bytes")?;
     holds(&rt, "the bytes", disk.bytes() == file.as_slice());
+    Ok(())
+}
+
+// What is told of the files once an image was written beside the file in the first format, and whether
+// that file stayed and the new one is in the second format.
+fn renewed(alloc: Global) -> Option<(Told, bool)> {
+    let (mut dataset, store) = opened_old(alloc)?;
+    if told_of(&dataset, &store) != (1, 0, 197, 1, 1) || dataset.checkpoint(&store).is_err() {
+        return None;
+    }
+    let disks = dataset.into_disks();
+    let stays = disks.first.bytes().get(..9) == Some(b"\x01DECIBEL1")
+        && disks.second.bytes().get(..9) == Some(b"\x01DECIBEL2");
+    let (dataset, store) = reopen(alloc, disks).ok()?;
+    Some((told_of(&dataset, &store), stays))
+}
+
+#[test]
+fn reads_the_first_format_and_writes_the_second(rt: HostRuntime) -> Result<(), Fail> {
+    let (told, stays) = renewed(rt.alloc()).ok_or("no files")?;
+    holds(&rt, "what is told", Some(told) == AT_ONE);
+    holds(&rt, "the formats", stays);
     Ok(())
 }

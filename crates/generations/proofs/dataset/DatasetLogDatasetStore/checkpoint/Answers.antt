@@ -1,5 +1,6 @@
 use Rattle.std.proofs.Common.{List, ℕ, sym, subst}
 use Rattle.hybrid_store.specs.Store.{layout_of}
+use Rattle.image_text.specs.declared.image.Format.TheVariants.{Two}
 use Rattle.db_image.specs.Stores.{IsImageOf}
 use Rattle.generations.specs.Stored.{state_in}
 use Rattle.generations.proofs.Imaging.{front_imaged}
@@ -14,4 +15,4 @@ returns-in-Ok-clause-kept g c es f either =
     let store = c.args.store.now in
     let file = either_file c.args.self.now (state_in store) es f either in
     let image = c.in-Ok.ensures.image (front_imaged file.front c.args.self.now.generation (layout_of store) es file.is_front) in
-    c.checkpoint_bytes.ensures.kept (state_in store) es f (subst (λ (l : List ℕ). IsImageOf l (state_in store)) (sym c.as_slice.ensures) image) either
+    c.checkpoint_bytes.ensures.kept (state_in store) es f (subst (λ (l : List ℕ). IsImageOf Two l (state_in store)) (sym c.as_slice.ensures) image) either
