@@ -1,6 +1,6 @@
 //! Entries and their bytes. The expected bytes are written by hand.
 use crate::asserts::same;
-use db_value::{Change, Entry, Fields, ListOf};
+use crate::made::{Made, entry_of};
 use entry_codec::{EntryStop, decode, encode};
 use std::alloc::Global;
 use std::test::Fail;
@@ -18,22 +18,18 @@ const DESCENDING: [u8; 46] = [
     0, 0, 0, 0, 0, 0, 0, 0, 0, 0, 0, 0, 0, 0,
 ];
 
+// The same on columns of texts of 8 bytes and of numbers: the values are "ab" and 5.
+const WIDE: [u8; 38] = [
+    3, 0, 0, 0, 0, 0, 1, 0, 0, 0, 0, 2, 1, 0, 0, 0, 0, 0, 0, 0, 8, 97, 98, 0, 0, 0, 0, 0, 0, 0, 5,
+    0, 0, 0, 0, 0, 0, 0,
+];
+
 const BRANCH: &[u8] = b"\x02\x03dev\x00\x00\x00\x00\x01\x00\x00\x00";
 
 #[test]
 fn spells_a_commit(rt: HostRuntime) -> Result<(), Fail> {
     let alloc = rt.alloc();
-    let mut changes = Vec::new(alloc);
-    changes.push(Change {
-        relation: 0,
-        key: 1,
-        fields: Fields::of(&[1, 1]),
-    })?;
-    let entry = Entry::Commit {
-        branch: 0,
-        second: None,
-        changes: ListOf::of(changes),
-    };
+    let entry = entry_of(alloc, &Made::Commit(0, None, &[(0, 1, &[1, 1])]))?;
     assert!(rt; encode(alloc, &entry)?.as_slice() == ONE.as_slice());
     Ok(())
 }
@@ -58,7 +54,7 @@ fn size_with(
 }
 
 #[rattlefmt::skip]
-const READ: [(&str, &[u8], usize, usize, u8, Option<usize>); 17] = [
+const READ: [(&str, &[u8], usize, usize, u8, Option<usize>); 24] = [
     // what stands at the front             the bytes    how many, one of them   its size
     ("a commit",                            &ONE,        36,       0,  1,        Some(36)),
     ("a commit without its last byte",      &ONE,        35,       0,  1,        None),
@@ -68,7 +64,14 @@ const READ: [(&str, &[u8], usize, usize, u8, Option<usize>); 17] = [
     ("a new branch",                        BRANCH,      13,       0,  2,        Some(13)),
     ("a new branch without a name",         BRANCH,      13,       1,  0,        None),
     ("no entry's first byte",               BRANCH,      13,       0,  3,        None),
-    ("a commit that begins so",             &ONE,        36,       0,  3,        None),
+    ("one that is read as an empty text",   &ONE,        36,       0,  3,        Some(31)),
+    ("a commit with a text",                &WIDE,       38,       0,  3,        Some(38)),
+    ("its last byte lacks",                 &WIDE,       37,       0,  3,        None),
+    ("one that is read as numbers",         &WIDE,       38,       0,  1,        Some(36)),
+    ("a width of 65",                       &WIDE,       38,       20, 65,       None),
+    ("numbers alone, told as texts",        &WIDE,       38,       20, 0,        None),
+    ("a byte behind the end of a text",     &WIDE,       38,       24, 99,       None),
+    ("a quote in a text",                   &WIDE,       38,       22, 34,       None),
     ("the tag of the second parent",        &ONE,        36,       5,  2,        None),
     ("a count that the bytes don't hold",   &ONE,        36,       6,  2,        None),
     ("a count of nothing",                  &ONE,        36,       6,  0,        None),

@@ -9,18 +9,26 @@ use db_store::View;
 use db_value::Schema;
 use hybrid_store::HybridStore;
 use image_parts::ImageStop;
+use image_text::Format;
 use std::alloc::Global;
 use std::process::Abort;
 use std::test::Fail;
 
-const NEW: [u8; 67] = [
+// The image of a new dataset of two columns, in format one and in format two.
+const OLD: [u8; 67] = [
     1, 5, 0x69, 0x74, 0x65, 0x6d, 0x73, 2, 1, 0x61, 1, 0x62, 1, 0, 0, 0, 6, 0x6d, 0x61, 0x73, 0x74,
     0x65, 0x72, 0, 0, 0, 0, 0, 0, 0, 0, 0, 0, 0, 0, 1, 0, 0, 0, 1, 0, 0, 0, 0, 0, 0, 0, 1, 0, 0, 0,
     0, 0, 0, 0, 0, 0, 0, 0, 0, 0, 0, 0, 0, 0, 0, 0,
 ];
 
-const HEAD: [u8; 119] = [
-    1, 1, 114, 1, 1, 97, 2, 0, 0, 0, 6, 109, 97, 115, 116, 101, 114, 0, 0, 0, 0, 0, 0, 0, 0, 3,
+const NEW: [u8; 69] = [
+    1, 5, 0x69, 0x74, 0x65, 0x6d, 0x73, 2, 1, 0x61, 0, 1, 0x62, 0, 1, 0, 0, 0, 6, 0x6d, 0x61, 0x73,
+    0x74, 0x65, 0x72, 0, 0, 0, 0, 0, 0, 0, 0, 0, 0, 0, 0, 1, 0, 0, 0, 1, 0, 0, 0, 0, 0, 0, 0, 1, 0,
+    0, 0, 0, 0, 0, 0, 0, 0, 0, 0, 0, 0, 0, 0, 0, 0, 0, 0,
+];
+
+const HEAD: [u8; 120] = [
+    1, 1, 114, 1, 1, 97, 0, 2, 0, 0, 0, 6, 109, 97, 115, 116, 101, 114, 0, 0, 0, 0, 0, 0, 0, 0, 3,
     100, 101, 118, 0, 0, 0, 0, 1, 0, 0, 0, 2, 0, 0, 0, 0, 0, 0, 0, 0, 1, 0, 0, 0, 1, 0, 0, 0, 0, 1,
     0, 0, 0, 3, 0, 0, 0, 0, 0, 0, 0, 2, 0, 0, 0, 2, 0, 1, 0, 0, 0, 0, 0, 0, 0, 0, 0, 0, 0, 0, 0, 1,
     0, 0, 0, 0, 0, 0, 0, 10, 0, 0, 0, 0, 0, 0, 0, 2, 0, 0, 0, 0, 0, 0, 0, 236, 255, 255, 255, 255,
@@ -120,8 +128,8 @@ fn a_store_that_grew(rt: HostRuntime) -> Result<(), Fail> {
     shows(&rt, rt.alloc(), &store)
 }
 
-fn read(alloc: Global, bytes: &[u8]) -> Result<HybridStore, Fail> {
-    match decode(alloc, bytes) {
+fn read(alloc: Global, bytes: &[u8], format: Format) -> Result<HybridStore, Fail> {
+    match decode(alloc, bytes, format) {
         Ok(store) => Ok(store),
         Err(_) => Err("no image".into()),
     }
@@ -130,33 +138,47 @@ fn read(alloc: Global, bytes: &[u8]) -> Result<HybridStore, Fail> {
 #[test]
 fn a_store_that_was_read(rt: HostRuntime) -> Result<(), Fail> {
     let bytes = image_of_two(rt.alloc())?;
-    let store = read(rt.alloc(), &bytes)?;
+    let store = read(rt.alloc(), &bytes, Format::Two)?;
     holds(&rt, "the image", has_image(rt.alloc(), &store, &bytes)?);
     shows(&rt, rt.alloc(), &store)
 }
 
 // Where the first fault of bytes is, or the greatest number.
-fn fault_of(alloc: Global, bytes: &[u8]) -> u64 {
-    match decode(alloc, bytes) {
+fn fault_of(alloc: Global, bytes: &[u8], format: Format) -> u64 {
+    match decode(alloc, bytes, format) {
         Err(ImageStop::NotAnImage { at }) => at,
         _ => u64::MAX,
     }
 }
 
+fn end_there(rt: &impl Abort, alloc: Global, bytes: &[u8], format: Format) -> Result<(), Fail> {
+    for end in 0..bytes.len() {
+        let front = bytes.get(..end).ok_or("no front")?;
+        same(rt, "a front", fault_of(alloc, front, format), end as u64);
+    }
+    Ok(())
+}
+
 #[test]
 fn tells_where_bytes_end(rt: HostRuntime) -> Result<(), Fail> {
-    for end in 0..67usize {
-        same(
-            &rt,
-            "a front",
-            fault_of(rt.alloc(), &NEW[..end]),
-            end as u64,
-        );
-    }
-    let store = read(rt.alloc(), &NEW)?;
-    holds(&rt, "all of it", has_image(rt.alloc(), &store, &NEW)?);
+    end_there(&rt, rt.alloc(), &OLD, Format::One)?;
+    end_there(&rt, rt.alloc(), &NEW, Format::Two)?;
     let mut more = image_of_two(rt.alloc())?;
     more.push(0)?;
-    same(&rt, "a byte more", fault_of(rt.alloc(), &more), 8411);
+    let fault = fault_of(rt.alloc(), &more, Format::Two);
+    same(&rt, "a byte more", fault, 8412);
+    Ok(())
+}
+
+// An image in format one is read, and written in format two.
+#[test]
+fn reads_two_formats(rt: HostRuntime) -> Result<(), Fail> {
+    let alloc = rt.alloc();
+    for (bytes, format) in [(OLD.as_slice(), Format::One), (NEW.as_slice(), Format::Two)] {
+        let store = read(alloc, bytes, format)?;
+        holds(&rt, "its image", has_image(alloc, &store, &NEW)?);
+    }
+    same(&rt, "a width of 1", fault_of(alloc, &OLD, Format::Two), 10);
+    same(&rt, "a length of 0", fault_of(alloc, &NEW, Format::One), 10);
     Ok(())
 }

@@ -1,6 +1,6 @@
 //! What makes a version or a branch of a store.
 use db_store::Store;
-use db_value::{Change, Entry, Fields, ListOf, Name, VersionPlace};
+use db_value::{Changes, Entry, Fields, Name, Record, Value, VersionPlace, Widths};
 use std::alloc::Global;
 use std::test::Fail;
 
@@ -28,24 +28,47 @@ fn place_of(pair: Option<Pair>) -> Option<VersionPlace> {
     }
 }
 
+fn fields_of(alloc: Global, numbers: &[i64]) -> Result<Fields, Fail> {
+    let mut values = Vec::new(alloc);
+    for number in numbers {
+        values.push(Value::Number { value: *number })?;
+    }
+    Ok(Fields::of(&values).ok_or("too many fields")?)
+}
+
+// As many widths of numbers.
+fn widths_of(numbers: &[i64]) -> Result<Widths, Fail> {
+    let widths = [0u8; 15].get(..numbers.len()).and_then(Widths::of);
+    Ok(widths.ok_or("too many columns")?)
+}
+
+// A change more: of a record that is put, or of a key that is deleted.
+fn put_step(alloc: Global, changes: &mut Changes, step: &Step) -> Result<(), Fail> {
+    let (relation, key, numbers) = step;
+    if numbers.is_empty() {
+        return Ok(changes.remove(*relation, *key)?);
+    }
+    let row = Record {
+        key: *key,
+        fields: fields_of(alloc, numbers)?,
+    };
+    Ok(changes.put(*relation, &row, &widths_of(numbers)?)?)
+}
+
 fn commit_of(
     alloc: Global,
     branch: u32,
     second: Option<Pair>,
     steps: &[Step],
 ) -> Result<Entry, Fail> {
-    let mut changes = Vec::new(alloc);
-    for (relation, key, fields) in steps {
-        changes.push(Change {
-            relation: *relation,
-            key: *key,
-            fields: Fields::of(*fields),
-        })?;
+    let mut changes = Changes::new(alloc);
+    for step in steps {
+        put_step(alloc, &mut changes, step)?;
     }
     Ok(Entry::Commit {
         branch,
         second: place_of(second),
-        changes: ListOf::of(changes),
+        changes,
     })
 }
 
