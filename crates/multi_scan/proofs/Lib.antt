@@ -6,6 +6,7 @@ pub mod Distinct
 pub mod Agreeing
 pub mod Runs
 pub mod Joined
+pub mod KeptLemmas
 pub mod Sorted
 pub mod Union
 pub mod Pairs

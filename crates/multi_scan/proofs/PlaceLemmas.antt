@@ -1,5 +1,5 @@
 -- The places of the parts of views, and runs of them with one id.
-use Rattle.std.proofs.Common.{◌≡◌, ℕ, zero, suc, ◌+◌, ◌<◌, ◌≤◌, ◌==◌, Bool, true, false, cond, List, [], ◌∷◌, ◌++◌, length, map, take, drop, get_or, ap, sym, ◌∙◌, refl, subst, arith, nat_cmp, Ordering}
+use Rattle.std.proofs.Common.{◌≡◌, ℕ, zero, suc, ◌+◌, ◌<◌, ◌≤◌, ◌==◌, Bool, true, false, cond, List, [], ◌∷◌, ◌++◌, length, map, take, drop, get_or, ap, sym, ◌∙◌, refl, subst, arith, nat_cmp, Ordering, Some, None}
 use Rattle.std.specs.List.{AllByRecursion, flat_map}
 use Rattle.std.specs.List.Sorted.{IsSorted}
 use Rattle.std.specs.Ordering.{is_lt, ordering_then}
@@ -14,7 +14,7 @@ use Rattle.db_store.specs.Parts.{Part, part_at, no_part}
 use Rattle.db_store.proofs.RowLemmas.{all_append}
 use Rattle.multi_scan.specs.declared.places.Place.{Place}
 use Rattle.multi_scan.specs.Found.{found_in_part, found_in_parts, found_in_views}
-use Rattle.multi_scan.specs.Places.{places_from, places_in, part_of, IsPlace, found_at_places, id_run, place_cmp}
+use Rattle.multi_scan.specs.Places.{places_from, places_in, part_of, IsPlace, found_at_places, id_run, place_cmp, row_where, kept_at}
 use Rattle.multi_scan.proofs.Totals.{all_from, all_both}
 use Rattle.multi_scan.proofs.Rising.{Rises, rises}
 
@@ -126,3 +126,11 @@ pub ids_take : (n : ℕ) (ps : List Place) → ById ps → ById (take n ps)
 ids_take zero ps s = tt
 ids_take (suc n) [] s = tt
 ids_take (suc n) (p ∷ ps) s = (all_take (IsAfter p) n ps s.0, ids_take n ps s.1)
+
+-- what is kept of a row for which the condition holds, and of another
+pub kept_one : (p : Record → Bool) (row : Record) (live : List ℕ) → p row ≡ true → kept_at live (row_where p row) ≡ kept_at live (Some row)
+kept_one p row live e = ap (λ (b : Bool). kept_at live (cond b (Some row) None)) e
+
+pub kept_none : (p : Record → Bool) (row : Record) (live : List ℕ) → p row ≡ false → kept_at live (row_where p row) ≡ []
+kept_none p row [] e = refl
+kept_none p row (n ∷ ns) e = ap (λ (b : Bool). kept_at (n ∷ ns) (cond b (Some row) None)) e

@@ -1,46 +1,37 @@
 //! Scans of one view and of several.
-ghost use Rattle.std.specs.Prelude.{◌≡◌, ◌+◌, ◌<◌, ◌≤◌, ◌++◌, false, length, map, OnOk, IfOk};
+ghost use Rattle.std.specs.Prelude.{◌≡◌, ◌+◌, ◌-◌, ◌<◌, ◌≤◌, ◌++◌, length, map, take, drop, OnOk, IfOk};
 ghost use Rattle.std.specs.List.{All, AllByRecursion};
 ghost use Rattle.std.specs.List.Sorted.{IsPermutation, IsSorted};
 ghost use Rattle.db_value.specs.Pred.{pred_holds};
 ghost use Rattle.db_store.specs.Rows.{rows_where, marked, slots_of};
 ghost use Rattle.multi_scan.specs.Agree.{AllAgree};
-ghost use Rattle.multi_scan.specs.Found.{joined, run_length, positions_of, Ascends, Climbs, HasPositions, AreInOrder, row_cmp};
+ghost use Rattle.multi_scan.specs.Found.{joined, run_length, positions_of, Ascends, Climbs, HasPositions, AreInOrder};
 ghost use Rattle.multi_scan.specs.Places.{shown};
 ghost use Rattle.multi_scan.specs.Multi.{multi};
 ghost use Rattle.multi_scan.specs.Cost.{slots_of_distinct};
 
+use crate::found::FoundRows;
 use crate::places::{by_id, list_places};
 use crate::slots::{copied, gather};
 use db_store::{View, list_rows};
-use db_value::{Marked, Positions, Pred, Record, Rows, SharedList, Steps};
+use db_value::{Positions, Pred, Record, Records, Rows, Steps};
 use std::alloc::{AllocError, Global};
 use std::sync::ledger::Ledger;
 
-// In order, by row.
-fn by_row(mut found: Vec<Marked>) -> Vec<Marked>
-    requires { AllByRecursion HasPositions found.items }
-    ensures positions { AllByRecursion HasPositions result.items }
-    ensures permutation { IsPermutation found.items result.items }
-    ensures sorted { IsSorted row_cmp result.items }
-{
-    found.sort_unstable_by(|a, b| a.row.cmp(&b.row));
-    found
-}
-
-// How many at the front have this row.
-fn count_run(row: &Record, found: &[Marked]) -> usize
-    ensures value { result ≡ run_length row.now found.now }
+// Up to which place rows are this one. The other record is one to read into.
+fn run_end(found: &FoundRows, from: usize, row: &Record, other: &mut Record) -> usize
+    requires { from ≤ length found.now }
+    ensures value { result - from ≡ run_length row.now (drop from found.now) }
+    ensures from { from ≤ result }
     ensures within { result ≤ length found.now }
 {
-    let mut count = 0;
-    for marked in found {
-        if marked.row != *row {
-            return count;
+    for at in from..found.len() {
+        found.read(at, other);
+        if *other != *row {
+            return at;
         }
-        count += 1;
     }
-    count
+    found.len()
 }
 
 fn push_positions(all: &mut Vec<u32>, positions: &Positions) -> Result<(), AllocError>
@@ -53,15 +44,15 @@ fn push_positions(all: &mut Vec<u32>, positions: &Positions) -> Result<(), Alloc
     Ok(())
 }
 
-// The positions of a run.
-fn collect(all: &mut Vec<u32>, first: &Positions, run: &[Marked]) -> Result<(), AllocError>
-    ensures items { OnOk result (all.new.items ≡ first.now ++ positions_of run.now) }
-    ensures some { OnOk result (0 < length first.now) }
+// The positions of the rows from a place up to another one.
+fn collect(all: &mut Vec<u32>, found: &FoundRows, from: usize, to: usize) -> Result<(), AllocError>
+    requires { to ≤ length found.now }
+    ensures { OnOk result
+        (all.new.items ≡ positions_of (take (to - from) (drop from found.now))) }
 {
     all.clear();
-    push_positions(all, first)?;
-    for marked in run {
-        push_positions(all, &marked.positions)?;
+    for at in from..to {
+        push_positions(all, found.positions(at))?;
     }
     Ok(())
 }
@@ -73,16 +64,21 @@ fn sort(all: &mut Vec<u32>)
     all.sort_unstable();
 }
 
-// The positions of a run, ascending.
+// The positions of the rows from a place up to another one, ascending.
 fn ascending(
     alloc: Global,
     all: &mut Vec<u32>,
-    first: &Positions,
-    run: &[Marked],
+    found: &FoundRows,
+    from: usize,
+    to: usize,
 ) -> Result<Positions, AllocError>
-    ensures { IfOk result (λ positions. Ascends (first.now ++ positions_of run.now) positions) }
+    requires some { from < to }
+    requires within { to ≤ length found.now }
+    requires each { AllByRecursion HasPositions found.now }
+    ensures { IfOk result
+        (Ascends (positions_of (take (to - from) (drop from found.now)))) }
 {
-    collect(all, first, run)?;
+    collect(all, found, from, to)?;
     sort(all);
     let [least, others @ ..] = all.as_slice() else {
         unreachable!();
@@ -90,63 +86,26 @@ fn ascending(
     Ok(Positions::of(*least, copied(alloc, others)?))
 }
 
-// Do neighbours have one row?
-fn has_runs(found: &[Marked]) -> bool
-    ensures { result ≡ false → joined found.now ≡ found.now }
-{
-    let mut rest = found;
-    while let [first, others @ ..] = rest {
-        if count_run(&first.row, others) > 0 {
-            return true;
-        }
-        rest = others;
-    }
-    false
-}
-
 // Neighbours with one row become that row, with the positions of all.
-fn join_runs(alloc: Global, found: &[Marked]) -> Result<Vec<Marked>, AllocError>
-    ensures { IfOk result (λ rows. AreInOrder (joined found.now) rows.items) }
+fn join(alloc: Global, found: &FoundRows) -> Result<Rows, AllocError>
+    requires { AllByRecursion HasPositions found.now }
+    ensures { IfOk result (λ rows. AreInOrder (joined found.now) rows) }
 {
-    let mut rows = Vec::with_capacity(alloc, found.len())?;
+    let mut rows = Records::with_room(alloc, found.len(), 0)?;
+    let mut marks = Vec::with_capacity(alloc, found.len())?;
+    let mut row = Record::blank();
+    let mut other = Record::blank();
     let mut all = Vec::new(alloc);
-    let mut rest = found;
-    while let [first, others @ ..] = rest {
-        let (run, more) = others.split_at(count_run(&first.row, others));
-        let positions = ascending(alloc, &mut all, &first.positions, run)?;
-        rows.push(Marked {
-            row: first.row,
-            positions,
-        })?;
-        rest = more;
+    let mut at = 0;
+    'runs: while at < found.len() {
+        found.read(at, &mut row);
+        let to = run_end(found, at + 1, &row, &mut other);
+        let positions = ascending(alloc, &mut all, found, at, to)?;
+        rows.push(&row)?;
+        marks.push(positions)?;
+        at = to;
     }
-    Ok(rows)
-}
-
-// Most often each row stands alone, and then nothing is moved.
-fn join(alloc: Global, found: Vec<Marked>) -> Result<Rows, AllocError>
-    requires { AllByRecursion HasPositions found.items }
-    ensures { IfOk result (λ rows. AreInOrder (joined found.items) rows) }
-{
-    if !has_runs(&found) {
-        return Ok(SharedList::of(alloc, found)?);
-    }
-    let rows = join_runs(alloc, &found)?;
-    Ok(SharedList::of(alloc, rows)?)
-}
-
-// Rows of the one view, with its position.
-fn mark(alloc: Global, rows: &[Record]) -> Result<Rows, AllocError>
-    ensures { IfOk result (λ all. all ≡ map marked rows.now) }
-{
-    let mut all = Vec::with_capacity(alloc, rows.len())?;
-    for row in rows {
-        all.push(Marked {
-            row: *row,
-            positions: Positions::first_alone(alloc),
-        })?;
-    }
-    Ok(SharedList::of(alloc, all)?)
+    Rows::marked(alloc, rows, marks)
 }
 
 /// The records of a relation for which a condition holds, by key, as rows of the one view.
@@ -163,8 +122,7 @@ pub fn list<V: View, L: Ledger>(
     ensures cost { steps.new ≤ steps.old + slots_of (V.parts_of view.now relation) }
 {
     let rows = list_rows(alloc, view, relation, pred, steps)?;
-    let all = mark(alloc, rows.as_slice())?;
-    Ok(all)
+    Rows::alone(alloc, rows)
 }
 
 /// The records of a relation in several views for which a condition holds: each pair of key and
@@ -185,7 +143,7 @@ pub fn scan<V: View, L: Ledger>(
         ≤ steps.old + slots_of_distinct (shown V.parts_of relation views.now) }
 {
     let places = by_id(list_places(alloc, views, relation)?);
-    let found = gather(alloc, views, relation, pred, &places, steps)?;
-    let rows = join(alloc, by_row(found))?;
-    Ok(rows)
+    let mut found = gather(alloc, views, relation, pred, &places, steps)?;
+    found.sort();
+    join(alloc, &found)
 }

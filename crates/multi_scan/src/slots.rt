@@ -1,5 +1,5 @@
 //! What views have, slot by slot. A part that several views share is read once.
-ghost use Rattle.std.specs.Prelude.{◌≡◌, ◌+◌, ◌<◌, ◌≤◌, ◌++◌, length, map, OnOk, IfOk};
+ghost use Rattle.std.specs.Prelude.{◌≡◌, ◌+◌, ◌<◌, ◌≤◌, ◌++◌, length, map, Some, OnOk, IfOk};
 ghost use Rattle.std.specs.List.{All, AllByRecursion};
 ghost use Rattle.db_value.specs.Pred.{pred_holds};
 ghost use Rattle.db_store.specs.Parts.{records_in};
@@ -9,9 +9,10 @@ ghost use Rattle.multi_scan.specs.Found.{AreSame, HasPositions, spread};
 ghost use Rattle.multi_scan.specs.Places.{shown, part_of, slot_of, IsPlace, AreListed, HasSlot, ShowsRecords, live_at, row_where, kept_at, found_shared, found_at_places};
 ghost use Rattle.multi_scan.specs.Cost.{distinct_parts};
 
+use crate::found::FoundRows;
 use crate::places::{Place, count_id};
 use db_store::{Spot, View};
-use db_value::{Marked, Positions, Pred, Record, Steps};
+use db_value::{Positions, Pred, Record, Steps};
 use std::alloc::{AllocError, Global};
 use std::sync::ledger::Ledger;
 
@@ -38,29 +39,30 @@ fn find_live<V: View>(
     Ok(())
 }
 
-// The record in a slot, if the condition holds of it.
+// Reads the record in a slot, and tells if the condition holds of it.
 fn read_slot<V: View, L: Ledger>(
     views: &[V],
     relation: u8,
     pred: &Pred,
     place: &Place,
     slot: u32,
+    into: &mut Record,
     steps: &mut Steps<L>,
-) -> Option<Record>
+) -> bool
     requires relation { All (λ v. relation < length (V.table v)) views.now }
     requires slot { HasSlot (shown V.parts_of relation views.now) slot place.now }
-    ensures row { result ≡ row_where (pred_holds pred.now)
-        (slot_of (part_of (shown V.parts_of relation views.now) place.now) slot).0 }
+    ensures row { into.new ≡ (slot_of (part_of (shown V.parts_of relation views.now) place.now)
+        slot).0 }
+    ensures holds { result ≡ pred_holds pred.now into.new }
     ensures cost { steps.new ≤ steps.old + 1 }
 {
     let view = &views[place.position as usize];
-    let mut row = Record::blank();
     let spot = Spot {
         part: place.index,
         slot,
     };
-    view.read(relation, spot, &mut row, steps);
-    if pred.holds(&row) { Some(row) } else { None }
+    view.read(relation, spot, into, steps);
+    pred.holds(into)
 }
 
 /// Positions in memory of their own, exactly as much as they take.
@@ -72,23 +74,15 @@ pub fn copied(alloc: Global, positions: &[u32]) -> Result<Vec<u32>, AllocError>
     Ok(all)
 }
 
-// A row more, if there is one and a view has it.
-fn keep(
-    alloc: Global,
-    found: &mut Vec<Marked>,
-    live: &[u32],
-    row: Option<Record>,
-) -> Result<(), AllocError>
-    ensures { OnOk result (found.new.items ≡ found.old.items ++ kept_at live.now row) }
+// A row more, if a view has it.
+fn keep(alloc: Global, found: &mut FoundRows, live: &[u32], row: &Record) -> Result<(), AllocError>
+    ensures { OnOk result (found.new ≡ found.old ++ kept_at live.now (Some row.now)) }
 {
     let [first, others @ ..] = live else {
         return Ok(());
     };
-    let Some(row) = row else {
-        return Ok(());
-    };
     let positions = Positions::of(*first, copied(alloc, others)?);
-    Ok(found.push(Marked { row, positions })?)
+    Ok(found.push(row, positions)?)
 }
 
 // A slot of a part that is shown at places, one of which is read.
@@ -101,13 +95,14 @@ fn gather_slot<V: View, L: Ledger>(
     places: &[Place],
     slot: u32,
     live: &mut Vec<u32>,
-    found: &mut Vec<Marked>,
+    row: &mut Record,
+    found: &mut FoundRows,
     steps: &mut Steps<L>,
 ) -> Result<(), AllocError>
     requires relation { All (λ v. relation < length (V.table v)) views.now }
     requires first { HasSlot (shown V.parts_of relation views.now) slot first.now }
     requires slot { All (HasSlot (shown V.parts_of relation views.now) slot) places.now }
-    ensures found { OnOk result (found.new.items ≡ found.old.items
+    ensures found { OnOk result (found.new ≡ found.old
         ++ kept_at (live_at (shown V.parts_of relation views.now) slot places.now)
         (row_where (pred_holds pred.now)
         (slot_of (part_of (shown V.parts_of relation views.now) first.now) slot).0)) }
@@ -117,7 +112,9 @@ fn gather_slot<V: View, L: Ledger>(
     if live.is_empty() {
         return Ok(());
     }
-    let row = read_slot(views, relation, pred, first, slot, steps);
+    if !read_slot(views, relation, pred, first, slot, row, steps) {
+        return Ok(());
+    }
     keep(alloc, found, live, row)
 }
 
@@ -130,14 +127,15 @@ fn gather_part<V: View, L: Ledger>(
     first: &Place,
     places: &[Place],
     live: &mut Vec<u32>,
-    found: &mut Vec<Marked>,
+    row: &mut Record,
+    found: &mut FoundRows,
     steps: &mut Steps<L>,
 ) -> Result<(), AllocError>
     requires relation { All (λ v. relation < length (V.table v)) views.now }
     requires first { IsPlace (shown V.parts_of relation views.now) first.now }
     requires records { All (ShowsRecords (shown V.parts_of relation views.now)
         (records_in (part_of (shown V.parts_of relation views.now) first.now))) places.now }
-    ensures found { OnOk result (found.new.items ≡ found.old.items
+    ensures found { OnOk result (found.new ≡ found.old
         ++ found_shared (pred_holds pred.now) (shown V.parts_of relation views.now)
         (part_of (shown V.parts_of relation views.now) first.now) places.now
         (length (part_of (shown V.parts_of relation views.now) first.now).slots)) }
@@ -148,7 +146,7 @@ fn gather_part<V: View, L: Ledger>(
     let info = view.part(relation, first.index);
     for slot in 0..info.slots {
         gather_slot(
-            alloc, views, relation, pred, first, places, slot, live, found, steps,
+            alloc, views, relation, pred, first, places, slot, live, row, found, steps,
         )?;
     }
     Ok(())
@@ -163,23 +161,24 @@ pub fn gather<V: View, L: Ledger>(
     pred: &Pred,
     places: &[Place],
     steps: &mut Steps<L>,
-) -> Result<Vec<Marked>, AllocError>
+) -> Result<FoundRows, AllocError>
     requires relation { All (λ v. relation < length (V.table v)) views.now }
     requires agree { AllAgree (shown V.parts_of relation views.now) }
     requires places { AreListed (shown V.parts_of relation views.now) places.now }
-    ensures positions { IfOk result (λ found. AllByRecursion HasPositions found.items) }
-    ensures found { IfOk result (λ found. AreSame (spread found.items) (found_at_places
+    ensures positions { IfOk result (λ found. AllByRecursion HasPositions found) }
+    ensures found { IfOk result (λ found. AreSame (spread found) (found_at_places
         (pred_holds pred.now) (shown V.parts_of relation views.now) places.now)) }
     ensures cost { steps.new ≤ steps.old + slots_of (distinct_parts
         (map (part_of (shown V.parts_of relation views.now)) places.now)) }
 {
-    let mut found = Vec::new(alloc);
+    let mut found = FoundRows::new(alloc);
+    let mut row = Record::blank();
     let mut live = Vec::new(alloc);
     let mut rest = places;
     while let [first, ..] = rest {
         let (run, more) = rest.split_at(count_id(first.id, rest));
         gather_part(
-            alloc, views, relation, pred, first, run, &mut live, &mut found, steps,
+            alloc, views, relation, pred, first, run, &mut live, &mut row, &mut found, steps,
         )?;
         rest = more;
     }

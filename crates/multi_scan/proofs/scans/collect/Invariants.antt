@@ -1,6 +1,10 @@
-use Rattle.std.proofs.Common.{◌≡◌, ◌++◌, take}
+use Rattle.std.proofs.Common.{◌≡◌, ◌-◌, ◌≤◌, take, drop}
 use Rattle.multi_scan.specs.Found.{positions_of}
 use Rattle.multi_scan.proofs.scans.collect.Given as goal
 
-abbrev pub invariant-loop-marked : goal.invariant-loop-marked
-invariant-loop-marked l = l.all.items ≡ l.first ++ positions_of (take l.marked-index l.run)
+-- the positions of the rows in front of the place
+abbrev pub invariant-loop-at : goal.invariant-loop-at
+invariant-loop-at l = record {
+  items : l.all.items ≡ positions_of (take (l.at - l.from) (drop l.from l.found));
+  from : l.from ≤ l.at;
+}

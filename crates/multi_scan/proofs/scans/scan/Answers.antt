@@ -38,9 +38,8 @@ returns-clause-rows g c =
     let views = shown g.V.View.parts_of c.args.relation c.args.views.now in
     let p = pred_holds c.args.pred.now in
     let moved : IsPermutation (places_in 0 views) c.by_id-places.result.items = subst (λ (t : List Place). IsPermutation t c.by_id-places.result.items) c.in_ok-list_places.ensures c.by_id-places.ensures.permutation in
-    let same : AreSame (spread c.in_ok-found.found.items) (found_at_places p views c.by_id-places.result.items) = subst (λ (t : List Place). AreSame (spread c.in_ok-found.found.items) (found_at_places p views t)) c.deref.ensures.value c.in_ok-found.ensures.found in
-    let order : AreInOrder (joined c.by_row.result.items) c.in_ok-rows.rows = c.in_ok-rows.ensures in
-    scanned g.V.View.table g.V.View.parts_of c.args.relation p g.met.V.View.rows_are c.args.views.now c.by_id-places.result.items c.in_ok-found.found.items c.by_row.result.items c.in_ok-rows.rows c.requires.relation moved same c.by_row.ensures.permutation c.by_row.ensures.sorted order
+    let same : AreSame (spread c.in_ok-found.found) (found_at_places p views c.by_id-places.result.items) = subst (λ (t : List Place). AreSame (spread c.in_ok-found.found) (found_at_places p views t)) c.deref.ensures.value c.in_ok-found.ensures.found in
+    scanned g.V.View.table g.V.View.parts_of c.args.relation p g.met.V.View.rows_are c.args.views.now c.by_id-places.result.items c.in_ok-found.found c.sort.new.found _ c.requires.relation moved same c.sort.ensures.permutation c.sort.ensures.sorted c.join.ensures
 
 pub returns-clause-cost : goal.returns-clause-cost
 returns-clause-cost g c =

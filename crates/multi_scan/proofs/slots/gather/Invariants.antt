@@ -13,8 +13,8 @@ abbrev pub invariant-loop-rest : goal.invariant-loop-rest
 invariant-loop-rest g l =
     let views = shown g.V.View.parts_of l.relation l.views in
     record {
-      found : AreSame (spread l.found.items ++ found_at_places (pred_holds l.pred) views l.rest) (found_at_places (pred_holds l.pred) views l.places);
-      positions : AllByRecursion HasPositions l.found.items;
+      found : AreSame (spread l.found ++ found_at_places (pred_holds l.pred) views l.rest) (found_at_places (pred_holds l.pred) views l.places);
+      positions : AllByRecursion HasPositions l.found;
       places : AllByRecursion (IsPlace views) l.rest;
       sorted : ById l.rest;
       cost : l.steps + slots_of (distinct_parts (map (part_of views) l.rest)) ≤ l.initial.steps + slots_of (distinct_parts (map (part_of views) l.places));

@@ -7,6 +7,6 @@ abbrev pub invariant-loop-slot : goal.invariant-loop-slot
 invariant-loop-slot g l =
     let views = shown g.V.View.parts_of l.relation l.views in
     record {
-      found : l.found.items ≡ l.initial.found.items ++ found_shared (pred_holds l.pred) views (part_of views l.first) l.places l.slot;
+      found : l.found ≡ l.initial.found ++ found_shared (pred_holds l.pred) views (part_of views l.first) l.places l.slot;
       cost : l.steps ≤ l.initial.steps + l.slot;
     }
