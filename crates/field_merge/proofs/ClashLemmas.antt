@@ -1,16 +1,38 @@
 -- A conflict is in a relation of the schema, and in a column of it unless it is in a whole record.
-use Rattle.std.proofs.Common.{◌≡◌, ℕ, zero, suc, ◌+◌, ◌<◌, ◌≤◌, Bool, true, false, cond, List, [], ◌∷◌, ◌++◌, length, Option, Some, None, Result, Ok, Err, refl, ap, ◌∙◌, subst, arith}
+use Rattle.std.proofs.Common.{◌≡◌, ℕ, zero, suc, ◌+◌, ◌<◌, ◌≤◌, Bool, true, false, cond, List, [], ◌∷◌, ◌++◌, length, Option, Some, None, Result, Ok, Err, refl, ap, sym, ◌∙◌, subst, arith}
 use Rattle.std.specs.List.{flat_map, range_with_len}
 use Rattle.std.specs.FinMap as finite
 use Rattle.db_value.specs.Value.{Value}
-use Rattle.db_value.specs.Relations.{columns_at}
+use Rattle.std.proofs.lemmas.List.{length-map}
+use Rattle.std.proofs.Common.{get_or}
+use Rattle.db_value.specs.Relations.{no_relation, columns_at, widths_at}
+use Rattle.db_value.specs.declared.schema.Column.{Column}
+use Rattle.db_value.proofs.RowForms.{meets_long}
 use Rattle.db_value.specs.declared.schema.Relation.{Relation}
 use Rattle.db_value.specs.declared.condition.Prefer.{Prefer}
 use Rattle.db_store.specs.Table.{Table, relation_at}
 use Rattle.db_store.specs.Counted.{IsTable}
 use Rattle.field_merge.specs.Merge.{preferred, merge_field, first_field, other_fields, field_then, merge_fields, same_state, of_fields, of_records, merge_changed, merge_at, merge_key, all_keys, Clash, clash_where, relation_clashes, table_clashes, least_clash}
 use Rattle.field_merge.specs.Named.{IsFieldOf}
-use Rattle.field_merge.proofs.OrderLemmas.{HasFields, table_has}
+
+-- ---- how many fields
+
+abbrev HasFields : ℕ → Option (List Value) → Type 0
+HasFields n None = Unit {0}
+HasFields n (Some fields) = length fields ≡ n
+
+-- as many widths as columns
+pub as_many : (schema : List Relation) (r : ℕ) → length (widths_at schema r) ≡ length (columns_at schema r)
+as_many schema r =
+    let columns = (get_or schema r no_relation).columns in
+    length-map columns (λ (c : Column). c.width) ∙ sym (length-map columns (λ (c : Column). c.name))
+
+table_has : (schema : List Relation) (t : Table) (r key : ℕ) → IsTable schema t → r < length schema → HasFields (length (columns_at schema r)) (finite.get (relation_at t r) key)
+table_has schema t r key is h = at (finite.get (relation_at t r) key) refl
+  where
+    at : (o : Option (List Value)) → finite.get (relation_at t r) key ≡ o → HasFields (length (columns_at schema r)) o
+    at None e = tt
+    at (Some fields) e = meets_long (widths_at schema r) fields (is.counted r key fields (subst (λ n. r < n) (sym is.wide) h) e) ∙ as_many schema r
 
 -- ---- one key
 

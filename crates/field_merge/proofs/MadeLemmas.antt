@@ -16,6 +16,7 @@ use Rattle.db_store.specs.TouchRules.{same_key}
 use Rattle.db_store.specs.OverlayRules.{get_change}
 use Rattle.db_store.specs.SameRows.{fields_in, fields_rows}
 use Rattle.db_store.proofs.RowLemmas.{all_append}
+use Rattle.db_store.specs.Overlay.{own_widths, change_of}
 use Rattle.field_merge.specs.Merge.{merge_at, merge_key, same_state, keys_of, put_key, union_keys, all_keys, change_where, clash_where, relation_changes, relation_clashes, table_changes, table_clashes}
 use Rattle.field_merge.proofs.KeyLemmas.{put_cases}
 
@@ -153,20 +154,20 @@ free_is : (r key : ℕ) (res : Result (Option (List Value)) (Option ℕ)) → cl
 free_is r key (Ok state) e = refl
 free_is r key (Err field) e = absurd cc
 
-right_fields : (to : ℕ → ℕ → Option (List Value)) (r key : ℕ) (left : Option (List Value)) (res : Result (Option (List Value)) (Option ℕ)) → to r key ≡ kept res → AllByRecursion (λ c. c.fields ≡ to c.relation c.key) (change_where r key left res)
-right_fields to r key left (Err field) e = tt
-right_fields to r key left (Ok state) e = elim (same_state state left) as (λ b. AllByRecursion (λ (c : Change). c.fields ≡ to c.relation c.key) (cond b [] (record { relation = r; key = key; fields = state } ∷ []))) [ true ↦ tt | false ↦ (sym e, tt) ]
+right_fields : (ws : List ℕ) (to : ℕ → ℕ → Option (List Value)) (r key : ℕ) (left : Option (List Value)) (res : Result (Option (List Value)) (Option ℕ)) → to r key ≡ kept res → AllByRecursion (λ c. c.fields ≡ to c.relation c.key) (change_where ws r key left res)
+right_fields ws to r key left (Err field) e = tt
+right_fields ws to r key left (Ok state) e = elim (same_state state left) as (λ b. AllByRecursion (λ (c : Change). c.fields ≡ to c.relation c.key) (cond b [] (change_of ws r (key, state) ∷ []))) [ true ↦ tt | false ↦ (sym e, tt) ]
 
 -- a key that isn't listed is as left has it
-unlisted : (r key : ℕ) (left : Option (List Value)) (res : Result (Option (List Value)) (Option ℕ)) → res ≡ Ok (kept res) → list_any (is_at r key) (change_where r key left res) ≡ false → left ≡ kept res
-unlisted r key left (Err field) k e = absurd cc
-unlisted r key left (Ok state) k e = at (same_state state left) refl e
+unlisted : (ws : List ℕ) (r key : ℕ) (left : Option (List Value)) (res : Result (Option (List Value)) (Option ℕ)) → res ≡ Ok (kept res) → list_any (is_at r key) (change_where ws r key left res) ≡ false → left ≡ kept res
+unlisted ws r key left (Err field) k e = absurd cc
+unlisted ws r key left (Ok state) k e = at (same_state state left) refl e
   where
-    at : (b : Bool) → same_state state left ≡ b → list_any (is_at r key) (cond b [] (record { relation = r; key = key; fields = state } ∷ [])) ≡ false → left ≡ state
+    at : (b : Bool) → same_state state left ≡ b → list_any (is_at r key) (cond b [] (change_of ws r (key, state) ∷ [])) ≡ false → left ≡ state
     at true q f = sym (same_is state left q)
     at false q f = absurd (false≢true (sym f ∙ ap (λ (b : Bool). (b && key == key) || false) (eq-eqb r r refl) ∙ ap (λ (b : Bool). b || false) (eq-eqb key key refl)))
 
-module _ (prefer : Prefer) (base left right : Table) (free : table_clashes prefer base left right ≡ []) where
+module _ (wss : List (List ℕ)) (prefer : Prefer) (base left right : Table) (free : table_clashes prefer base left right ≡ []) where
   abbrev keys_at : ℕ → List ℕ
   keys_at r = all_keys (relation_at base r) (relation_at left r) (relation_at right r)
 
@@ -191,18 +192,18 @@ module _ (prefer : Prefer) (base left right : Table) (free : table_clashes prefe
           (none_of (λ n. relation_clashes prefer n (relation_at base n) (relation_at left n) (relation_at right n)) r (range_with_len 0 (length left)) (among_range r 0 (length left) (omega arith) (omega (arith, h))) free))
       at false q = let none = (nothing_at r key q).0 in none ∙ ap (λ (o : Result (Option (List Value)) (Option ℕ)). Ok (kept o)) (sym none)
 
-  unlisted_at : (r key : ℕ) → r < length left → list_any (is_at r key) (table_changes prefer base left right) ≡ false → finite.get (relation_at left r) key ≡ kept (res_at r key)
+  unlisted_at : (r key : ℕ) → r < length left → list_any (is_at r key) (table_changes wss prefer base left right) ≡ false → finite.get (relation_at left r) key ≡ kept (res_at r key)
   unlisted_at r key h e = at (among key (keys_at r)) refl
     where
       at : (b : Bool) → among key (keys_at r) ≡ b → finite.get (relation_at left r) key ≡ kept (res_at r key)
-      at true q = unlisted r key (finite.get (relation_at left r) key) (res_at r key) (kept_at r key h)
-          (unmentioned (λ k. change_where r k (finite.get (relation_at left r) k) (res_at r k)) (is_at r key) key (keys_at r) q
-          (unmentioned (λ n. relation_changes prefer n (relation_at base n) (relation_at left n) (relation_at right n)) (is_at r key) r (range_with_len 0 (length left)) (among_range r 0 (length left) (omega arith) (omega (arith, h))) e))
+      at true q = unlisted (own_widths wss r) r key (finite.get (relation_at left r) key) (res_at r key) (kept_at r key h)
+          (unmentioned (λ k. change_where (own_widths wss r) r k (finite.get (relation_at left r) k) (res_at r k)) (is_at r key) key (keys_at r) q
+          (unmentioned (λ n. relation_changes (own_widths wss n) prefer n (relation_at base n) (relation_at left n) (relation_at right n)) (is_at r key) r (range_with_len 0 (length left)) (among_range r 0 (length left) (omega arith) (omega (arith, h))) e))
       at false q = let none = nothing_at r key q in none.1 ∙ ap kept (sym none.0)
 
   -- the changes of left make the merge
-  pub merged_table : (r key : ℕ) → r < length left → res_at r key ≡ Ok (finite.get (relation_at (with_changes left (table_changes prefer base left right)) r) key)
-  merged_table r key h = kept_at r key h ∙ ap Ok (sym (made_by (λ n k. kept (res_at n k)) (table_changes prefer base left right) left
-      (all_of (λ n. relation_changes prefer n (relation_at base n) (relation_at left n) (relation_at right n)) (λ (c : Change). c.fields ≡ kept (res_at c.relation c.key)) (range_with_len 0 (length left))
-      (λ n. all_of (λ k. change_where n k (finite.get (relation_at left n) k) (res_at n k)) (λ (c : Change). c.fields ≡ kept (res_at c.relation c.key)) (keys_at n) (λ k. right_fields (λ x y. kept (res_at x y)) n k (finite.get (relation_at left n) k) (res_at n k) refl)))
+  pub merged_table : (r key : ℕ) → r < length left → res_at r key ≡ Ok (finite.get (relation_at (with_changes left (table_changes wss prefer base left right)) r) key)
+  merged_table r key h = kept_at r key h ∙ ap Ok (sym (made_by (λ n k. kept (res_at n k)) (table_changes wss prefer base left right) left
+      (all_of (λ n. relation_changes (own_widths wss n) prefer n (relation_at base n) (relation_at left n) (relation_at right n)) (λ (c : Change). c.fields ≡ kept (res_at c.relation c.key)) (range_with_len 0 (length left))
+      (λ n. all_of (λ k. change_where (own_widths wss n) n k (finite.get (relation_at left n) k) (res_at n k)) (λ (c : Change). c.fields ≡ kept (res_at c.relation c.key)) (keys_at n) (λ k. right_fields (own_widths wss n) (λ x y. kept (res_at x y)) n k (finite.get (relation_at left n) k) (res_at n k) refl)))
       unlisted_at r key h))

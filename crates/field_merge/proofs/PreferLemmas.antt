@@ -3,9 +3,7 @@ use Rattle.std.proofs.Common.{◌≡◌, ℕ, ◌+◌, Bool, true, false, cond, 
 use Rattle.db_value.specs.Value.{Value, value_eq}
 use Rattle.db_value.specs.declared.condition.Prefer.{Prefer}
 use Rattle.db_value.specs.declared.condition.Prefer.TheVariants.{Neither, Left, Right}
-use Rattle.field_merge.specs.declared.merged.Merged.TheVariants.{Conflict}
 use Rattle.field_merge.specs.Merge.{preferred, is_base, merge_field, first_field, other_fields, field_then, merge_fields, same_state, of_fields, of_records, merge_changed, merge_at}
-use Rattle.field_merge.specs.Rows.{merged_as}
 
 -- there is a result
 abbrev IsKept : {A B : Type 0} → Result A B → Type 0
@@ -57,15 +55,8 @@ not_kept : {A B : Type 0} (r : Result A B) (e : B) → r ≡ Err e → IsKept r 
 not_kept (Ok x) e is k = absurd cc
 not_kept (Err f) e is k = k
 
-conflict_asked : (prefer : Prefer) (base left right : Option (List Value)) (field : Option ℕ) → merge_at prefer base left right ≡ Err field → prefer ≡ Neither
-conflict_asked Neither base left right field e = refl
-conflict_asked Left base left right field e = absurd (not_kept (merge_at Left base left right) field e (at_kept Left (λ x y. tt) (λ x y. tt) base left right))
-conflict_asked Right base left right field e = absurd (not_kept (merge_at Right base left right) field e (at_kept Right (λ x y. tt) (λ x y. tt) base left right))
-
-conflict_is : (key : ℕ) (r : Result (Option (List Value)) (Option ℕ)) (field : Option ℕ) → merged_as key r ≡ Conflict field → r ≡ Err field
-conflict_is key (Ok state) field e = absurd cc
-conflict_is key (Err f) field e = ap Err cc
-
--- a merge of records that tells a conflict was asked without a side
-pub asked : (key : ℕ) (prefer : Prefer) (base left right : Option (List Value)) (field : Option ℕ) → merged_as key (merge_at prefer base left right) ≡ Conflict field → prefer ≡ Neither
-asked key prefer base left right field e = conflict_asked prefer base left right field (conflict_is key (merge_at prefer base left right) field e)
+-- a merge that is a conflict was asked without a side
+pub asked : (prefer : Prefer) (base left right : Option (List Value)) (field : Option ℕ) → merge_at prefer base left right ≡ Err field → prefer ≡ Neither
+asked Neither base left right field e = refl
+asked Left base left right field e = absurd (not_kept (merge_at Left base left right) field e (at_kept Left (λ x y. tt) (λ x y. tt) base left right))
+asked Right base left right field e = absurd (not_kept (merge_at Right base left right) field e (at_kept Right (λ x y. tt) (λ x y. tt) base left right))

@@ -25,21 +25,21 @@ more_common : (xs bs cs us : List Record) → IsPermutation xs (bs ++ cs) → Is
 more_common xs bs cs us h = subst (λ (l : List Record). IsPermutation (xs ++ us) l) (append_assoc bs cs us) (IsPermutation-append xs (bs ++ cs) us us h (IsPermutation-refl us))
 
 -- each side gets its own
-pub grown : (us vs ws : List Record) (old new : Sides) → new.base.items ≡ old.base.items ++ us → new.left.items ≡ old.left.items ++ vs → new.right.items ≡ old.right.items ++ ws → Takes us vs ws old new
+pub grown : (us vs ws : List Record) (old new : Sides) → new.base ≡ old.base ++ us → new.left ≡ old.left ++ vs → new.right ≡ old.right ++ ws → Takes us vs ws old new
 grown us vs ws old new b l r = λ xs ys zs s. record {
   common = s.common;
-  of_base = subst (λ (rows : List Record). IsPermutation (xs ++ us) (rows ++ s.common)) (sym b) (more_rows xs old.base.items s.common us s.of_base);
-  of_left = subst (λ (rows : List Record). IsPermutation (ys ++ vs) (rows ++ s.common)) (sym l) (more_rows ys old.left.items s.common vs s.of_left);
-  of_right = subst (λ (rows : List Record). IsPermutation (zs ++ ws) (rows ++ s.common)) (sym r) (more_rows zs old.right.items s.common ws s.of_right);
+  of_base = subst (λ (rows : List Record). IsPermutation (xs ++ us) (rows ++ s.common)) (sym b) (more_rows xs old.base s.common us s.of_base);
+  of_left = subst (λ (rows : List Record). IsPermutation (ys ++ vs) (rows ++ s.common)) (sym l) (more_rows ys old.left s.common vs s.of_left);
+  of_right = subst (λ (rows : List Record). IsPermutation (zs ++ ws) (rows ++ s.common)) (sym r) (more_rows zs old.right s.common ws s.of_right);
 }
 
 -- or all have them in common
 pub alike : (us vs ws : List Record) (s : Sides) → us ≡ vs → vs ≡ ws → Takes us vs ws s s
 alike us vs ws s e d = λ xs ys zs h. record {
   common = h.common ++ us;
-  of_base = more_common xs s.base.items h.common us h.of_base;
-  of_left = subst (λ (rows : List Record). IsPermutation (ys ++ rows) (s.left.items ++ (h.common ++ us))) e (more_common ys s.left.items h.common us h.of_left);
-  of_right = subst (λ (rows : List Record). IsPermutation (zs ++ rows) (s.right.items ++ (h.common ++ us))) (e ∙ d) (more_common zs s.right.items h.common us h.of_right);
+  of_base = more_common xs s.base h.common us h.of_base;
+  of_left = subst (λ (rows : List Record). IsPermutation (ys ++ rows) (s.left ++ (h.common ++ us))) e (more_common ys s.left h.common us h.of_left);
+  of_right = subst (λ (rows : List Record). IsPermutation (zs ++ rows) (s.right ++ (h.common ++ us))) (e ∙ d) (more_common zs s.right h.common us h.of_right);
 }
 
 -- some, and then others
@@ -95,18 +95,18 @@ split_more xs ys zs us vs ws xs2 ys2 zs2 a b e d f t s =
 pub split_moved : (xs ys zs xs2 ys2 zs2 : List Record) (s : Sides) → IsPermutation xs xs2 → IsPermutation ys ys2 → IsPermutation zs zs2 → IsSplit xs ys zs s → IsSplit xs2 ys2 zs2 s
 split_moved xs ys zs xs2 ys2 zs2 s p q r h = record {
   common = h.common;
-  of_base = IsPermutation-trans xs2 xs (s.base.items ++ h.common) (IsPermutation-sym xs xs2 p) h.of_base;
-  of_left = IsPermutation-trans ys2 ys (s.left.items ++ h.common) (IsPermutation-sym ys ys2 q) h.of_left;
-  of_right = IsPermutation-trans zs2 zs (s.right.items ++ h.common) (IsPermutation-sym zs zs2 r) h.of_right;
+  of_base = IsPermutation-trans xs2 xs (s.base ++ h.common) (IsPermutation-sym xs xs2 p) h.of_base;
+  of_left = IsPermutation-trans ys2 ys (s.left ++ h.common) (IsPermutation-sym ys ys2 q) h.of_left;
+  of_right = IsPermutation-trans zs2 zs (s.right ++ h.common) (IsPermutation-sym zs zs2 r) h.of_right;
 }
 
 -- the records of each side in another order
-pub split_sorted : (xs ys zs : List Record) (old new : Sides) → IsPermutation old.base.items new.base.items → IsPermutation old.left.items new.left.items → IsPermutation old.right.items new.right.items → IsSplit xs ys zs old → IsSplit xs ys zs new
+pub split_sorted : (xs ys zs : List Record) (old new : Sides) → IsPermutation old.base new.base → IsPermutation old.left new.left → IsPermutation old.right new.right → IsSplit xs ys zs old → IsSplit xs ys zs new
 split_sorted xs ys zs old new p q r h = record {
   common = h.common;
-  of_base = IsPermutation-trans xs (old.base.items ++ h.common) (new.base.items ++ h.common) h.of_base (IsPermutation-append old.base.items new.base.items h.common h.common p (IsPermutation-refl h.common));
-  of_left = IsPermutation-trans ys (old.left.items ++ h.common) (new.left.items ++ h.common) h.of_left (IsPermutation-append old.left.items new.left.items h.common h.common q (IsPermutation-refl h.common));
-  of_right = IsPermutation-trans zs (old.right.items ++ h.common) (new.right.items ++ h.common) h.of_right (IsPermutation-append old.right.items new.right.items h.common h.common r (IsPermutation-refl h.common));
+  of_base = IsPermutation-trans xs (old.base ++ h.common) (new.base ++ h.common) h.of_base (IsPermutation-append old.base new.base h.common h.common p (IsPermutation-refl h.common));
+  of_left = IsPermutation-trans ys (old.left ++ h.common) (new.left ++ h.common) h.of_left (IsPermutation-append old.left new.left h.common h.common q (IsPermutation-refl h.common));
+  of_right = IsPermutation-trans zs (old.right ++ h.common) (new.right ++ h.common) h.of_right (IsPermutation-append old.right new.right h.common h.common r (IsPermutation-refl h.common));
 }
 
 -- ---- a slot that all three have

@@ -8,7 +8,9 @@ use Rattle.std.specs.Cmp.{ranked}
 use Rattle.std.proofs.lemmas.Bool.{eqb-true, eqb-false, ne_eqb, cases_lt, false≢true}
 use Rattle.std.proofs.lemmas.Option.{none-some}
 use Rattle.db_value.specs.Value.{Value, fields_eq, fields_cmp}
-use Rattle.db_value.specs.Relations.{columns_at}
+use Rattle.db_value.specs.Relations.{columns_at, widths_at}
+use Rattle.db_value.proofs.RowForms.{meets_long}
+use Rattle.field_merge.proofs.ClashLemmas.{as_many}
 use Rattle.db_value.specs.Order.{record_eq, record_cmp}
 use Rattle.db_value.proofs.OrderLemmas.{record_total, record_same}
 use Rattle.db_value.specs.declared.record.Record.{Record}
@@ -226,9 +228,9 @@ module _ {A : Type 0} (h : ℕ → Option (List Value) → Option (List Value) �
 fields_same : (f : List Value) → same_state (Some f) (Some f) ≡ true
 fields_same f = record_same (record { key = 0; fields = f })
 
-module _ (prefer : Prefer) (r : ℕ) (base left right : Contents) (sides : Sides) (are : AreUnshared base left right sides) where
+module _ (ws : List ℕ) (prefer : Prefer) (r : ℕ) (base left right : Contents) (sides : Sides) (are : AreUnshared base left right sides) where
   abbrev change_of : ℕ → Option (List Value) → Option (List Value) → Option (List Value) → List Change
-  change_of key b l m = change_where r key l (merge_at prefer b l m)
+  change_of key b l m = change_where ws r key l (merge_at prefer b l m)
 
   abbrev clash_of : ℕ → Option (List Value) → Option (List Value) → Option (List Value) → List Clash
   clash_of key b l m = clash_where r key (merge_at prefer b l m)
@@ -238,19 +240,19 @@ module _ (prefer : Prefer) (r : ℕ) (base left right : Contents) (sides : Sides
   same_merge f = let e = fields_same f in rw e refl
 
   same_change : (key : ℕ) (f : List Value) → change_of key (Some f) (Some f) (Some f) ≡ []
-  same_change key f = ap (change_where r key (Some f)) (same_merge f) ∙ ap (λ (b : Bool). cond b [] (record { relation = r; key = key; fields = Some f } ∷ [])) (fields_same f)
+  same_change key f = ap (change_where ws r key (Some f)) (same_merge f) ∙ ap (λ (b : Bool). cond b [] (record { relation = r; key = key; fields = Some f; widths = Some ws } ∷ [])) (fields_same f)
 
   same_clash : (key : ℕ) (f : List Value) → clash_of key (Some f) (Some f) (Some f) ≡ []
   same_clash key f = ap (clash_where r key) (same_merge f)
 
-  pub rises_right : Rises sides.right.items
-  rises_right = rises_sorted sides.right.items are.right_up (apart_front sides.right.items are.split.common (side_apart right sides.right.items are.split.common are.split.of_right))
+  pub rises_right : Rises sides.right
+  rises_right = rises_sorted sides.right are.right_up (apart_front sides.right are.split.common (side_apart right sides.right are.split.common are.split.of_right))
 
-  pub changes_same : record_changes prefer r sides.base.items sides.left.items sides.right.items ≡ relation_changes prefer r base left right
-  changes_same = all_same change_of (λ key. refl) same_change base left right sides.base.items sides.left.items sides.right.items are.split.common are.split.of_base are.split.of_left are.split.of_right rises_right
+  pub changes_same : record_changes ws prefer r sides.base sides.left sides.right ≡ relation_changes ws prefer r base left right
+  changes_same = all_same change_of (λ key. refl) same_change base left right sides.base sides.left sides.right are.split.common are.split.of_base are.split.of_left are.split.of_right rises_right
 
-  pub clashes_same : record_clashes prefer r sides.base.items sides.left.items sides.right.items ≡ relation_clashes prefer r base left right
-  clashes_same = all_same clash_of (λ key. refl) same_clash base left right sides.base.items sides.left.items sides.right.items are.split.common are.split.of_base are.split.of_left are.split.of_right rises_right
+  pub clashes_same : record_clashes prefer r sides.base sides.left sides.right ≡ relation_clashes prefer r base left right
+  clashes_same = all_same clash_of (λ key. refl) same_clash base left right sides.base sides.left sides.right are.split.common are.split.of_base are.split.of_left are.split.of_right rises_right
 
 -- ---- they can be walked
 
@@ -259,14 +261,14 @@ side_rises m xs cs p up = rises_sorted xs up (apart_front xs cs (side_apart m xs
 
 side_fields : (schema : List Relation) (t : Table) (r : ℕ) (xs cs : List Record) → IsTable schema t → r < length schema → IsPermutation (rows_of (relation_at t r)) (xs ++ cs) → HaveFields (length (columns_at schema r)) xs
 side_fields schema t r xs cs is h p = have_fields (length (columns_at schema r)) xs (apart_front xs cs (side_apart (relation_at t r) xs cs p))
-    (λ q fields e. is.counted r q fields (subst (λ n. r < n) (sym is.wide) h) (front_get (relation_at t r) xs cs p q fields e))
+    (λ q fields e. meets_long (widths_at schema r) fields (is.counted r q fields (subst (λ n. r < n) (sym is.wide) h) (front_get (relation_at t r) xs cs p q fields e)) ∙ as_many schema r)
 
-pub unshared_sides : (schema : List Relation) (r : ℕ) (base left right : Table) (sides : Sides) → r < length schema → IsTable schema base → IsTable schema left → IsTable schema right → AreUnshared (relation_at base r) (relation_at left r) (relation_at right r) sides → AreSides sides.base.items sides.left.items sides.right.items
+pub unshared_sides : (schema : List Relation) (r : ℕ) (base left right : Table) (sides : Sides) → r < length schema → IsTable schema base → IsTable schema left → IsTable schema right → AreUnshared (relation_at base r) (relation_at left r) (relation_at right r) sides → AreSides sides.base sides.left sides.right
 unshared_sides schema r base left right sides h b l m are =
     let cs : List Record = are.split.common in
     record {
-      base_rises = side_rises (relation_at base r) sides.base.items cs are.split.of_base are.base_up;
-      left_rises = side_rises (relation_at left r) sides.left.items cs are.split.of_left are.left_up;
-      right_rises = side_rises (relation_at right r) sides.right.items cs are.split.of_right are.right_up;
-      fields = (length (columns_at schema r), side_fields schema base r sides.base.items cs b h are.split.of_base, side_fields schema left r sides.left.items cs l h are.split.of_left, side_fields schema right r sides.right.items cs m h are.split.of_right);
+      base_rises = side_rises (relation_at base r) sides.base cs are.split.of_base are.base_up;
+      left_rises = side_rises (relation_at left r) sides.left cs are.split.of_left are.left_up;
+      right_rises = side_rises (relation_at right r) sides.right cs are.split.of_right are.right_up;
+      fields = (length (columns_at schema r), side_fields schema base r sides.base cs b h are.split.of_base, side_fields schema left r sides.left cs l h are.split.of_left, side_fields schema right r sides.right cs m h are.split.of_right);
     }

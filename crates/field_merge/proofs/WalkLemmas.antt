@@ -82,20 +82,20 @@ same_over f g key (k ∷ ks) o h = λ i. h k o.0 i ++ same_over f g key ks o.1 h
 
 -- ---- the least key first, and then the others
 
-module _ (prefer : Prefer) (relation : ℕ) (key : ℕ) (base left right : List Record) where
+module _ (ws : List ℕ) (prefer : Prefer) (relation : ℕ) (key : ℕ) (base left right : List Record) where
   -- what the merge has at the least key
   abbrev pub merged_first : Result (Option (List Value)) (Option ℕ)
   merged_first = merge_at prefer (fields_if (first_at key base)) (fields_if (first_at key left)) (fields_if (first_at key right))
 
   pub changes_more : Rises base → Rises left → Rises right → StartsFrom key base → StartsFrom key left → StartsFrom key right → (starts_with key base || (starts_with key left || starts_with key right)) ≡ true
-      → record_changes prefer relation base left right ≡ change_where relation key (fields_if (first_at key left)) merged_first ++ record_changes prefer relation (behind key base) (behind key left) (behind key right)
+      → record_changes ws prefer relation base left right ≡ change_where ws relation key (fields_if (first_at key left)) merged_first ++ record_changes ws prefer relation (behind key base) (behind key left) (behind key right)
   changes_more ub ul ur fb fl fr some =
       let keys = keys_more key base left right ub ul ur fb fl fr some in
-      ap (flat_map (λ k. change_where relation k (fields_in k left) (merge_at prefer (fields_in k base) (fields_in k left) (fields_in k right)))) keys.1
-      ∙ (λ i. change_where relation key (found_first key left ul fl i) (merge_at prefer (found_first key base ub fb i) (found_first key left ul fl i) (found_first key right ur fr i))
-      ++ same_over (λ k. change_where relation k (fields_in k left) (merge_at prefer (fields_in k base) (fields_in k left) (fields_in k right)))
-      (λ k. change_where relation k (fields_in k (behind key left)) (merge_at prefer (fields_in k (behind key base)) (fields_in k (behind key left)) (fields_in k (behind key right)))) key _ keys.0
-      (λ q h. λ j. change_where relation q (found_behind key q left h j) (merge_at prefer (found_behind key q base h j) (found_behind key q left h j) (found_behind key q right h j))) i)
+      ap (flat_map (λ k. change_where ws relation k (fields_in k left) (merge_at prefer (fields_in k base) (fields_in k left) (fields_in k right)))) keys.1
+      ∙ (λ i. change_where ws relation key (found_first key left ul fl i) (merge_at prefer (found_first key base ub fb i) (found_first key left ul fl i) (found_first key right ur fr i))
+      ++ same_over (λ k. change_where ws relation k (fields_in k left) (merge_at prefer (fields_in k base) (fields_in k left) (fields_in k right)))
+      (λ k. change_where ws relation k (fields_in k (behind key left)) (merge_at prefer (fields_in k (behind key base)) (fields_in k (behind key left)) (fields_in k (behind key right)))) key _ keys.0
+      (λ q h. λ j. change_where ws relation q (found_behind key q left h j) (merge_at prefer (found_behind key q base h j) (found_behind key q left h j) (found_behind key q right h j))) i)
 
   pub clashes_more : Rises base → Rises left → Rises right → StartsFrom key base → StartsFrom key left → StartsFrom key right → (starts_with key base || (starts_with key left || starts_with key right)) ≡ true
       → record_clashes prefer relation base left right ≡ clash_where relation key merged_first ++ record_clashes prefer relation (behind key base) (behind key left) (behind key right)
@@ -255,21 +255,21 @@ pub record AreBehind (key : ℕ) (base left right bs ls ms : List Record) : Type
   pub left_is : ls ≡ behind key left
   pub right_is : ms ≡ behind key right
 
-module _ (prefer : Prefer) (relation : ℕ) (key : ℕ) (base left right : List Record) (b l m : Option Record) (sides : AreSides base left right) (least : least_key base left right ≡ Some key) (first : AreFirst key base left right b l m) where
+module _ (ws : List ℕ) (prefer : Prefer) (relation : ℕ) (key : ℕ) (base left right : List Record) (b l m : Option Record) (sides : AreSides base left right) (least : least_key base left right ≡ Some key) (first : AreFirst key base left right b l m) where
   abbrev told : Result (Option (List Value)) (Option ℕ)
   told = merge_at prefer (fields_if b) (fields_if l) (fields_if m)
 
   clashes_are : record_clashes prefer relation base left right ≡ clash_where relation key told ++ record_clashes prefer relation (behind key base) (behind key left) (behind key right)
   clashes_are =
       let is = least_is key base left right least in
-      clashes_more prefer relation key base left right sides.base_rises sides.left_rises sides.right_rises is.from_base is.from_left is.from_right is.some
+      clashes_more ws prefer relation key base left right sides.base_rises sides.left_rises sides.right_rises is.from_base is.from_left is.from_right is.some
       ∙ sym (λ i. clash_where relation key (merge_at prefer (fields_if (first.base_is i)) (fields_if (first.left_is i)) (fields_if (first.right_is i))) ++ record_clashes prefer relation (behind key base) (behind key left) (behind key right))
 
-  changes_are : record_changes prefer relation base left right ≡ change_where relation key (fields_if l) told ++ record_changes prefer relation (behind key base) (behind key left) (behind key right)
+  changes_are : record_changes ws prefer relation base left right ≡ change_where ws relation key (fields_if l) told ++ record_changes ws prefer relation (behind key base) (behind key left) (behind key right)
   changes_are =
       let is = least_is key base left right least in
-      changes_more prefer relation key base left right sides.base_rises sides.left_rises sides.right_rises is.from_base is.from_left is.from_right is.some
-      ∙ sym (λ i. change_where relation key (fields_if (first.left_is i)) (merge_at prefer (fields_if (first.base_is i)) (fields_if (first.left_is i)) (fields_if (first.right_is i))) ++ record_changes prefer relation (behind key base) (behind key left) (behind key right))
+      changes_more ws prefer relation key base left right sides.base_rises sides.left_rises sides.right_rises is.from_base is.from_left is.from_right is.some
+      ∙ sym (λ i. change_where ws relation key (fields_if (first.left_is i)) (merge_at prefer (fields_if (first.base_is i)) (fields_if (first.left_is i)) (fields_if (first.right_is i))) ++ record_changes ws prefer relation (behind key base) (behind key left) (behind key right))
 
   -- a conflict is the least one
   pub clash_first : (c : Clash) → clash_where relation key told ≡ c ∷ [] → least_clash (record_clashes prefer relation base left right) ≡ Some c
@@ -281,10 +281,10 @@ module _ (prefer : Prefer) (relation : ℕ) (key : ℕ) (base left right : List 
         (λ i. record_clashes prefer relation (rest.base_is i) (rest.left_is i) (rest.right_is i))
         ∙ sym (clashes_are ∙ ap (λ (cs : List Clash). cs ++ record_clashes prefer relation (behind key base) (behind key left) (behind key right)) e)
 
-    pub changes_walked : (old new : List Change) → new ≡ old ++ change_where relation key (fields_if l) told → new ++ record_changes prefer relation bs ls ms ≡ old ++ record_changes prefer relation base left right
+    pub changes_walked : (old new : List Change) → new ≡ old ++ change_where ws relation key (fields_if l) told → new ++ record_changes ws prefer relation bs ls ms ≡ old ++ record_changes ws prefer relation base left right
     changes_walked old new e =
-        (λ i. e i ++ record_changes prefer relation (rest.base_is i) (rest.left_is i) (rest.right_is i))
-        ∙ append_assoc old (change_where relation key (fields_if l) told) (record_changes prefer relation (behind key base) (behind key left) (behind key right))
+        (λ i. e i ++ record_changes ws prefer relation (rest.base_is i) (rest.left_is i) (rest.right_is i))
+        ∙ append_assoc old (change_where ws relation key (fields_if l) told) (record_changes ws prefer relation (behind key base) (behind key left) (behind key right))
         ∙ ap (λ (cs : List Change). old ++ cs) (sym changes_are)
 
     pub sides_walked : AreSides bs ls ms

@@ -5,3 +5,4 @@ pub mod Turns
 pub mod Shared
 pub mod Named
 pub mod Results
+pub mod Steps

@@ -8,6 +8,7 @@ use Rattle.db_value.specs.declared.entry.Change.{Change}
 use Rattle.db_value.specs.declared.condition.Prefer.{Prefer}
 use Rattle.db_value.specs.declared.condition.Prefer.TheVariants.{Neither, Left, Right}
 use Rattle.db_store.specs.Table.{Contents, Table, relation_at, rows_of}
+use Rattle.db_store.specs.Overlay.{own_widths, change_of}
 
 -- ---- a field
 
@@ -109,10 +110,10 @@ pub record Clash : Type 0 where
   pub key : ℕ
   pub field : Option ℕ
 
--- the change of a key, if what the merge has there differs from what left has
-abbrev pub change_where : ℕ → ℕ → Option (List Value) → Result (Option (List Value)) (Option ℕ) → List Change
-change_where relation key left (Ok state) = cond (same_state state left) [] (record { relation = relation; key = key; fields = state } ∷ [])
-change_where relation key left (Err field) = []
+-- the change of a key of a relation with these widths, if what the merge has there differs from what left has
+abbrev pub change_where : List ℕ → ℕ → ℕ → Option (List Value) → Result (Option (List Value)) (Option ℕ) → List Change
+change_where ws relation key left (Ok state) = cond (same_state state left) [] (change_of ws relation (key, state) ∷ [])
+change_where ws relation key left (Err field) = []
 
 -- the conflict at a key, if its merge is one
 abbrev pub clash_where : ℕ → ℕ → Result (Option (List Value)) (Option ℕ) → List Clash
@@ -127,17 +128,17 @@ merge_key prefer base left right key = merge_at prefer (finite.get base key) (fi
 abbrev pub all_keys : Contents → Contents → Contents → List ℕ
 all_keys base left right = keys_in (rows_of base) (rows_of left) (rows_of right)
 
--- changes of left that make the merge of one relation, by key
-abbrev pub relation_changes : Prefer → ℕ → Contents → Contents → Contents → List Change
-relation_changes prefer relation base left right = flat_map (λ key. change_where relation key (finite.get left key) (merge_key prefer base left right key)) (all_keys base left right)
+-- changes of left that make the merge of one relation with these widths, by key
+abbrev pub relation_changes : List ℕ → Prefer → ℕ → Contents → Contents → Contents → List Change
+relation_changes ws prefer relation base left right = flat_map (λ key. change_where ws relation key (finite.get left key) (merge_key prefer base left right key)) (all_keys base left right)
 
 -- its conflicts, by key and field
 abbrev pub relation_clashes : Prefer → ℕ → Contents → Contents → Contents → List Clash
 relation_clashes prefer relation base left right = flat_map (λ key. clash_where relation key (merge_key prefer base left right key)) (all_keys base left right)
 
--- the changes of left that make the merge of three tables, by relation and key
-abbrev pub table_changes : Prefer → Table → Table → Table → List Change
-table_changes prefer base left right = flat_map (λ r. relation_changes prefer r (relation_at base r) (relation_at left r) (relation_at right r)) (range_with_len 0 (length left))
+-- the changes of left that make the merge of three tables with these widths, by relation and key
+abbrev pub table_changes : List (List ℕ) → Prefer → Table → Table → Table → List Change
+table_changes wss prefer base left right = flat_map (λ r. relation_changes (own_widths wss r) prefer r (relation_at base r) (relation_at left r) (relation_at right r)) (range_with_len 0 (length left))
 
 -- its conflicts, by relation, key and field
 abbrev pub table_clashes : Prefer → Table → Table → Table → List Clash

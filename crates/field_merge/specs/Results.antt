@@ -9,6 +9,8 @@ use Rattle.db_value.specs.declared.condition.Prefer.{Prefer}
 use Rattle.db_value.specs.declared.condition.Prefer.TheVariants.{Neither}
 use Rattle.db_store.specs.Table.{Table, relation_at, with_changes}
 use Rattle.db_store.specs.Counted.{IsTable}
+use Rattle.db_store.specs.Overlay.{own_widths}
+use Rattle.db_store.specs.RowWidths.{all_widths}
 use Rattle.db_store.specs.Parts.{Part}
 use Rattle.db_store.specs.Fits.{ascends, change_fits}
 use Rattle.field_merge.specs.declared.stop.MergeStop.{MergeStop}
@@ -29,8 +31,8 @@ pub record AreViews (schema : List Relation) (base left right : Table) (bs ls rs
   pub agree : PartsAgree schema bs ls rs
 
 -- changes of left that make the merge of one relation of three tables
-abbrev pub changes_at : Prefer → Table → Table → Table → ℕ → List Change
-changes_at prefer base left right r = relation_changes prefer r (relation_at base r) (relation_at left r) (relation_at right r)
+abbrev pub changes_at : List (List ℕ) → Prefer → Table → Table → Table → ℕ → List Change
+changes_at wss prefer base left right r = relation_changes (own_widths wss r) prefer r (relation_at base r) (relation_at left r) (relation_at right r)
 
 -- its conflicts
 abbrev pub clashes_at : Prefer → Table → Table → Table → ℕ → List Clash
@@ -38,7 +40,7 @@ clashes_at prefer base left right r = relation_clashes prefer r (relation_at bas
 
 -- the three tables have no conflict; left with these changes, which fit the schema and ascend, is their merge at each key
 pub record MakesMerge (schema : List Relation) (prefer : Prefer) (base left right : Table) (made_of : List Change) : Type 0 where
-  pub changes : made_of ≡ table_changes prefer base left right
+  pub changes : made_of ≡ table_changes (all_widths schema) prefer base left right
   pub free : table_clashes prefer base left right ≡ []
   pub made : (r key : ℕ) → r < length schema
       → merge_key prefer (relation_at base r) (relation_at left r) (relation_at right r) key ≡ Ok (finite.get (relation_at (with_changes left made_of) r) key)

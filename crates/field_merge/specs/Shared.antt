@@ -37,9 +37,9 @@ are_same false b c = not b && not c
 -- these are records of three versions, without some that all three have
 pub record IsSplit (xs ys zs : List Record) (sides : Sides) : Type 0 where
   pub common : List Record
-  pub of_base : IsPermutation xs (sides.base.items ++ common)
-  pub of_left : IsPermutation ys (sides.left.items ++ common)
-  pub of_right : IsPermutation zs (sides.right.items ++ common)
+  pub of_base : IsPermutation xs (sides.base ++ common)
+  pub of_left : IsPermutation ys (sides.left ++ common)
+  pub of_right : IsPermutation zs (sides.right ++ common)
 
 -- further records of the three came to them
 abbrev pub Takes : List Record → List Record → List Record → Sides → Sides → Type 0
@@ -52,9 +52,9 @@ IsSplitAt bs ls rs taken sides = IsSplit (rows_in (take taken.base bs)) (rows_in
 -- the rows of a relation in three tables, without some that all three have, in order
 pub record AreUnshared (base left right : Contents) (sides : Sides) : Type 0 where
   pub split : IsSplit (rows_of base) (rows_of left) (rows_of right) sides
-  pub base_up : IsSorted record_cmp sides.base.items
-  pub left_up : IsSorted record_cmp sides.left.items
-  pub right_up : IsSorted record_cmp sides.right.items
+  pub base_up : IsSorted record_cmp sides.base
+  pub left_up : IsSorted record_cmp sides.left
+  pub right_up : IsSorted record_cmp sides.right
 
 -- the parts of three views do so in each relation of a schema
 abbrev pub PartsAgree : List Relation → (ℕ → List Part) → (ℕ → List Part) → (ℕ → List Part) → Type 0

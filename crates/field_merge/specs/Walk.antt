@@ -9,8 +9,8 @@ use Rattle.db_store.specs.SameRows.{fields_in}
 use Rattle.field_merge.specs.Merge.{merge_at, keys_in, change_where, clash_where, Clash}
 
 -- the changes that make the merge of records, by key
-abbrev pub record_changes : Prefer → ℕ → List Record → List Record → List Record → List Change
-record_changes prefer relation base left right = flat_map (λ key. change_where relation key (fields_in key left) (merge_at prefer (fields_in key base) (fields_in key left) (fields_in key right))) (keys_in base left right)
+abbrev pub record_changes : List ℕ → Prefer → ℕ → List Record → List Record → List Record → List Change
+record_changes ws prefer relation base left right = flat_map (λ key. change_where ws relation key (fields_in key left) (merge_at prefer (fields_in key base) (fields_in key left) (fields_in key right))) (keys_in base left right)
 
 -- its conflicts, by key and field
 abbrev pub record_clashes : Prefer → ℕ → List Record → List Record → List Record → List Clash

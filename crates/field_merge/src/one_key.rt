@@ -1,9 +1,9 @@
 //! The merge of three records that have one key.
-ghost use Rattle.std.specs.Prelude.{◌≡◌, ◌<◌, length};
+ghost use Rattle.std.specs.Prelude.{◌≡◌, ◌<◌, Ok, length};
 ghost use Rattle.std.specs.Option.{option_copied};
 ghost use Rattle.db_value.specs.Value.{field_at};
 ghost use Rattle.field_merge.specs.Merge.{preferred, is_base, merge_field, merge_fields, merge_changed, same_state, of_fields};
-ghost use Rattle.field_merge.specs.Rows.{fields_if, field_if, key_in, merged_as, merge_rows, AreAsLong, AreVersions};
+ghost use Rattle.field_merge.specs.Rows.{fields_if, field_if, merge_records, IsMerged, AreAsLong, AreVersions};
 
 use crate::Merged;
 use db_value::{Fields, Prefer, Record};
@@ -22,12 +22,16 @@ pub(crate) fn is_same(a: Option<&Record>, b: Option<&Record>) -> bool
     }
 }
 
-fn keep(row: Option<&Record>) -> Merged
-    ensures { result ≡ Merged.Keep (option_copied row.entry) }
+// What a side has.
+fn keep(row: Option<&Record>, into: &mut Fields) -> Merged
+    ensures { IsMerged result into.new (Ok (fields_if (option_copied row.entry))) }
 {
     match row {
-        None => Merged::Keep { row: None },
-        Some(row) => Merged::Keep { row: Some(*row) },
+        None => Merged::Gone,
+        Some(row) => {
+            *into = row.fields;
+            Merged::There
+        }
     }
 }
 
@@ -72,13 +76,19 @@ fn side_of(
 }
 
 // Both sides are there: the fields are merged one by one.
-fn merge_records(base: Option<&Record>, left: &Record, right: &Record, prefer: Prefer) -> Merged
+fn merge_records(
+    base: Option<&Record>,
+    left: &Record,
+    right: &Record,
+    prefer: Prefer,
+    into: &mut Fields,
+) -> Merged
     requires right { length right.now.fields ≡ length left.now.fields }
     requires base { AreAsLong (fields_if (option_copied base)) left.now.fields }
-    ensures { result ≡ merged_as left.now.key (of_fields (merge_fields prefer 0
+    ensures { IsMerged result into.new (of_fields (merge_fields prefer 0
         (fields_if (option_copied base.entry)) left.now.fields right.now.fields)) }
 {
-    let mut fields = left.fields;
+    *into = left.fields;
     for column in 0..left.fields.count() as u8 {
         match side_of(base, &left.fields, &right.fields, column, prefer) {
             Prefer::Neither => {
@@ -87,15 +97,10 @@ fn merge_records(base: Option<&Record>, left: &Record, right: &Record, prefer: P
                 };
             }
             Prefer::Left => {}
-            Prefer::Right => fields.take_at(&right.fields, column),
+            Prefer::Right => into.take_at(&right.fields, column),
         }
     }
-    Merged::Keep {
-        row: Some(Record {
-            key: left.key,
-            fields,
-        }),
-    }
+    Merged::There
 }
 
 // Both sides changed what the base has.
@@ -104,44 +109,47 @@ fn merge_changed(
     left: Option<&Record>,
     right: Option<&Record>,
     prefer: Prefer,
+    into: &mut Fields,
 ) -> Merged
     requires { AreVersions (option_copied base) (option_copied left) (option_copied right) }
-    ensures { result ≡ merged_as (key_in (option_copied left.entry) (option_copied right.entry))
+    ensures { IsMerged result into.new
         (merge_changed prefer (fields_if (option_copied base.entry))
         (fields_if (option_copied left.entry)) (fields_if (option_copied right.entry))) }
 {
     if let Some(l) = left {
         if let Some(r) = right {
-            return merge_records(base, l, r, prefer);
+            return merge_records(base, l, r, prefer, into);
         }
     }
     match prefer {
         Prefer::Neither => Merged::Conflict { field: None },
-        Prefer::Left => keep(left),
-        Prefer::Right => keep(right),
+        Prefer::Left => keep(left, into),
+        Prefer::Right => keep(right, into),
     }
 }
 
 /// The merge of what three versions have at one key: the common ancestor, the side that is merged
-/// into, and the other. A side settles the conflicts if one is preferred. It takes no memory.
+/// into, and the other. A side settles the conflicts if one is preferred. The fields of the record that
+/// is kept are put into others. It takes no memory.
 pub fn merge3(
     base: Option<&Record>,
     left: Option<&Record>,
     right: Option<&Record>,
     prefer: Prefer,
+    into: &mut Fields,
 ) -> Merged
     requires { AreVersions (option_copied base) (option_copied left) (option_copied right) }
-    ensures { result ≡ merge_rows prefer (option_copied base.entry) (option_copied left.entry)
-        (option_copied right.entry) }
+    ensures { IsMerged result into.new (merge_records prefer (option_copied base.entry)
+        (option_copied left.entry) (option_copied right.entry)) }
 {
     if is_same(left, right) {
-        return keep(left);
+        return keep(left, into);
     }
     if is_same(left, base) {
-        return keep(right);
+        return keep(right, into);
     }
     if is_same(right, base) {
-        return keep(left);
+        return keep(left, into);
     }
-    merge_changed(base, left, right, prefer)
+    merge_changed(base, left, right, prefer, into)
 }

@@ -5,16 +5,16 @@ ghost use Rattle.db_value.specs.Order.{record_cmp};
 ghost use Rattle.db_store.specs.Table.{Contents, rows_of};
 ghost use Rattle.field_merge.specs.Shared.{live_row, are_same, IsSplit, Takes, AreUnshared};
 
-use db_value::Record;
+use db_value::{Record, Records};
 use std::alloc::{AllocError, Global};
 
 /// Records of a relation in three versions: the common ancestor, the side that is merged into, and
 /// the other.
 #[derive(Drop)]
 pub struct Sides {
-    pub base: Vec<Record>,
-    pub left: Vec<Record>,
-    pub right: Vec<Record>,
+    pub base: Records,
+    pub left: Records,
+    pub right: Records,
 }
 
 /// Are all three true, or none?
@@ -28,22 +28,21 @@ pub fn are_same(base: bool, left: bool, right: bool) -> bool
 }
 
 // A record more, if it is live.
-fn put(rows: &mut Vec<Record>, live: bool, row: &Record) -> Result<(), AllocError>
-    ensures { OnOk result (rows.new.items ≡ rows.old.items ++ live_row live row.now) }
+fn put(rows: &mut Records, live: bool, row: &Record) -> Result<(), AllocError>
+    ensures { OnOk result (rows.new ≡ rows.old ++ live_row live row.now) }
 {
     if !live {
         return Ok(());
     }
-    rows.push(*row)?;
-    Ok(())
+    Ok(rows.push(row)?)
 }
 
 // In order, by key.
-fn in_order(mut rows: Vec<Record>) -> Vec<Record>
-    ensures permutation { IsPermutation rows.items result.items }
-    ensures sorted { IsSorted record_cmp result.items }
+fn in_order(mut rows: Records) -> Records
+    ensures permutation { IsPermutation rows result }
+    ensures sorted { IsSorted record_cmp result }
 {
-    rows.sort_unstable();
+    rows.sort();
     rows
 }
 
@@ -53,9 +52,9 @@ impl Sides {
         ensures { IsSplit [] [] [] result }
     {
         Sides {
-            base: Vec::new(alloc),
-            left: Vec::new(alloc),
-            right: Vec::new(alloc),
+            base: Records::new(alloc),
+            left: Records::new(alloc),
+            right: Records::new(alloc),
         }
     }
 

@@ -1,7 +1,8 @@
 //! The merge of three tables.
-ghost use Rattle.std.specs.Prelude.{◌≡◌, ◌<◌, ◌++◌, [], Some, length, IfOk, OnOk};
+ghost use Rattle.std.specs.Prelude.{◌≡◌, ◌<◌, ◌≤◌, ◌++◌, [], Some, length, IfOk, OnOk};
 ghost use Rattle.db_value.specs.declared.condition.Prefer.TheVariants.{Neither};
 ghost use Rattle.db_store.specs.Counted.{IsTable};
+ghost use Rattle.db_store.specs.RowWidths.{all_widths};
 ghost use Rattle.field_merge.specs.Merge.{least_clash};
 ghost use Rattle.field_merge.specs.Results.{AreViews, IfConflict, IsFirstClash, MakesMerge, changes_at, clashes_at};
 ghost use Rattle.field_merge.specs.Shared.{PartsAgree};
@@ -10,12 +11,13 @@ use crate::MergeStop;
 use crate::unshared::unshared;
 use crate::walk::merge_rows;
 use db_store::View;
-use db_value::{Change, Changes, ListOf, Prefer, Schema};
+use db_value::{Changes, Prefer, Schema};
 use std::alloc::{AllocError, Global};
 
 // How many relations a schema has.
 fn relation_count(schema: &Schema) -> u8
-    ensures { result ≡ length schema.now }
+    ensures count { result ≡ length schema.now }
+    ensures few { result ≤ 8 }
 {
     schema.relations().len() as u8
 }
@@ -29,13 +31,14 @@ fn merge_relation<B: View, L: View, R: View>(
     right: &R,
     relation: u8,
     prefer: Prefer,
-    all: &mut Vec<Change>,
+    all: &mut Changes,
 ) -> Result<(), MergeStop>
     requires relation { relation < length schema.now }
+    requires few { relation < 8 }
     requires views { AreViews schema.now (B.table base.now) (L.table left.now) (R.table right.now)
         (B.parts_of base.now) (L.parts_of left.now) (R.parts_of right.now) }
-    ensures changes { OnOk result (all.new.items ≡ all.old.items
-        ++ changes_at prefer (B.table base.now) (L.table left.now) (R.table right.now) relation) }
+    ensures changes { OnOk result (all.new ≡ all.old
+        ++ changes_at (all_widths schema.now) prefer (B.table base.now) (L.table left.now) (R.table right.now) relation) }
     ensures free { OnOk result
         (clashes_at prefer (B.table base.now) (L.table left.now) (R.table right.now) relation
         ≡ []) }
@@ -46,14 +49,7 @@ fn merge_relation<B: View, L: View, R: View>(
 {
     match unshared(alloc, base, left, right, relation) {
         Err(AllocError) => Err(MergeStop::Memory),
-        Ok(sides) => merge_rows(
-            relation,
-            &sides.base,
-            &sides.left,
-            &sides.right,
-            prefer,
-            all,
-        ),
+        Ok(sides) => merge_rows(relation, &schema.widths(relation), &sides, prefer, all),
     }
 }
 
@@ -79,12 +75,12 @@ pub fn merge_tables<B: View, L: View, R: View>(
     ensures conflict { IfConflict result (IsFirstClash schema.now prefer
         (B.table base.now) (L.table left.now) (R.table right.now)) }
 {
-    let mut all = Vec::new(alloc);
+    let mut all = Changes::new(alloc);
     for relation in 0..relation_count(schema) {
         match merge_relation(alloc, schema, base, left, right, relation, prefer, &mut all) {
             Ok(()) => {}
             Err(stop) => return Err(stop),
         }
     }
-    Ok(ListOf::of(all))
+    Ok(all)
 }

@@ -9,53 +9,58 @@ ghost use Rattle.field_merge.specs.Shared.{live_row, IsSpot, AgreeWithLeft, IsSp
 use crate::sides::{Sides, are_same};
 use crate::turns::{Taken, Turn, next_turn};
 use db_store::{Spot, View};
-use db_value::{Record, Steps};
+use db_value::{Record, Records, Steps};
 use std::alloc::{AllocError, Global};
 use std::marker::Brand;
 use std::sync::ledger::{Blank, Ledger};
 
-// The record in a slot, where the steps are counted on a blank.
-fn read_counted<V: View, L: Ledger>(view: &V, relation: u8, spot: Spot, blank: Blank) -> Record
+// Reads the record in a slot, where the steps are counted on a blank.
+fn read_counted<V: View, L: Ledger>(
+    view: &V,
+    relation: u8,
+    spot: Spot,
+    into: &mut Record,
+    blank: Blank,
+)
     requires name { blank.name ≡ L.name }
     requires parts { blank.parts ≡ L.parts }
     requires some { 0 < L.parts }
     requires relation { relation < length (V.table view.now) }
     requires spot { IsSpot (V.parts_of view.now relation) spot }
-    ensures { result ≡ (slot_at (V.parts_of view.now relation) spot.part spot.slot).0 }
+    ensures { into.new ≡ (slot_at (V.parts_of view.now relation) spot.part spot.slot).0 }
 {
     let mut steps = Steps::<L>::open(blank);
-    let mut row = Record::blank();
-    view.read(relation, spot, &mut row, &mut steps);
-    row
+    view.read(relation, spot, into, &mut steps);
 }
 
-// The record in a slot.
-fn record_at<V: View>(view: &V, relation: u8, spot: Spot) -> Record
+// Reads the record in a slot.
+fn read_row<V: View>(view: &V, relation: u8, spot: Spot, into: &mut Record)
     requires relation { relation < length (V.table view.now) }
     requires spot { IsSpot (V.parts_of view.now relation) spot }
-    ensures { result ≡ (slot_at (V.parts_of view.now relation) spot.part spot.slot).0 }
+    ensures { into.new ≡ (slot_at (V.parts_of view.now relation) spot.part spot.slot).0 }
 {
-    read_counted::<V, Brand>(view, relation, spot, Blank::new(1))
+    read_counted::<V, Brand>(view, relation, spot, into, Blank::new(1));
 }
 
-// The record of a slot more, if it is live.
+// The record of a slot more, if it is live. The row is one to read into.
 fn gather_row<V: View>(
     view: &V,
     relation: u8,
     spot: Spot,
-    rows: &mut Vec<Record>,
+    row: &mut Record,
+    rows: &mut Records,
 ) -> Result<(), AllocError>
     requires relation { relation < length (V.table view.now) }
     requires spot { IsSpot (V.parts_of view.now relation) spot }
-    ensures { OnOk result (rows.new.items ≡ rows.old.items ++ live_row
+    ensures { OnOk result (rows.new ≡ rows.old ++ live_row
         (slot_at (V.parts_of view.now relation) spot.part spot.slot).1
         (slot_at (V.parts_of view.now relation) spot.part spot.slot).0) }
 {
     if !view.live(relation, spot.part, spot.slot) {
         return Ok(());
     }
-    rows.push(record_at(view, relation, spot))?;
-    Ok(())
+    read_row(view, relation, spot, row);
+    Ok(rows.push(row)?)
 }
 
 // The live records of a part more.
@@ -63,16 +68,17 @@ fn gather_part<V: View>(
     view: &V,
     relation: u8,
     index: u32,
-    rows: &mut Vec<Record>,
+    row: &mut Record,
+    rows: &mut Records,
 ) -> Result<(), AllocError>
     requires relation { relation < length (V.table view.now) }
     requires index { index < length (V.parts_of view.now relation) }
-    ensures { OnOk result (rows.new.items ≡ rows.old.items
+    ensures { OnOk result (rows.new ≡ rows.old
         ++ live_rows (part_at (V.parts_of view.now relation) index).slots) }
 {
     let info = view.part(relation, index);
     for slot in 0..info.slots {
-        gather_row(view, relation, Spot { part: index, slot }, rows)?;
+        gather_row(view, relation, Spot { part: index, slot }, row, rows)?;
     }
     Ok(())
 }
@@ -86,6 +92,7 @@ fn gather_slot<B: View, L: View, R: View>(
     relation: u8,
     at: &Taken,
     slot: u32,
+    row: &mut Record,
     sides: &mut Sides,
 ) -> Result<(), AllocError>
     requires relation { IsRelation relation (B.table base.now) (L.table left.now)
@@ -108,8 +115,8 @@ fn gather_slot<B: View, L: View, R: View>(
         return Ok(());
     }
     let part = at.left;
-    let row = record_at(left, relation, Spot { part, slot });
-    sides.put_live(in_base, in_left, in_right, &row)
+    read_row(left, relation, Spot { part, slot }, row);
+    sides.put_live(in_base, in_left, in_right, row)
 }
 
 // A part that all three views show.
@@ -119,6 +126,7 @@ fn gather_shared<B: View, L: View, R: View>(
     right: &R,
     relation: u8,
     at: &Taken,
+    row: &mut Record,
     sides: &mut Sides,
 ) -> Result<(), AllocError>
     requires relation { IsRelation relation (B.table base.now) (L.table left.now)
@@ -135,7 +143,7 @@ fn gather_shared<B: View, L: View, R: View>(
 {
     let info = left.part(relation, at.left);
     for slot in 0..info.slots {
-        gather_slot(base, left, right, relation, at, slot, sides)?;
+        gather_slot(base, left, right, relation, at, slot, row, sides)?;
     }
     Ok(())
 }
@@ -147,6 +155,7 @@ fn take_turn<B: View, L: View, R: View>(
     right: &R,
     relation: u8,
     taken: &mut Taken,
+    row: &mut Record,
     sides: &mut Sides,
 ) -> Result<bool, AllocError>
     requires relation { IsRelation relation (B.table base.now) (L.table left.now)
@@ -169,24 +178,24 @@ fn take_turn<B: View, L: View, R: View>(
     match next_turn(base, left, right, relation, taken) {
         Turn::End => Ok(false),
         Turn::All => {
-            gather_shared(base, left, right, relation, taken, sides)?;
+            gather_shared(base, left, right, relation, taken, row, sides)?;
             taken.base += 1;
             taken.left += 1;
             taken.right += 1;
             Ok(true)
         }
         Turn::Base => {
-            gather_part(base, relation, taken.base, &mut sides.base)?;
+            gather_part(base, relation, taken.base, row, &mut sides.base)?;
             taken.base += 1;
             Ok(true)
         }
         Turn::Left => {
-            gather_part(left, relation, taken.left, &mut sides.left)?;
+            gather_part(left, relation, taken.left, row, &mut sides.left)?;
             taken.left += 1;
             Ok(true)
         }
         Turn::Right => {
-            gather_part(right, relation, taken.right, &mut sides.right)?;
+            gather_part(right, relation, taken.right, row, &mut sides.right)?;
             taken.right += 1;
             Ok(true)
         }
@@ -210,6 +219,7 @@ pub fn unshared<B: View, L: View, R: View>(
         (relation_at (L.table left.now) relation) (relation_at (R.table right.now) relation)) }
 {
     let mut sides = Sides::new(alloc);
+    let mut row = Record::blank();
     let mut taken = Taken {
         base: 0,
         left: 0,
@@ -217,7 +227,9 @@ pub fn unshared<B: View, L: View, R: View>(
     };
     let mut more = true;
     while more {
-        more = take_turn(base, left, right, relation, &mut taken, &mut sides)?;
+        more = take_turn(
+            base, left, right, relation, &mut taken, &mut row, &mut sides,
+        )?;
     }
     Ok(sides.in_order())
 }

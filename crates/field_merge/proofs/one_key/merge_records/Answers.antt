@@ -14,10 +14,10 @@ loop-column-preserved c =
     let left : List Value = c.args.left.now.fields in
     let right : List Value = c.args.right.now.fields in
     elim c.match-side_of.branch [
-      | in-Left w ↦ subst (λ (fields : List Value). AreSoFar c.args.prefer base left right (c.loop-column.column + 1) fields) (sym w.fields-is)
-          (left_kept c.args.prefer base left right c.loop-column.column c.loop-column.fields c.requires.base c.requires.right (omega arith) c.loop-column.invariant
+      | in-Left w ↦ subst (λ (fields : List Value). AreSoFar c.args.prefer base left right (c.loop-column.column + 1) fields) (sym w.into-is)
+          (left_kept c.args.prefer base left right c.loop-column.column c.loop-column.into c.requires.base c.requires.right (omega arith) c.loop-column.invariant
           (sym c.side_of.ensures ∙ ap (λ (p : Prefer). preferred p (field_at left c.loop-column.column) (field_at right c.loop-column.column)) w.in-Left.is))
-      | in-Right w ↦ subst (λ (fields : List Value). AreSoFar c.args.prefer base left right (c.loop-column.column + 1) fields) (sym (w.fields-is ∙ w.take_at.ensures))
-          (right_taken c.args.prefer base left right c.loop-column.column c.loop-column.fields c.requires.base c.requires.right (omega arith) c.loop-column.invariant
+      | in-Right w ↦ subst (λ (fields : List Value). AreSoFar c.args.prefer base left right (c.loop-column.column + 1) fields) (sym (w.into-is ∙ w.take_at.ensures))
+          (right_taken c.args.prefer base left right c.loop-column.column c.loop-column.into c.requires.base c.requires.right (omega arith) c.loop-column.invariant
           (sym c.side_of.ensures ∙ ap (λ (p : Prefer). preferred p (field_at left c.loop-column.column) (field_at right c.loop-column.column)) w.in-Right.is))
     ]

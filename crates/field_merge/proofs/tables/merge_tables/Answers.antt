@@ -2,6 +2,8 @@ use Rattle.std.proofs.Common.{◌≡◌, ap, sym, ◌∙◌, ◌<◌, ◌≤◌,
 use Rattle.std.specs.List.{list_all}
 use Rattle.std.specs.FinMap as finite
 use Rattle.db_value.specs.declared.entry.Change.{Change}
+use Rattle.db_store.specs.Overlay.{own_widths}
+use Rattle.db_store.specs.RowWidths.{all_widths}
 use Rattle.db_store.specs.Table.{relation_at, with_changes}
 use Rattle.db_store.specs.Fits.{ascends, change_fits}
 use Rattle.field_merge.specs.Merge.{Clash, least_clash, relation_changes, relation_clashes, table_changes, table_clashes}
@@ -17,9 +19,9 @@ loop-relation-preserved g c =
     let base = g.B.View.table c.args.base.now in
     let left = g.L.View.table c.args.left.now in
     let right = g.R.View.table c.args.right.now in
-    let h : c.loop-relation.relation < length left = omega (arith, c.loop-relation-test.true, c.relation_count-relation-end.ensures, c.requires.left.wide) in
+    let h : c.loop-relation.relation < length left = omega (arith, c.loop-relation-test.true, c.relation_count-relation-end.ensures.count, c.requires.left.wide) in
     record {
-      changes = gathered_more (λ r. relation_changes c.args.prefer r (relation_at base r) (relation_at left r) (relation_at right r)) c.loop-relation.relation (length left) _ _ (table_changes c.args.prefer base left right) h c.in-Ok.ensures.changes c.loop-relation.invariant.changes;
+      changes = gathered_more (λ r. relation_changes (own_widths (all_widths c.args.schema.now) r) c.args.prefer r (relation_at base r) (relation_at left r) (relation_at right r)) c.loop-relation.relation (length left) _ _ (table_changes (all_widths c.args.schema.now) c.args.prefer base left right) h c.in-Ok.ensures.changes c.loop-relation.invariant.changes;
       clashes = none_more (λ r. relation_clashes c.args.prefer r (relation_at base r) (relation_at left r) (relation_at right r)) c.loop-relation.relation (length left) (table_clashes c.args.prefer base left right) h c.in-Ok.ensures.free c.loop-relation.invariant.clashes;
     }
 
@@ -29,7 +31,7 @@ returns-in-Err-clause-conflict g c = λ r k f e.
     let left = g.L.View.table c.args.left.now in
     let right = g.R.View.table c.args.right.now in
     let clash : Clash = record { relation = r; key = k; field = f } in
-    let h : c.loop-relation.relation < length left = omega (arith, c.loop-relation-test.true, c.relation_count-relation-end.ensures, c.requires.left.wide) in
+    let h : c.loop-relation.relation < length left = omega (arith, c.loop-relation-test.true, c.relation_count-relation-end.ensures.count, c.requires.left.wide) in
     let least = ap least_clash (sym c.loop-relation.invariant.clashes)
     ∙ least_of (λ r. relation_clashes c.args.prefer r (relation_at base r) (relation_at left r) (relation_at right r)) c.loop-relation.relation (length left) clash h (c.in-Err.ensures.conflict r k f (same_stop _ _ e)) in
     let within = least_within c.args.schema.now c.args.prefer base left right clash c.requires.left least in
@@ -46,15 +48,15 @@ returns-clause-merged g c =
     let base = g.B.View.table c.args.base.now in
     let left = g.L.View.table c.args.left.now in
     let right = g.R.View.table c.args.right.now in
-    let h : length left ≤ c.loop-relation.relation = omega (arith, c.loop-relation-test.false, c.relation_count-relation-end.ensures, c.requires.left.wide) in
-    let is : c.of.result ≡ table_changes c.args.prefer base left right = c.of.ensures ∙ gathered_all (λ r. relation_changes c.args.prefer r (relation_at base r) (relation_at left r) (relation_at right r)) c.loop-relation.relation (length left) _ _ h c.loop-relation.invariant.changes in
+    let h : length left ≤ c.loop-relation.relation = omega (arith, c.loop-relation-test.false, c.relation_count-relation-end.ensures.count, c.requires.left.wide) in
+    let is : c.loop-relation.all ≡ table_changes (all_widths c.args.schema.now) c.args.prefer base left right = gathered_all (λ r. relation_changes (own_widths (all_widths c.args.schema.now) r) c.args.prefer r (relation_at base r) (relation_at left r) (relation_at right r)) c.loop-relation.relation (length left) _ _ h c.loop-relation.invariant.changes in
     let free : table_clashes c.args.prefer base left right ≡ [] = sym c.loop-relation.invariant.clashes ∙ none_left (λ r. relation_clashes c.args.prefer r (relation_at base r) (relation_at left r) (relation_at right r)) c.loop-relation.relation (length left) h in
-    let merged : MakesMerge c.args.schema.now c.args.prefer base left right c.of.result = record {
+    let merged : MakesMerge c.args.schema.now c.args.prefer base left right c.loop-relation.all = record {
       changes = is;
       free = free;
-      made = λ r key l. merged_table c.args.prefer base left right free r key (omega (arith, l, c.requires.left.wide))
+      made = λ r key l. merged_table (all_widths c.args.schema.now) c.args.prefer base left right free r key (omega (arith, l, c.requires.left.wide))
           ∙ ap (λ (cs : List Change). Ok (finite.get (relation_at (with_changes left cs) r) key)) (sym is);
-      order = ap ascends is ∙ merged_ascends c.args.prefer base left right;
-      fit = ap (list_all (change_fits c.args.schema.now)) is ∙ merged_fits c.args.schema.now c.args.prefer base left right c.requires.left c.requires.right;
+      order = ap ascends is ∙ merged_ascends (all_widths c.args.schema.now) c.args.prefer base left right;
+      fit = ap (list_all (change_fits c.args.schema.now)) is ∙ merged_fits c.args.schema.now c.args.prefer base left right (omega (arith, c.relation_count-relation-end.ensures.count, c.relation_count-relation-end.ensures.few)) c.requires.left c.requires.right;
     } in
     merged

@@ -34,9 +34,9 @@ returns g c =
     let b : Record × Bool = slot_at bs t.base n in
     let l : Record × Bool = slot_at ls t.left n in
     let r : Record × Bool = slot_at rs t.right n in
-    let row : Record = c.record_at-row.result in
-    let with_base : row ≡ b.0 = c.record_at-row.ensures ∙ same_record (part_at ls t.left) (part_at bs t.base) n (c.requires.agree.of_base t.left t.base one.in_left.within one.in_base.within one.base_id one.base_slots) one.base_slots c.requires.slot in
-    let with_right : row ≡ r.0 = c.record_at-row.ensures ∙ same_record (part_at ls t.left) (part_at rs t.right) n (c.requires.agree.of_right t.left t.right one.in_left.within one.in_right.within one.right_id one.right_slots) one.right_slots c.requires.slot in
+    let row : Record = c.read_row.new.into in
+    let with_base : row ≡ b.0 = c.read_row.ensures ∙ same_record (part_at ls t.left) (part_at bs t.base) n (c.requires.agree.of_base t.left t.base one.in_left.within one.in_base.within one.base_id one.base_slots) one.base_slots c.requires.slot in
+    let with_right : row ≡ r.0 = c.read_row.ensures ∙ same_record (part_at ls t.left) (part_at rs t.right) n (c.requires.agree.of_right t.left t.right one.in_left.within one.in_right.within one.right_id one.right_slots) one.right_slots c.requires.slot in
     taken_as c.put_live.result (live_row c.live-in_base.result row) (live_row c.live-in_left.result row) (live_row c.live-in_right.result row)
     (live_rows (b ∷ [])) (live_rows (l ∷ [])) (live_rows (r ∷ [])) c.args.sides.now c.put_live.new.self
-    (λ i. live_row (c.live-in_base.ensures i) (with_base i)) (λ i. live_row (c.live-in_left.ensures i) (c.record_at-row.ensures i)) (λ i. live_row (c.live-in_right.ensures i) (with_right i)) c.put_live.ensures
+    (λ i. live_row (c.live-in_base.ensures i) (with_base i)) (λ i. live_row (c.live-in_left.ensures i) (c.read_row.ensures i)) (λ i. live_row (c.live-in_right.ensures i) (with_right i)) c.put_live.ensures

@@ -1,4 +1,4 @@
-use Rattle.field_merge.proofs.unshared.record_at.Given as goal
+use Rattle.field_merge.proofs.unshared.read_row.Given as goal
 
 -- the steps are counted on the blank that is handed over
 abbrev pub ghosts-read_counted : goal.ghosts-read_counted
