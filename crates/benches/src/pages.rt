@@ -5,7 +5,7 @@ ghost use Rattle.segment.specs.Pages.{AreWide};
 use crate::row::{Kind, Row};
 use crate::timing::{Round, time};
 use anyhow::Result;
-use db_value::{Fields, Record, Records, Steps};
+use db_value::{Fields, Record, Records, Steps, Value, Widths};
 use record_page::Page;
 use segment::Segment;
 use std::alloc::{AllocError, Global};
@@ -22,7 +22,7 @@ struct Stored {
     calls: u32,
     segment: Segment,
     more: Records,
-    ghost wide: { AreWide segment.fields more },
+    ghost wide: { AreWide segment.widths more },
     ghost one: { length more ≡ 1 },
     ghost many: { length segment.records ≡ 262144 },
 }
@@ -31,36 +31,44 @@ struct Stored {
 fn row_of(key: u64, fields: u8) -> Record
     requires some { 0 < fields }
     requires few { fields ≤ 15 }
-    ensures { length result.fields ≡ fields }
 {
-    let values = [key.cast_signed(); 15];
-    match Fields::of(&values[..fields as usize]) {
-        Some(fields) => Record { key, fields },
-        None => unreachable!(),
+    let mut row = Record::blank();
+    row.key = key;
+    let value = Value::Number {
+        value: key.cast_signed(),
+    };
+    if let Some(made) = Fields::of(&[value; 15][..fields as usize]) {
+        row.fields = made;
     }
+    row
 }
 
-fn rows_of(alloc: Global, fields: u8, count: u32) -> Result<Records, AllocError>
+// So many records of numbers, which meet the widths.
+fn rows_of(alloc: Global, widths: &Widths, fields: u8, count: u32) -> Result<Records, AllocError>
     requires some { 0 < fields }
     requires few { fields ≤ 15 }
-    ensures wide { IfOk result (λ rows. AreWide fields rows) }
+    ensures wide { IfOk result (λ rows. AreWide widths.now rows) }
     ensures count { IfOk result (λ rows. length rows ≡ count) }
 {
-    let mut rows = Vec::with_capacity(alloc, count as usize)?;
+    let mut rows = Records::with_room(alloc, count as usize, 0)?;
     for key in 0..count {
-        rows.push(row_of(u64::from(key), fields))?;
+        let row = row_of(u64::from(key), fields);
+        if !widths.meets(&row.fields) {
+            return Err(AllocError);
+        }
+        rows.push(&row)?;
     }
-    Ok(Records::of(rows))
+    Ok(rows)
 }
 
-fn segment_of(alloc: Global, fields: u8) -> Result<Segment, AllocError>
+fn segment_of(alloc: Global, widths: &Widths, fields: u8) -> Result<Segment, AllocError>
     requires some { 0 < fields }
     requires few { fields ≤ 15 }
-    ensures fields { IfOk result (λ segment. segment.fields ≡ fields) }
+    ensures widths { IfOk result (λ segment. segment.widths ≡ widths.now) }
     ensures count { IfOk result (λ segment. length segment.records ≡ 262144) }
 {
-    let rows = rows_of(alloc, fields, RECORDS)?;
-    let segment = Segment::new(alloc, fields)?;
+    let rows = rows_of(alloc, widths, fields, RECORDS)?;
+    let segment = Segment::new(alloc, widths)?;
     let segment = segment.extended(&rows)?;
     Ok(segment)
 }
@@ -68,8 +76,11 @@ fn segment_of(alloc: Global, fields: u8) -> Result<Segment, AllocError>
 // The sum of a record's key and its fields.
 fn sum_of(row: &Record) -> u64 {
     let mut sum = row.key;
-    for value in row.fields.as_slice() {
-        sum = sum.wrapping_add(value.cast_unsigned());
+    let mut walk = row.fields.walk();
+    while let Some(value) = walk.next() {
+        if let Value::Number { value } = value {
+            sum = sum.wrapping_add(value.cast_unsigned());
+        }
     }
     sum
 }
@@ -112,7 +123,7 @@ fn read_stored<L: Ledger>(stored: &Stored, blank: Blank) -> u64
     requires some { 0 < L.parts }
 {
     let mut steps = Steps::<L>::open(blank);
-    let mut into = row_of(0, 1);
+    let mut into = Record::blank();
     match stored.kind {
         Kind::Segment => read_segment(&stored.segment, &mut into, &mut steps),
         _ => read_pages(stored, &mut into, &mut steps),
@@ -145,8 +156,11 @@ pub fn time_pages<R: Clock + Print + AllocGlobal>(rt: &R, row: &Row, rounds: u32
     } else {
         2
     };
-    let segment = segment_of(rt.alloc(), fields)?;
-    let more = rows_of(rt.alloc(), fields, 1)?;
+    let Some(widths) = [0u8; 15].get(..fields as usize).and_then(Widths::of) else {
+        return Err(AllocError.into());
+    };
+    let segment = segment_of(rt.alloc(), &widths, fields)?;
+    let more = rows_of(rt.alloc(), &widths, fields, 1)?;
     let mut stored = Stored {
         kind: row.kind,
         calls: row.calls,

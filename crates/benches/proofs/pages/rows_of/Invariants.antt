@@ -4,6 +4,6 @@ use Rattle.benches.proofs.pages.rows_of.Given as goal
 
 abbrev pub invariant-loop-key : goal.invariant-loop-key
 invariant-loop-key l = record {
-  count : length l.rows.items ≡ l.key;
-  wide : AreWide l.fields l.rows.items;
+  count : length l.rows ≡ l.key;
+  wide : AreWide l.widths l.rows;
 }
