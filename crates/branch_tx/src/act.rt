@@ -8,10 +8,10 @@ ghost use Rattle.branch_tx.specs.Granted.{acted, known_in, left, lent_table, lis
 ghost use Rattle.branch_tx.specs.Keeping.{over_table};
 
 use crate::Tx;
-use crate::look::find_record;
+use crate::look::find_row;
 use crate::refuse::{refusal_of, refused, refused_by, versions_full};
 use db_store::Store;
-use db_value::{Fields, Name, Record, Refusal, Reply, VersionName};
+use db_value::{KeptFields, Name, Record, Refusal, Reply, VersionName};
 use line_needs::Known;
 use std::alloc::AllocError;
 use stmt_text::Stmt;
@@ -19,11 +19,11 @@ use stmt_text::Stmt;
 impl<St: Store> Tx<St> {
     ghost use Rattle.stmt_text.specs.declared.stmt.NamedSet.{NamedSet};
 
-    // Inserts a record.
-    fn insert(&mut self, known: &Known, name: Name, key: u64, fields: &Fields) -> Reply
-        requires { known.now ≡ known_in self.old (Stmt.Insert name key fields.now) }
-        ensures reply { result ≡ (acted self.old (Stmt.Insert name key fields.now)).reply }
-        ensures left { self.new ≡ left self.old (Stmt.Insert name key fields.now) }
+    // Inserts a record, whose fields meet the widths of the relation if it is known.
+    fn insert(&mut self, known: &Known, name: Name, key: u64, kept: &KeptFields) -> Reply
+        requires { known.now ≡ known_in self.old (Stmt.Insert name key kept.now) }
+        ensures reply { result ≡ (acted self.old (Stmt.Insert name key kept.now)).reply }
+        ensures left { self.new ≡ left self.old (Stmt.Insert name key kept.now) }
     {
         let Known::Of { relation } = known else {
             return refused_by(known);
@@ -31,8 +31,10 @@ impl<St: Store> Tx<St> {
         if self.is_full() {
             return versions_full(self.current);
         }
-        let fields = *fields;
-        match self.work.insert(*relation, &Record { key, fields }) {
+        let mut row = Record::blank();
+        row.key = key;
+        kept.read(&mut row.fields);
+        match self.work.insert(*relation, &row) {
             Ok(()) => Reply::Done,
             Err(stop) => {
                 let why = refusal_of(stop, name, key, self.work.room());
@@ -90,78 +92,91 @@ impl<St: Store> Tx<St> {
 
     // The record with a key in the working table.
     #[tactic(auto, using(db_store::proofs::OverlayLemmas::length_laid))]
-    fn get_own(&self, relation: u8, key: u64) -> Option<Record>
+    fn get_own(&self, relation: u8, key: u64) -> Result<Reply, AllocError>
         requires { relation < length self.now.schema }
-        ensures { result ≡ record_with key (finite.get
-            (relation_at (laid self.now.head self.now.overlays) relation) key) }
+        ensures reply { IfOk result (λ r. r ≡ (looked_up self.now relation key Own).reply) }
+        ensures far { IsErr result → tells_far (looked_up self.now relation key Own).reply ≡ true }
     {
-        find_record(&self.work, relation, key)
+        let row = find_row(self.allocator(), &self.work, relation, key)?;
+        Ok(Reply::One { row })
     }
 
-    // The record with a key in a version that was lent; none if it wasn't.
-    fn get_lent(&self, relation: u8, key: u64, version: &VersionName) -> Option<Option<Record>>
+    // The record with a key in a version that was lent.
+    fn get_lent(&self, relation: u8, key: u64, version: &VersionName) -> Result<Reply, AllocError>
         requires { relation < length self.now.schema }
-        ensures { result ≡ record_in relation key (lent_table self.now.lent version.now) }
+        ensures reply { IfOk result (λ r. r ≡ (looked_up self.now relation key
+            (lent_source (lent_table self.now.lent version.now))).reply) }
+        ensures far { IsErr result → tells_far (looked_up self.now relation key
+            (lent_source (lent_table self.now.lent version.now))).reply ≡ true }
     {
         match self.lent.find(version) {
-            None => None,
-            Some(view) => Some(find_record(view, relation, key)),
+            None => Ok(refused(Refusal::Line)),
+            Some(view) => {
+                let row = find_row(self.allocator(), view, relation, key)?;
+                Ok(Reply::One { row })
+            }
         }
     }
 
     // The record with a key in a version that is named.
-    fn get_named(&self, relation: u8, key: u64, version: &VersionName) -> Reply
+    fn get_named(&self, relation: u8, key: u64, version: &VersionName) -> Result<Reply, AllocError>
         requires { relation < length self.now.schema }
-        ensures { result ≡ (looked_up self.now relation key
-            (source_in self.now version.now)).reply }
+        ensures reply { IfOk result (λ r. r ≡ (looked_up self.now relation key
+            (source_in self.now version.now)).reply) }
+        ensures far { IsErr result → tells_far (looked_up self.now relation key
+            (source_in self.now version.now)).reply ≡ true }
     {
         if self.is_current(version) {
-            let row = self.get_own(relation, key);
-            return Reply::One { row };
+            return self.get_own(relation, key);
         }
-        match self.get_lent(relation, key, version) {
-            None => refused(Refusal::Line),
-            Some(row) => Reply::One { row },
-        }
+        self.get_lent(relation, key, version)
     }
 
     // The record with a key, in a version where one is named.
-    fn get_at(&self, relation: u8, key: u64, at: &Option<VersionName>) -> Reply
+    fn get_at(
+        &self,
+        relation: u8,
+        key: u64,
+        at: &Option<VersionName>,
+    ) -> Result<Reply, AllocError>
         requires { relation < length self.now.schema }
-        ensures { result ≡ (looked_up self.now relation key
-            (source_at (over_table self.now.head) (source_in self.now) at.now)).reply }
+        ensures reply { IfOk result (λ r. r ≡ (looked_up self.now relation key
+            (source_at (over_table self.now.head) (source_in self.now) at.now)).reply) }
+        ensures far { IsErr result → tells_far (looked_up self.now relation key
+            (source_at (over_table self.now.head) (source_in self.now) at.now)).reply ≡ true }
     {
         match at {
-            None => {
-                let row = self.get_own(relation, key);
-                Reply::One { row }
-            }
+            None => self.get_own(relation, key),
             Some(version) => self.get_named(relation, key, version),
         }
     }
 
     // The record with a key, of whichever relation is known.
-    fn get(&self, known: &Known, key: u64, at: &Option<VersionName>) -> Reply
+    fn get(&self, known: &Known, key: u64, at: &Option<VersionName>) -> Result<Reply, AllocError>
         requires { (name : List ℕ) × (known.now ≡ known_in self.now (Stmt.Get name key at.now)) }
-        ensures { (name : List ℕ) → known.now ≡ known_in self.now (Stmt.Get name key at.now)
-            → result ≡ (acted self.now (Stmt.Get name key at.now)).reply }
+        ensures reply { IfOk result (λ r. (name : List ℕ)
+            → known.now ≡ known_in self.now (Stmt.Get name key at.now)
+            → r ≡ (acted self.now (Stmt.Get name key at.now)).reply) }
+        ensures far { IsErr result → (name : List ℕ)
+            → known.now ≡ known_in self.now (Stmt.Get name key at.now)
+            → tells_far (acted self.now (Stmt.Get name key at.now)).reply ≡ true }
     {
         let Known::Of { relation } = known else {
-            return refused_by(known);
+            return Ok(refused_by(known));
         };
         self.get_at(*relation, key, at)
     }
 
     /// Answers a statement that it covers, by what it knows of the statement. A refused statement
-    /// leaves everything as before, and so does want of memory, which only a statement that lists rows
-    /// has.
+    /// leaves everything as before, and so does want of memory, which only a statement has that lists
+    /// rows or looks at a far record.
     #[tactic(auto, using(crate::proofs::SeenLemmas::scan_left, crate::proofs::SeenLemmas::join_left, crate::proofs::SeenLemmas::minus_left))]
     pub fn act(&mut self, stmt: &Stmt, known: &Known) -> Result<Reply, AllocError>
         requires known { known.now ≡ known_in self.old stmt.now }
         ensures reply { IfOk result (λ r. r ≡ (acted self.old stmt.now).reply) }
         ensures left { OnOk result (self.new ≡ left self.old stmt.now) }
         ensures err { OnErr result (self.new ≡ self.old) }
-        ensures sure { OnErr result (lists_rows stmt.now ≡ true) }
+        ensures sure { OnErr result (takes_memory self.old stmt.now ≡ true) }
     {
         match stmt {
             Stmt::Insert {
@@ -171,7 +186,7 @@ impl<St: Store> Tx<St> {
             } => Ok(self.insert(known, *relation, *key, fields)),
             Stmt::Update { relation, key, .. } => Ok(self.update(known, *relation, *key)),
             Stmt::Delete { relation, key } => Ok(self.delete(known, *relation, *key)),
-            Stmt::Get { key, at, .. } => Ok(self.get(known, *key, at)),
+            Stmt::Get { key, at, .. } => self.get(known, *key, at),
             Stmt::Scan { over, terms, .. } => self.scan(known, over, terms),
             Stmt::Join {
                 first,

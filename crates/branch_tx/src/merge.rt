@@ -34,7 +34,7 @@ fn field_name(schema: &Schema, relation: u8, field: Option<u8>) -> Option<Name>
         None => None,
         Some(column) => {
             let columns = schema.relations()[relation as usize].columns.as_slice();
-            Some(columns[column as usize])
+            Some(columns[column as usize].name)
         }
     }
 }

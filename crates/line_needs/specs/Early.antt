@@ -1,7 +1,8 @@
 -- Lines that are refused by the schema, or by whether a transaction is open and has changed something. They look at no lock.
-use Rattle.std.specs.Prelude.{ℕ, ◌==◌, is_some, cond, Bool, true, false, List, length, Option, Some, None, Result, Ok, Err}
+use Rattle.std.specs.Prelude.{ℕ, is_some, cond, Bool, true, false, List, length, Option, Some, None, Result, Ok, Err}
 use Rattle.db_value.specs.Value.{Value}
-use Rattle.db_value.specs.Relations.{columns_at}
+use Rattle.db_value.specs.Relations.{columns_at, widths_at}
+use Rattle.db_value.specs.Widths.{meets}
 use Rattle.db_value.specs.declared.schema.Relation.{Relation}
 use Rattle.db_value.specs.Pred.{first_unknown}
 use Rattle.db_value.specs.declared.condition.Set.{Set}
@@ -28,20 +29,20 @@ abbrev pub relation_refusal : List ℕ → Option ℕ → Option Refusal
 relation_refusal name None = Some (NoRelation name)
 relation_refusal name (Some r) = None
 
--- or it has another number of columns
-abbrev pub count_refusal : List Relation → List ℕ → List Value → Option ℕ → Option Refusal
-count_refusal schema name fields None = Some (NoRelation name)
-count_refusal schema name fields (Some r) = cond (length fields == length (columns_at schema r)) None (Some (ValueCount name (length (columns_at schema r))))
+-- or the values don't meet the widths of its columns: they aren't as many, or one has no place in its column
+abbrev pub row_refusal : List Relation → List ℕ → List Value → Option ℕ → Option Refusal
+row_refusal schema name fields None = Some (NoRelation name)
+row_refusal schema name fields (Some r) = cond (meets (widths_at schema r) fields) None (Some (ValueCount name (length (columns_at schema r))))
 
--- a new value is of a column that isn't there
+-- a new value is of a column that isn't there, or has no numbers
 abbrev pub unresolved_refusal : Result (List Set) (List ℕ) → Option Refusal
 unresolved_refusal (Ok sets) = None
 unresolved_refusal (Err column) = Some (NoColumn column)
 
--- the relation isn't in the schema, or it lacks a column
+-- the relation isn't in the schema, or it lacks a column of numbers
 abbrev pub set_refusal : List Relation → List ℕ → List NamedSet → Option ℕ → Option Refusal
 set_refusal schema name sets None = Some (NoRelation name)
-set_refusal schema name sets (Some r) = unresolved_refusal (resolved (columns_at schema r) sets)
+set_refusal schema name sets (Some r) = unresolved_refusal (resolved (widths_at schema r) (columns_at schema r) sets)
 
 -- a condition is refused where it names a column that isn't there
 abbrev pub column_refusal : Option (List ℕ) → Option Refusal
@@ -76,7 +77,7 @@ early_refusal schema begun changed Segments = None
 early_refusal schema begun changed Checkpoint = outside_refusal begun
 early_refusal schema begun changed (Branch name origin) = outside_refusal begun
 early_refusal schema begun changed (Merge name prefer) = first_refusal changed
-early_refusal schema begun changed (Insert name key fields) = count_refusal schema name fields (relation_named schema name)
+early_refusal schema begun changed (Insert name key fields) = row_refusal schema name fields (relation_named schema name)
 early_refusal schema begun changed (Update name key sets) = set_refusal schema name sets (relation_named schema name)
 early_refusal schema begun changed (Delete name key) = relation_refusal name (relation_named schema name)
 early_refusal schema begun changed (Get name key at) = relation_refusal name (relation_named schema name)

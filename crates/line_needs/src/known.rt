@@ -1,12 +1,14 @@
 //! What the schema says of a line before any lock is looked at.
-ghost use Rattle.std.specs.Prelude.{◌≡◌};
+ghost use Rattle.std.specs.Prelude.{◌≡◌, ◌<◌, length};
+ghost use Rattle.db_value.specs.Relations.{widths_at};
+ghost use Rattle.db_value.specs.Widths.{meets};
 ghost use Rattle.line_needs.specs.Columns.{relation_named};
-ghost use Rattle.line_needs.specs.Early.{relation_refusal, count_refusal, set_refusal, ask_refusal, join_refusal};
+ghost use Rattle.line_needs.specs.Early.{relation_refusal, row_refusal, set_refusal, ask_refusal, join_refusal};
 ghost use Rattle.line_needs.specs.Known.{of_named, with_named, both_named, refused_or, known_of, is_refusal};
 
 use crate::columns::{column_count, resolve};
 use crate::early::{column_refusal, first_refusal, inside_refusal, outside_refusal};
-use db_value::{Fields, Name, Refusal, Schema, Sets, Term};
+use db_value::{Fields, KeptFields, Name, Refusal, Schema, Sets, Term};
 use stmt_text::{NamedSets, Stmt};
 
 /// What the schema says of a statement: why it is refused before any lock is looked at, or what its
@@ -68,23 +70,32 @@ fn know_relation(schema: &Schema, name: &Name) -> Known
     }
 }
 
-// Of an insertion, which has a value for each column.
-fn know_row(schema: &Schema, name: &Name, fields: &Fields) -> Known
+// Do fields meet the widths of a relation?
+fn meet(schema: &Schema, relation: u8, kept: &KeptFields) -> bool
+    requires { relation < length schema.now }
+    ensures { result ≡ meets (widths_at schema.now relation) kept.now }
+{
+    let mut fields = Fields::blank();
+    kept.read(&mut fields);
+    schema.widths(relation).meets(&fields)
+}
+
+// Of an insertion, which has a value for each column that meets its width.
+fn know_row(schema: &Schema, name: &Name, fields: &KeptFields) -> Known
     ensures { result ≡ refused_or
-        (count_refusal schema.now name.now fields.now (relation_named schema.now name.now))
+        (row_refusal schema.now name.now fields.now (relation_named schema.now name.now))
         (of_named (relation_named schema.now name.now)) }
 {
     match schema.relation(name) {
         None => no_relation(name),
         Some(relation) => {
-            let columns = column_count(schema, relation);
-            if fields.count() == columns {
+            if meet(schema, relation, fields) {
                 return Known::Of { relation };
             }
             Known::Refused {
                 why: Refusal::ValueCount {
                     relation: *name,
-                    columns: columns as u32,
+                    columns: column_count(schema, relation) as u32,
                 },
             }
         }

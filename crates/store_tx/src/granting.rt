@@ -72,7 +72,7 @@ pub fn open_tx<St: Store>(
     ensures shown { IfOk result (λ t. AreAllOf (St.state store.now) t) }
 {
     let below = head_view(store, branch)?;
-    let work = Work::over(alloc, below, room)?;
+    let work = Work::over(alloc, below, room, store.schema())?;
     let name = store.branch_name(branch);
     Tx::over(alloc, store.schema(), work, name)
 }
