@@ -1,9 +1,10 @@
 -- What a statement that reads or changes records may do: it is refused, it tells something, or it puts one key.
-use Rattle.std.proofs.Common.{◌≡◌, ℕ, ◌<◌, ◌==◌, Bool, true, false, cond, List, [], ◌∷◌, length, map, refl, arith, Option, Some, None}
+use Rattle.std.proofs.Common.{◌≡◌, ℕ, ◌<◌, Bool, true, false, cond, List, [], ◌∷◌, length, map, refl, arith, Option, Some, None}
 use Rattle.std.specs.Prelude.{Result, Ok, Err}
 use Rattle.db_value.specs.Value.{Value}
 use Rattle.std.specs.List.{filter}
-use Rattle.db_value.specs.Relations.{columns_at}
+use Rattle.db_value.specs.Relations.{columns_at, widths_at}
+use Rattle.db_value.specs.Widths.{meets}
 use Rattle.db_value.specs.Condition.{holds}
 use Rattle.db_value.specs.Pred.{first_unknown}
 use Rattle.db_value.specs.declared.record.Record.{Record}
@@ -46,7 +47,7 @@ module _ {W : Type 0} (k : Keeping W) (n : ℕ) (tx : Tx W) (P : Outcome W → T
 
   insert_does : (g : Ground) (name : List ℕ) (key : ℕ) (fields : List Value) (o : Option ℕ) → ((r : ℕ) → o ≡ Some r → r < n) → P (insert_of k g tx name key fields o)
   insert_does g name key fields None w = refuses _
-  insert_does g name key fields (Some r) w = cond_does (length fields == length (columns_at g.schema r)) _ _ (cond_does g.full _ _ (refuses _) (changed_does r key (Some fields) _ (w r refl))) (refuses _)
+  insert_does g name key fields (Some r) w = cond_does (meets (widths_at g.schema r) fields) _ _ (cond_does g.full _ _ (refuses _) (changed_does r key (Some fields) _ (w r refl))) (refuses _)
 
   update_does : (g : Ground) (r : ℕ) (name : List ℕ) (key : ℕ) (sets : Result (List Set) (List ℕ)) → r < n → P (update_in k g tx r name key sets)
   update_does g r name key (Err column) h = refuses _
@@ -54,7 +55,7 @@ module _ {W : Type 0} (k : Keeping W) (n : ℕ) (tx : Tx W) (P : Outcome W → T
 
   update_of_does : (g : Ground) (name : List ℕ) (key : ℕ) (sets : List NamedSet) (o : Option ℕ) → ((r : ℕ) → o ≡ Some r → r < n) → P (update_of k g tx name key sets o)
   update_of_does g name key sets None w = refuses _
-  update_of_does g name key sets (Some r) w = update_does g r name key (resolved (columns_at g.schema r) sets) (w r refl)
+  update_of_does g name key sets (Some r) w = update_does g r name key (resolved (widths_at g.schema r) (columns_at g.schema r) sets) (w r refl)
 
   delete_does : (g : Ground) (name : List ℕ) (key : ℕ) (o : Option ℕ) → ((r : ℕ) → o ≡ Some r → r < n) → P (delete_of k g tx name key o)
   delete_does g name key None w = refuses _
@@ -128,7 +129,7 @@ module _ {W : Type 0} (k : Keeping W) where
 
   insert_begun : (g : Ground) (tx : Tx W) (name : List ℕ) (key : ℕ) (fields : List Value) (o : Option ℕ) → insert_of k g (begun tx) name key fields o ≡ done_begun (insert_of k g tx name key fields o)
   insert_begun g tx name key fields None = refl
-  insert_begun g tx name key fields (Some r) = cond_begun (length fields == length (columns_at g.schema r)) _ _ _ _ (cond_begun g.full _ _ _ _ refl (changed_begun tx r key (Some fields) _)) refl
+  insert_begun g tx name key fields (Some r) = cond_begun (meets (widths_at g.schema r) fields) _ _ _ _ (cond_begun g.full _ _ _ _ refl (changed_begun tx r key (Some fields) _)) refl
 
   update_begun : (g : Ground) (tx : Tx W) (r : ℕ) (name : List ℕ) (key : ℕ) (sets : Result (List Set) (List ℕ)) → update_in k g (begun tx) r name key sets ≡ done_begun (update_in k g tx r name key sets)
   update_begun g tx r name key (Err column) = refl
@@ -136,7 +137,7 @@ module _ {W : Type 0} (k : Keeping W) where
 
   update_of_begun : (g : Ground) (tx : Tx W) (name : List ℕ) (key : ℕ) (sets : List NamedSet) (o : Option ℕ) → update_of k g (begun tx) name key sets o ≡ done_begun (update_of k g tx name key sets o)
   update_of_begun g tx name key sets None = refl
-  update_of_begun g tx name key sets (Some r) = update_begun g tx r name key (resolved (columns_at g.schema r) sets)
+  update_of_begun g tx name key sets (Some r) = update_begun g tx r name key (resolved (widths_at g.schema r) (columns_at g.schema r) sets)
 
   delete_begun : (g : Ground) (tx : Tx W) (name : List ℕ) (key : ℕ) (o : Option ℕ) → delete_of k g (begun tx) name key o ≡ done_begun (delete_of k g tx name key o)
   delete_begun g tx name key None = refl

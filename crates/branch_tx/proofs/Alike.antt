@@ -14,6 +14,7 @@ use Rattle.db_value.specs.declared.entry.Entry.TheVariants.{Commit as CommitEntr
 use Rattle.db_store.specs.Table.{Table}
 use Rattle.db_store.specs.Overlay.{Overlay, untouched, overlay_at, touch}
 use Rattle.db_store.specs.Dataset.{Dataset, head_of, head_place}
+use Rattle.db_store.specs.RowWidths.{all_widths}
 use Rattle.db_store.specs.Sound.{IsSound}
 use Rattle.db_store.specs.Counted.{IsTable, IsCounted}
 use Rattle.db_store.proofs.OverlayLemmas.{laid_untouched}
@@ -69,7 +70,7 @@ overlaid_work d b (x ∷ xs) e =
     (λ r key st c. let l = c.within in work_touched (head_of d b) (overlaid d b xs).work r key st (omega (arith, l, e)) old)
     (λ name origin is. old)
     (λ name i is. old)
-    (λ name prefer c is m. work_all (head_of d b) (overlaid d b xs).work (merge_changes d b prefer c) (merged_within prefer (common_table d b c) (head_of d b) (head_of d c)) old)
+    (λ name prefer c is m. work_all (head_of d b) (overlaid d b xs).work (merge_changes d b prefer c) (merged_within (all_widths d.schema) prefer (common_table d b c) (head_of d b) (head_of d c)) old)
 
 -- ---- the head
 
@@ -103,18 +104,18 @@ module _ (d : Dataset) (b : ℕ) (table : length (head_of d b) ≡ length d.sche
   pub reply_same : (xs : List Stmt) (x : Stmt) → reply_alone d b xs x ≡ reply_after (over_table (head_of d b)) untouched d b xs x
   reply_same xs x = ap (λ (a : Tx Private). (step privately d b a x).reply) (alone_same xs) ∙ ap (λ (o : Outcome Private). o.reply) (lines_same xs x)
 
-  made_same : (tx : Tx (List Overlay)) (o : Option (List ℕ × VersionPlace)) → IsIn (head_of d b) tx.work → entry_made privately b (as_private (head_of d b) tx) o ≡ entry_made (over_table (head_of d b)) b tx o
+  made_same : (tx : Tx (List Overlay)) (o : Option (List ℕ × VersionPlace)) → IsIn (head_of d b) tx.work → entry_made privately d.schema b (as_private (head_of d b) tx) o ≡ entry_made (over_table (head_of d b)) d.schema b tx o
   made_same tx None h =
       let q = changed_alike (head_of d b) tx in
-      let cs = changes_same (head_of d b) tx.work h in
+      let cs = changes_same (all_widths d.schema) (head_of d b) tx.work h in
       λ i. cond (q i) (Some (CommitEntry b tx.second (cs i))) None
   made_same tx (Some new) h = refl
 
   -- and the same entry
-  pub entry_same : (xs : List Stmt) → entry_of privately b (alone d b xs) ≡ entry_of (over_table (head_of d b)) b (overlaid d b xs)
+  pub entry_same : (xs : List Stmt) → entry_of privately d.schema b (alone d b xs) ≡ entry_of (over_table (head_of d b)) d.schema b (overlaid d b xs)
   entry_same xs =
       let w = overlaid_work d b xs table in
-      ap (entry_of privately b) (alone_same xs) ∙ made_same (overlaid d b xs) (overlaid d b xs).made w.inside
+      ap (entry_of privately d.schema b) (alone_same xs) ∙ made_same (overlaid d b xs) (overlaid d b xs).made w.inside
 
 pub private_is : PrivateLaw
 private_is d b xs c s h =

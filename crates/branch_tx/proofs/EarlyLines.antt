@@ -1,8 +1,9 @@
 -- A line that is refused early: its reply depends on the schema and on whether a transaction is open and has changed something, and it leaves the transaction.
-use Rattle.std.proofs.Common.{◌≡◌, ℕ, ◌==◌, is_some, Bool, true, false, cond, List, [], ◌∷◌, length, map, refl, ap, sym, ◌∙◌, Option, Some, None}
+use Rattle.std.proofs.Common.{◌≡◌, ℕ, is_some, Bool, true, false, cond, List, [], ◌∷◌, length, map, refl, ap, sym, ◌∙◌, Option, Some, None}
 use Rattle.std.specs.Prelude.{Result, Ok, Err}
 use Rattle.db_value.specs.Value.{Value}
-use Rattle.db_value.specs.Relations.{columns_at}
+use Rattle.db_value.specs.Relations.{columns_at, widths_at}
+use Rattle.db_value.specs.Widths.{meets}
 use Rattle.db_value.specs.Pred.{first_unknown}
 use Rattle.db_value.specs.declared.record.Record.{Record}
 use Rattle.db_value.specs.declared.schema.Relation.{Relation}
@@ -29,7 +30,7 @@ use Rattle.line_needs.specs.Known.{known_of, refusal_in}
 use Rattle.line_needs.proofs.Knowing.{known_why}
 use Rattle.line_needs.specs.Early.{column_refusal}
 use Rattle.branch_tx.specs.Alone.{ground_of, told, told_of, has_changed, step}
-use Rattle.line_needs.specs.Early.{outside_refusal, inside_refusal, first_refusal, relation_refusal, count_refusal, unresolved_refusal, set_refusal, ask_refusal, join_refusal, early_refusal, is_early}
+use Rattle.line_needs.specs.Early.{outside_refusal, inside_refusal, first_refusal, relation_refusal, row_refusal, unresolved_refusal, set_refusal, ask_refusal, join_refusal, early_refusal, is_early}
 use Rattle.branch_tx.proofs.Acts.{is_done}
 
 -- ---- why it is refused
@@ -85,9 +86,9 @@ module _ {W : Type 0} (k : Keeping W) where
   count_early tx true why x e = absurd cc
   count_early tx false why x e = refl
 
-  pub insert_early : (g : Ground) (tx : Tx W) (name : List ℕ) (key : ℕ) (fields : List Value) (o : Option ℕ) → is_some (count_refusal g.schema name fields o) ≡ true → insert_of k g tx name key fields o ≡ refused tx (why_of (count_refusal g.schema name fields o))
+  pub insert_early : (g : Ground) (tx : Tx W) (name : List ℕ) (key : ℕ) (fields : List Value) (o : Option ℕ) → is_some (row_refusal g.schema name fields o) ≡ true → insert_of k g tx name key fields o ≡ refused tx (why_of (row_refusal g.schema name fields o))
   insert_early g tx name key fields None e = refl
-  insert_early g tx name key fields (Some r) e = count_early tx (length fields == length (columns_at g.schema r)) _ _ e
+  insert_early g tx name key fields (Some r) e = count_early tx (meets (widths_at g.schema r) fields) _ _ e
 
   update_early : (g : Ground) (tx : Tx W) (r : ℕ) (name : List ℕ) (key : ℕ) (sets : Result (List Set) (List ℕ)) → is_some (unresolved_refusal sets) ≡ true → update_in k g tx r name key sets ≡ refused tx (why_of (unresolved_refusal sets))
   update_early g tx r name key (Ok sets) e = absurd cc
@@ -95,7 +96,7 @@ module _ {W : Type 0} (k : Keeping W) where
 
   pub update_of_early : (g : Ground) (tx : Tx W) (name : List ℕ) (key : ℕ) (sets : List NamedSet) (o : Option ℕ) → is_some (set_refusal g.schema name sets o) ≡ true → update_of k g tx name key sets o ≡ refused tx (why_of (set_refusal g.schema name sets o))
   update_of_early g tx name key sets None e = refl
-  update_of_early g tx name key sets (Some r) e = update_early g tx r name key (resolved (columns_at g.schema r) sets) e
+  update_of_early g tx name key sets (Some r) e = update_early g tx r name key (resolved (widths_at g.schema r) (columns_at g.schema r) sets) e
 
   pub delete_early : (g : Ground) (tx : Tx W) (name : List ℕ) (key : ℕ) (o : Option ℕ) → is_some (relation_refusal name o) ≡ true → delete_of k g tx name key o ≡ refused tx (why_of (relation_refusal name o))
   delete_early g tx name key None e = refl

@@ -3,6 +3,8 @@ use Rattle.std.proofs.Common.{◌≡◌, ℕ, List, [], ◌∷◌, Option, Some,
 use Rattle.std.specs.FinMap as finite
 use Rattle.std.specs.FinMap.Entries.{find}
 use Rattle.db_value.specs.Value.{Value}
+use Rattle.db_value.specs.declared.value.Value.TheVariants.{Number}
+use Rattle.db_value.specs.Relations.{number_column}
 use Rattle.db_value.specs.declared.record.Record.{Record}
 use Rattle.db_value.specs.declared.condition.Op.TheVariants.{AtLeast, NotEqual}
 use Rattle.db_value.specs.declared.version.VersionName.{VersionName}
@@ -17,18 +19,21 @@ use Rattle.branch_tx.specs.Keeping.{Keeping}
 use Rattle.branch_tx.specs.Found.{Source, Own, Other, Lacking}
 use Rattle.branch_tx.specs.Act.{Tx, Ground, act}
 
+abbrev number : ℕ → Value
+number n = Number (pos n)
+
 abbrev Entries : Type 0
 Entries = List (ℕ × List Value)
 
 -- `1 1 1` is inserted, then `2 2 2`, and then the first becomes `1 5 1`
 abbrev first : Entries
-first = (1, pos 1 ∷ pos 1 ∷ []) ∷ []
+first = (1, number 1 ∷ number 1 ∷ []) ∷ []
 
 abbrev second : Entries
-second = (1, pos 1 ∷ pos 1 ∷ []) ∷ (2, pos 2 ∷ pos 2 ∷ []) ∷ []
+second = (1, number 1 ∷ number 1 ∷ []) ∷ (2, number 2 ∷ number 2 ∷ []) ∷ []
 
 abbrev third : Entries
-third = (1, pos 5 ∷ pos 1 ∷ []) ∷ (2, pos 2 ∷ pos 2 ∷ []) ∷ []
+third = (1, number 5 ∷ number 1 ∷ []) ∷ (2, number 2 ∷ number 2 ∷ []) ∷ []
 
 abbrev contents : Entries → Contents
 contents es = finite.from_sorted es
@@ -54,10 +59,10 @@ in_third key = finite.get-from_sorted nat_cmp third key tt
 
 -- the working table is the third, and the others are versions
 abbrev keeping : Keeping (Unit {0})
-keeping = record { contents = λ w r. contents third; is_touched = λ w r key. false; touches = λ w. 0; put = λ w r key state. w; changes = λ w. [] }
+keeping = record { contents = λ w r. contents third; is_touched = λ w r key. false; touches = λ w. 0; put = λ w r key state. w; changes = λ wss w. [] }
 
 abbrev ground : Ground
-ground = record { schema = record { name = codes "items"; columns = codes "a" ∷ codes "b" ∷ [] } ∷ []; name = codes "master"; full = false }
+ground = record { schema = record { name = codes "items"; columns = number_column (codes "a") ∷ number_column (codes "b") ∷ [] } ∷ []; name = codes "master"; full = false }
 
 abbrev tx : Tx (Unit {0})
 tx = record { begun = true; room = 0; work = tt; second = None; made = None; moved = None }
@@ -79,20 +84,20 @@ abbrev head : VersionName
 head = record { branch = codes "master"; position = None }
 
 abbrev row : Value → Record
-row a = record { key = 1; fields = a ∷ pos 1 ∷ [] }
+row a = record { key = 1; fields = a ∷ number 1 ∷ [] }
 
-pub joins : reply (Join items items (at 1) head []) ≡ Paired (record { key = 1; left = pos 1 ∷ pos 1 ∷ []; right = pos 5 ∷ pos 1 ∷ [] } ∷ [])
+pub joins : reply (Join items items (at 1) head []) ≡ Paired (record { key = 1; left = number 1 ∷ number 1 ∷ []; right = number 5 ∷ number 1 ∷ [] } ∷ [])
 joins = simp (rows_first, in_third) refl
 
-pub tells_apart : reply (Minus items head (at 2)) ≡ Listed [] (record { row = row (pos 5); positions = 0 ∷ [] } ∷ [])
+pub tells_apart : reply (Minus items head (at 2)) ≡ Listed [] (record { row = row (number 5); positions = 0 ∷ [] } ∷ [])
 tells_apart = simp (rows_third, in_second) refl
 
 pub scans : reply (Scan items (Named (at 2 ∷ head ∷ [])) (record { column = None; op = AtLeast; value = pos 1 } ∷ record { column = Some (codes "a"); op = NotEqual; value = pos 2 } ∷ []))
-    ≡ Listed (at 2 ∷ head ∷ []) (record { row = row (pos 1); positions = 0 ∷ [] } ∷ record { row = row (pos 5); positions = 1 ∷ [] } ∷ [])
+    ≡ Listed (at 2 ∷ head ∷ []) (record { row = row (number 1); positions = 0 ∷ [] } ∷ record { row = row (number 5); positions = 1 ∷ [] } ∷ [])
 scans = simp (rows_second, rows_third) refl
 
 -- the plain name of its branch is the working table within all heads too
-pub scans_heads : reply (Scan items Heads []) ≡ Listed (head ∷ []) (record { row = row (pos 5); positions = 0 ∷ [] } ∷ record { row = record { key = 2; fields = pos 2 ∷ pos 2 ∷ [] }; positions = 0 ∷ [] } ∷ [])
+pub scans_heads : reply (Scan items Heads []) ≡ Listed (head ∷ []) (record { row = row (number 5); positions = 0 ∷ [] } ∷ record { row = record { key = 2; fields = number 2 ∷ number 2 ∷ [] }; positions = 0 ∷ [] } ∷ [])
 scans_heads = simp (rows_third) refl
 
 -- refusals: relations first, from left to right, then columns, then versions from left to right

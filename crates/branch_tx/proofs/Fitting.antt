@@ -19,6 +19,7 @@ use Rattle.db_store.specs.Overlay.{Overlay, untouched, is_touched, count_touched
 use Rattle.db_store.specs.Dataset.{Dataset, no_branch, branch_at, branch_named, head_of, head_place, IsMade}
 use Rattle.db_store.specs.Fits.{fits, second_fits, is_within, most_keys}
 use Rattle.db_store.specs.Adopt.{touched_by, full_from}
+use Rattle.db_store.specs.RowWidths.{all_widths}
 use Rattle.db_store.specs.Sound.{IsSound}
 use Rattle.db_store.specs.Counted.{IsTable}
 use Rattle.db_store.specs.Growth.{made_test}
@@ -177,7 +178,7 @@ module _ (d : Dataset) (b : ℕ) (sound : IsSound d) (tables : (c : ℕ) → c <
   own_table = tables b here
 
   cs_within : list_all (λ x. nat_lt x.relation (length (head_of d b))) cs ≡ true
-  cs_within = merged_within prefer (common_table d b c) (head_of d b) (head_of d c)
+  cs_within = merged_within (all_widths d.schema) prefer (common_table d b c) (head_of d b) (head_of d c)
 
   narrow : length (head_of d b) ≤ 8
   narrow = let w = own_table.wide in omega (arith, w, few)
@@ -186,7 +187,7 @@ module _ (d : Dataset) (b : ℕ) (sound : IsSound d) (tables : (c : ℕ) → c <
   put_is os e = put_all_is (head_of d b) os cs ∙ ap (λ (x : List Overlay). touched_by x cs) e
 
   merged_count : count_touched (touched_by untouched cs) ≡ length cs
-  merged_count = count_by cs (more_relations (length (head_of d b)) 8 cs narrow cs_within) (ascending_differ cs (merged_ascends prefer (common_table d b c) (head_of d b) (head_of d c)))
+  merged_count = count_by cs (more_relations (length (head_of d b)) 8 cs narrow cs_within) (ascending_differ cs (merged_ascends (all_widths d.schema) prefer (common_table d b c) (head_of d b) (head_of d c)))
 
   merged_laid : laid (head_of d b) (touched_by untouched cs) ≡ with_changes (head_of d b) cs
   merged_laid = laid_by (head_of d b) untouched cs (let n = length-replicate most_relations (finite.empty {X = State} {R = nat_cmp}) in omega (arith, narrow, n)) cs_within ∙ ap (λ (t : Table). with_changes t cs) (laid_untouched (head_of d b))
@@ -204,7 +205,7 @@ module _ (d : Dataset) (b : ℕ) (sound : IsSound d) (tables : (c : ℕ) → c <
         open_branch = λ e. m.open_branch;
         clean = λ e. absurd (false≢true (sym (or_parts (nat_lt 0 (count_touched (put_all (over_table (head_of d b)) tx.work cs))) true e).1));
         table = subst (IsTable d.schema) (sym (ap (laid (head_of d b)) put ∙ merged_laid))
-            (table_from d.schema (with_changes (head_of d b) cs) (changes_shaped d.schema (head_of d b) cs (merged_fits d.schema prefer (common_table d b c) (head_of d b) (head_of d c) own_table (tables c there)) (table_shaped d.schema (head_of d b) own_table)) (none_full 0 (with_changes (head_of d b) cs) both.0));
+            (table_from d.schema (with_changes (head_of d b) cs) (changes_shaped d.schema (head_of d b) cs (merged_fits d.schema prefer (common_table d b c) (head_of d b) (head_of d c) few own_table (tables c there)) (table_shaped d.schema (head_of d b) own_table)) (none_full 0 (with_changes (head_of d b) cs) both.0));
         second = made_test d (head_place d c) (there, let r = sound.rooted c there in omega (arith, r));
         made = f.made;
       }

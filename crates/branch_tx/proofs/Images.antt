@@ -1,12 +1,13 @@
 -- A line does the same to a private table as to the changes that make it.
-use Rattle.std.proofs.Common.{◌≡◌, ℕ, ◌<◌, ◌≤◌, ◌==◌, nat_lt, Bool, true, false, cond, ◌||◌, is_some, List, [], ◌∷◌, length, map, Option, Some, None, Result, Ok, Err, refl, ap, ◌∙◌, subst, arith}
+use Rattle.std.proofs.Common.{◌≡◌, ℕ, ◌<◌, ◌≤◌, nat_lt, Bool, true, false, cond, ◌||◌, is_some, List, [], ◌∷◌, length, map, Option, Some, None, Result, Ok, Err, refl, ap, ◌∙◌, subst, arith}
 use Rattle.std.specs.List.{filter, list_all}
 use Rattle.std.specs.FinMap as finite
 use Rattle.std.proofs.lemmas.Bool.{and_parts, ltb-true}
 use Rattle.std.proofs.lemmas.List.{length-set}
 use Rattle.std.proofs.lemmas.List.Quantifiers.{position-Some}
 use Rattle.db_value.specs.Value.{Value}
-use Rattle.db_value.specs.Relations.{columns_at, no_relation}
+use Rattle.db_value.specs.Relations.{columns_at, widths_at, no_relation}
+use Rattle.db_value.specs.Widths.{meets}
 use Rattle.db_value.specs.Schema.{most_relations}
 use Rattle.db_value.specs.Condition.{holds}
 use Rattle.db_value.specs.Pred.{first_unknown}
@@ -25,6 +26,7 @@ use Rattle.db_store.specs.Table.{Table, rows_of}
 use Rattle.db_store.specs.Overlay.{Overlay, overlay_at, touch}
 use Rattle.db_store.specs.Dataset.{Dataset, branch_named, head_of, head_place}
 use Rattle.db_store.specs.Fits.{most_branches}
+use Rattle.db_store.specs.RowWidths.{all_widths}
 use Rattle.field_merge.specs.Merge.{table_changes}
 use Rattle.field_merge.proofs.OrderLemmas.{merged_within}
 use Rattle.stmt_text.specs.declared.stmt.Stmt.{Stmt}
@@ -81,7 +83,7 @@ InTable t o = (r : ℕ) → o ≡ Some r → r < length t
 
 insert_same : (t : Table) (g : Ground) (tx : Tx (List Overlay)) (name : List ℕ) (key : ℕ) (fields : List Value) (o : Option ℕ) → IsWide t tx → InTable t o → insert_of privately g (as_private t tx) name key fields o ≡ image t (insert_of (over_table t) g tx name key fields o)
 insert_same t g tx name key fields None w h = refl
-insert_same t g tx name key fields (Some r) w h = cond_same t (length fields == length (columns_at g.schema r)) _ _ _ _ (insert_in_same t g tx r name key fields w (h r refl)) refl
+insert_same t g tx name key fields (Some r) w h = cond_same t (meets (widths_at g.schema r) fields) _ _ _ _ (insert_in_same t g tx r name key fields w (h r refl)) refl
 
 change_same : (t : Table) (g : Ground) (tx : Tx (List Overlay)) (r : ℕ) (name : List ℕ) (key : ℕ) (st : State) → IsWide t tx → r < length t
     → unless_full g (as_private t tx) (changed_to privately (as_private t tx) r key st (change_refusal name key tx.room (fields_at (over_table t) tx r key) (has_room privately (as_private t tx) r key)))
@@ -96,7 +98,7 @@ update_in_same t g tx r name key (Ok sets) w h = change_same t g tx r name key (
 
 update_same : (t : Table) (g : Ground) (tx : Tx (List Overlay)) (name : List ℕ) (key : ℕ) (sets : List NamedSet) (o : Option ℕ) → IsWide t tx → InTable t o → update_of privately g (as_private t tx) name key sets o ≡ image t (update_of (over_table t) g tx name key sets o)
 update_same t g tx name key sets None w h = refl
-update_same t g tx name key sets (Some r) w h = update_in_same t g tx r name key (resolved (columns_at g.schema r) sets) w (h r refl)
+update_same t g tx name key sets (Some r) w h = update_in_same t g tx r name key (resolved (widths_at g.schema r) (columns_at g.schema r) sets) w (h r refl)
 
 delete_same : (t : Table) (g : Ground) (tx : Tx (List Overlay)) (name : List ℕ) (key : ℕ) (o : Option ℕ) → IsWide t tx → InTable t o → delete_of privately g (as_private t tx) name key o ≡ image t (delete_of (over_table t) g tx name key o)
 delete_same t g tx name key None w h = refl
@@ -216,8 +218,8 @@ merged_same t tx from cs None w h =
 merge_same : (t : Table) (d : Dataset) (b : ℕ) (tx : Tx (List Overlay)) (name : List ℕ) (prefer : Prefer) (o : Option ℕ) → IsWide t tx → length (head_of d b) ≡ length t → merge_named privately d b (as_private t tx) name prefer o ≡ image t (merge_named (over_table t) d b tx name prefer o)
 merge_same t d b tx name prefer None w e = refl
 merge_same t d b tx name prefer (Some c) w e =
-    cond_same t (ground_of d b).full _ _ _ _ refl (merged_same t tx (head_place d c) (table_changes prefer (common_table d b c) (head_of d b) (head_of d c)) (refusal_of_merge d.schema tx.room prefer (common_table d b c) (head_of d b) (head_of d c)) w
-    (subst (λ n. list_all (λ x. nat_lt x.relation n) (table_changes prefer (common_table d b c) (head_of d b) (head_of d c)) ≡ true) e (merged_within prefer (common_table d b c) (head_of d b) (head_of d c))))
+    cond_same t (ground_of d b).full _ _ _ _ refl (merged_same t tx (head_place d c) (table_changes (all_widths d.schema) prefer (common_table d b c) (head_of d b) (head_of d c)) (refusal_of_merge d.schema tx.room prefer (common_table d b c) (head_of d b) (head_of d c)) w
+    (subst (λ n. list_all (λ x. nat_lt x.relation n) (table_changes (all_widths d.schema) prefer (common_table d b c) (head_of d b) (head_of d c)) ≡ true) e (merged_within (all_widths d.schema) prefer (common_table d b c) (head_of d b) (head_of d c))))
 
 -- one line
 pub step_same : (t : Table) (d : Dataset) (b : ℕ) (tx : Tx (List Overlay)) (x : Stmt) → IsWide t tx → length t ≡ length d.schema → length (head_of d b) ≡ length d.schema → step privately d b (as_private t tx) x ≡ image t (step (over_table t) d b tx x)

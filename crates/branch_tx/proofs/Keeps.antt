@@ -1,8 +1,8 @@
 -- What stands of a transaction stands after a line, if it does after each thing that a line may do.
-use Rattle.std.proofs.Common.{◌≡◌, ℕ, ◌<◌, ◌==◌, nat_lt, Bool, true, false, cond, List, [], ◌∷◌, length, map, Option, Some, None, Result, Ok, Err, refl, ap, ◌∙◌}
-use Rattle.std.proofs.lemmas.Bool.{eqb-true}
+use Rattle.std.proofs.Common.{◌≡◌, ℕ, ◌<◌, nat_lt, Bool, true, false, cond, List, [], ◌∷◌, length, map, Option, Some, None, Result, Ok, Err, refl, ap, ◌∙◌}
 use Rattle.db_value.specs.Value.{Value}
-use Rattle.db_value.specs.Relations.{columns_at}
+use Rattle.db_value.specs.Relations.{columns_at, widths_at}
+use Rattle.db_value.specs.Widths.{meets}
 use Rattle.db_value.specs.Condition.{holds}
 use Rattle.db_value.specs.Pred.{first_unknown}
 use Rattle.db_value.specs.declared.record.Record.{Record}
@@ -16,6 +16,7 @@ use Rattle.db_value.specs.declared.version.VersionPlace.{VersionPlace}
 use Rattle.db_value.specs.declared.reply.Refusal.{Refusal}
 use Rattle.db_store.specs.Dataset.{Dataset, branch_named, head_of, head_place}
 use Rattle.db_store.specs.Fits.{most_branches}
+use Rattle.db_store.specs.RowWidths.{all_widths}
 use Rattle.field_merge.specs.Merge.{table_changes}
 use Rattle.stmt_text.specs.declared.stmt.Stmt.{Stmt}
 use Rattle.stmt_text.specs.declared.stmt.Stmt.TheVariants.{Begin, Commit, Abort, On, LogOf, Graph, Segments, Checkpoint, Branch, Merge, Insert, Update, Delete, Get, Scan, Join, Minus}
@@ -32,21 +33,22 @@ use Rattle.branch_tx.specs.Merging.{refusal_of_merge, put_all, merged_to}
 use Rattle.branch_tx.specs.Alone.{ground_of, common_table, place_in, room_of, on_of, branch_as, has_changed, merge_named, step}
 use Rattle.branch_tx.proofs.Private.{State}
 use Rattle.branch_tx.proofs.Images.{named_within}
-use Rattle.branch_tx.proofs.WithSets.{length-with_sets}
+use Rattle.line_needs.proofs.SetLemmas.{AreNumbers, resolved_numbers}
+use Rattle.branch_tx.proofs.WithSets.{meets_sets}
 
--- What may be set where a key has a state: a new record has a field for each column, and there is space for it; another one has as many fields as before.
-abbrev pub MayBe : ℕ → Bool → State → State → Type 0
-MayBe columns space None None = ⊥
-MayBe columns space None (Some fields) = (space ≡ true) × (length fields ≡ columns)
-MayBe columns space (Some old) None = Unit {0}
-MayBe columns space (Some old) (Some fields) = length fields ≡ length old
+-- What may be set where a key has a state: a new record meets the widths of the columns, and there is space for it; another one meets them if the one before does.
+abbrev pub MayBe : List ℕ → Bool → State → State → Type 0
+MayBe ws space None None = ⊥
+MayBe ws space None (Some fields) = (space ≡ true) × (meets ws fields ≡ true)
+MayBe ws space (Some old) None = Unit {0}
+MayBe ws space (Some old) (Some fields) = meets ws old ≡ true → meets ws fields ≡ true
 
 -- a change that a transaction accepts
 pub record IsChange {W : Type 0} (k : Keeping W) (g : Ground) (tx : Tx W) (r key : ℕ) (st : State) : Type 0 where
   pub within : r < length g.schema
   pub open_branch : g.full ≡ false
   pub room : has_room k tx r key ≡ true
-  pub state : MayBe (length (columns_at g.schema r)) (has_space k tx r) (fields_at k tx r key) st
+  pub state : MayBe (widths_at g.schema r) (has_space k tx r) (fields_at k tx r key) st
 
 -- a branch that can be made
 pub record IsBranch (d : Dataset) (name : List ℕ) (f : Found) : Type 0 where
@@ -56,7 +58,7 @@ pub record IsBranch (d : Dataset) (name : List ℕ) (f : Found) : Type 0 where
 
 -- the changes of a merge of the head of branch c into branch b
 abbrev pub merge_changes : Dataset → ℕ → Prefer → ℕ → List Change
-merge_changes d b prefer c = table_changes prefer (common_table d b c) (head_of d b) (head_of d c)
+merge_changes d b prefer c = table_changes (all_widths d.schema) prefer (common_table d b c) (head_of d b) (head_of d c)
 
 -- why it is refused
 abbrev pub why_unmerged : Dataset → ℕ → ℕ → Prefer → ℕ → Option Refusal
@@ -89,44 +91,41 @@ module _ {W : Type 0} (k : Keeping W) (P : Tx W → Type 0) where
   abbrev Changes : Ground → Tx W → Type 0
   Changes g tx = (r key : ℕ) (st : State) → IsChange k g tx r key st → P (record tx { work = k.put tx.work r key st })
 
-  insert_accepted : (columns room : ℕ) (name : List ℕ) (key : ℕ) (old : State) (space free : Bool) (fields : List Value) → length fields ≡ columns → insert_refusal name key room old space free ≡ None → (free ≡ true) × MayBe columns space old (Some fields)
-  insert_accepted columns room name key (Some old) space free fields n e = absurd cc
-  insert_accepted columns room name key None false free fields n e = absurd cc
-  insert_accepted columns room name key None true false fields n e = absurd cc
-  insert_accepted columns room name key None true true fields n e = (refl, (refl, n))
+  insert_accepted : (ws : List ℕ) (room : ℕ) (name : List ℕ) (key : ℕ) (old : State) (space free : Bool) (fields : List Value) → meets ws fields ≡ true → insert_refusal name key room old space free ≡ None → (free ≡ true) × MayBe ws space old (Some fields)
+  insert_accepted ws room name key (Some old) space free fields n e = absurd cc
+  insert_accepted ws room name key None false free fields n e = absurd cc
+  insert_accepted ws room name key None true false fields n e = absurd cc
+  insert_accepted ws room name key None true true fields n e = (refl, (refl, n))
 
-  change_accepted : (columns room : ℕ) (name : List ℕ) (key : ℕ) (old st : State) (space free : Bool) → ((fields : List Value) → old ≡ Some fields → MayBe columns space (Some fields) st) → change_refusal name key room old free ≡ None → (free ≡ true) × MayBe columns space old st
-  change_accepted columns room name key None st space free f e = absurd cc
-  change_accepted columns room name key (Some old) st space false f e = absurd cc
-  change_accepted columns room name key (Some old) st space true f e = (refl, f old refl)
+  change_accepted : (ws : List ℕ) (room : ℕ) (name : List ℕ) (key : ℕ) (old st : State) (space free : Bool) → ((fields : List Value) → old ≡ Some fields → MayBe ws space (Some fields) st) → change_refusal name key room old free ≡ None → (free ≡ true) × MayBe ws space old st
+  change_accepted ws room name key None st space free f e = absurd cc
+  change_accepted ws room name key (Some old) st space false f e = absurd cc
+  change_accepted ws room name key (Some old) st space true f e = (refl, f old refl)
 
   insert_keeps : (g : Ground) (tx : Tx W) (name : List ℕ) (key : ℕ) (fields : List Value) (o : Option ℕ) → relation_named g.schema name ≡ o → P tx → Changes g tx → P (insert_of k g tx name key fields o).tx
   insert_keeps g tx name key fields None e h f = h
-  insert_keeps g tx name key fields (Some r) e h f = cond_by (length fields == length (columns_at g.schema r)) _ _ (λ n. cond_by g.full _ _ (λ q. h) (λ q. changed_keeps tx r key (Some fields) _ h (λ a.
-      let both = insert_accepted (length (columns_at g.schema r)) tx.room name key (fields_at k tx r key) (has_space k tx r) (has_room k tx r key) fields (eqb-true _ _ n) a in
+  insert_keeps g tx name key fields (Some r) e h f = cond_by (meets (widths_at g.schema r) fields) _ _ (λ n. cond_by g.full _ _ (λ q. h) (λ q. changed_keeps tx r key (Some fields) _ h (λ a.
+      let both = insert_accepted (widths_at g.schema r) tx.room name key (fields_at k tx r key) (has_space k tx r) (has_room k tx r key) fields n a in
       f r key (Some fields) (record { within = named_within g.schema name r e; open_branch = q; room = both.0; state = both.1 })))) (λ n. h)
 
   change_keeps : (g : Ground) (tx : Tx W) (r : ℕ) (name : List ℕ) (key : ℕ) (st : State) → r < length g.schema → P tx → Changes g tx
-      → ((fields : List Value) → fields_at k tx r key ≡ Some fields → MayBe (length (columns_at g.schema r)) (has_space k tx r) (Some fields) st)
+      → ((fields : List Value) → fields_at k tx r key ≡ Some fields → MayBe (widths_at g.schema r) (has_space k tx r) (Some fields) st)
       → P (unless_full g tx (changed_to k tx r key st (change_refusal name key tx.room (fields_at k tx r key) (has_room k tx r key)))).tx
   change_keeps g tx r name key st l h f s = cond_by g.full _ _ (λ q. h) (λ q. changed_keeps tx r key st _ h (λ a.
-      let both = change_accepted (length (columns_at g.schema r)) tx.room name key (fields_at k tx r key) st (has_space k tx r) (has_room k tx r key) s a in
+      let both = change_accepted (widths_at g.schema r) tx.room name key (fields_at k tx r key) st (has_space k tx r) (has_room k tx r key) s a in
       f r key st (record { within = l; open_branch = q; room = both.0; state = both.1 })))
 
-  updated_may : (columns : ℕ) (space : Bool) (sets : List Set) (o : State) (fields : List Value) → o ≡ Some fields → MayBe columns space (Some fields) (updated sets o)
-  updated_may columns space sets None fields e = absurd cc
-  updated_may columns space sets (Some old) fields e = length-with_sets old sets ∙ same old fields e
-    where
-      same : (a b : List Value) → Some a ≡ Some b → length a ≡ length b
-      same a b e = let q : a ≡ b = cc in ap length q
+  updated_may : (ws : List ℕ) (space : Bool) (sets : List Set) (o : State) → AreNumbers ws sets → (fields : List Value) → o ≡ Some fields → MayBe ws space (Some fields) (updated sets o)
+  updated_may ws space sets None n fields e = absurd cc
+  updated_may ws space sets (Some old) n fields e = λ h. let same : old ≡ fields = cc in meets_sets ws old sets n (ap (meets ws) same ∙ h)
 
-  update_keeps : (g : Ground) (tx : Tx W) (r : ℕ) (name : List ℕ) (key : ℕ) (sets : Result (List Set) (List ℕ)) → r < length g.schema → P tx → Changes g tx → P (update_in k g tx r name key sets).tx
-  update_keeps g tx r name key (Err column) l h f = h
-  update_keeps g tx r name key (Ok sets) l h f = change_keeps g tx r name key (updated sets (fields_at k tx r key)) l h f (updated_may (length (columns_at g.schema r)) (has_space k tx r) sets (fields_at k tx r key))
+  update_keeps : (g : Ground) (tx : Tx W) (r : ℕ) (name : List ℕ) (key : ℕ) (sets : Result (List Set) (List ℕ)) → r < length g.schema → ((ss : List Set) → sets ≡ Ok ss → AreNumbers (widths_at g.schema r) ss) → P tx → Changes g tx → P (update_in k g tx r name key sets).tx
+  update_keeps g tx r name key (Err column) l n h f = h
+  update_keeps g tx r name key (Ok sets) l n h f = change_keeps g tx r name key (updated sets (fields_at k tx r key)) l h f (updated_may (widths_at g.schema r) (has_space k tx r) sets (fields_at k tx r key) (n sets refl))
 
   update_of_keeps : (g : Ground) (tx : Tx W) (name : List ℕ) (key : ℕ) (sets : List NamedSet) (o : Option ℕ) → relation_named g.schema name ≡ o → P tx → Changes g tx → P (update_of k g tx name key sets o).tx
   update_of_keeps g tx name key sets None e h f = h
-  update_of_keeps g tx name key sets (Some r) e h f = update_keeps g tx r name key (resolved (columns_at g.schema r) sets) (named_within g.schema name r e) h f
+  update_of_keeps g tx name key sets (Some r) e h f = update_keeps g tx r name key (resolved (widths_at g.schema r) (columns_at g.schema r) sets) (named_within g.schema name r e) (resolved_numbers (widths_at g.schema r) (columns_at g.schema r) sets) h f
 
   delete_keeps : (g : Ground) (tx : Tx W) (name : List ℕ) (key : ℕ) (o : Option ℕ) → relation_named g.schema name ≡ o → P tx → Changes g tx → P (delete_of k g tx name key o).tx
   delete_keeps g tx name key None e h f = h

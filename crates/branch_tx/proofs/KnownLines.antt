@@ -2,7 +2,8 @@
 use Rattle.std.proofs.Common.{◌≡◌, ℕ, ◌<◌, Bool, true, cond, List, length, ap, ◌∙◌, Option, Some, None}
 use Rattle.std.specs.Prelude.{Result, Ok}
 use Rattle.db_value.specs.Value.{Value}
-use Rattle.db_value.specs.Relations.{columns_at}
+use Rattle.db_value.specs.Relations.{columns_at, widths_at}
+use Rattle.db_value.specs.Widths.{meets}
 use Rattle.db_value.specs.Condition.{holds}
 use Rattle.db_value.specs.Pred.{first_unknown}
 use Rattle.db_value.specs.declared.condition.Set.{Set}
@@ -19,6 +20,7 @@ use Rattle.line_needs.specs.declared.known.Known.{Known}
 use Rattle.line_needs.specs.declared.known.Known.TheVariants.{Refused as KnownRefused, Of, With, Both}
 use Rattle.line_needs.specs.Columns.{relation_named}
 use Rattle.line_needs.specs.Early.{column_refusal}
+use Rattle.line_needs.proofs.SetLemmas.{AreNumbers, resolved_numbers}
 use Rattle.line_needs.proofs.Knowing.{Stops, relation_is, known_insert, known_update, known_scan, known_join, relation_stops, insert_stops, update_stops, scan_stops, join_stops}
 use Rattle.branch_tx.specs.Keeping.{over_table}
 use Rattle.branch_tx.specs.Act.{Outcome, refused, unless, insert_in, insert_of, update_in, update_of, delete_of, source_at, get_of, scan_of, join_with, join_of, minus_of}
@@ -71,21 +73,24 @@ module _ (g : Granted) where
   abbrev pub deleted : ℕ → List ℕ → ℕ → Outcome (List Overlay)
   deleted r name key = delete_of (over_table g.head) (ground_in g) (tx_in g) name key (Some r)
 
-  pub insert_is : (name : List ℕ) (key : ℕ) (fields : List Value) (r : ℕ) → known_in g (Insert name key fields) ≡ Of r → (r < length g.schema) × (acted g (Insert name key fields) ≡ inserted r name key fields)
+  pub insert_is : (name : List ℕ) (key : ℕ) (fields : List Value) (r : ℕ) → known_in g (Insert name key fields) ≡ Of r
+      → (r < length g.schema) × (acted g (Insert name key fields) ≡ inserted r name key fields) × (meets (widths_at g.schema r) fields ≡ true)
   insert_is name key fields r e =
       let is = known_insert g.schema true (has_done g) name key fields r e in (
         named_within g.schema name r is.0,
         ap (insert_of (over_table g.head) (ground_in g) (tx_in g) name key fields) is.0
             ∙ ap (λ (q : Bool). cond q (inserted r name key fields) (refused (tx_in g) (ValueCount name (length (columns_at g.schema r))))) is.1,
+        is.1,
       )
 
   pub update_is : (name : List ℕ) (key : ℕ) (named : List NamedSet) (r : ℕ) (sets : List Set) → known_in g (Update name key named) ≡ With r sets
-      → (r < length g.schema) × (acted g (Update name key named) ≡ updated r name key sets)
+      → (r < length g.schema) × (acted g (Update name key named) ≡ updated r name key sets) × AreNumbers (widths_at g.schema r) sets
   update_is name key named r sets e =
       let is = known_update g.schema true (has_done g) name key named r sets e in (
         named_within g.schema name r is.0,
         ap (update_of (over_table g.head) (ground_in g) (tx_in g) name key named) is.0
             ∙ ap (λ (s : Result (List Set) (List ℕ)). update_in (over_table g.head) (ground_in g) (tx_in g) r name key s) is.1,
+        resolved_numbers (widths_at g.schema r) (columns_at g.schema r) named sets is.1,
       )
 
   pub delete_is : (name : List ℕ) (key r : ℕ) → known_in g (Delete name key) ≡ Of r → (r < length g.schema) × (acted g (Delete name key) ≡ deleted r name key)

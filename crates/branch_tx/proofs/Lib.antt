@@ -11,6 +11,8 @@ pub mod Keeps
 pub mod SeenLemmas
 pub mod Alike
 pub mod Tables
+pub mod Works
+pub mod RowLemmas
 pub mod Fitting
 pub mod Ends
 pub mod Acts

@@ -1,7 +1,9 @@
 -- What a granted transaction answers to a merge, by what its working table answers to the changes.
-use Rattle.std.proofs.Common.{◌≡◌, ℕ, ◌+◌, ◌<◌, nat_le, Bool, true, false, cond, List, [], ◌∷◌, length, Option, Some, None, refl, ap, sym, ◌∙◌, arith}
+use Rattle.std.proofs.Common.{◌≡◌, ℕ, ◌+◌, ◌<◌, nat_le, Bool, true, false, cond, List, [], ◌∷◌, length, map, get_or, Option, Some, None, refl, ap, sym, ◌∙◌, arith}
 use Rattle.std.specs.FinMap as finite
+use Rattle.std.proofs.lemmas.List.{get_or-map}
 use Rattle.db_value.specs.declared.schema.Relation.{Relation}
+use Rattle.db_value.specs.declared.schema.Column.{Column}
 use Rattle.db_value.specs.declared.condition.Prefer.{Prefer}
 use Rattle.db_value.specs.declared.entry.Change.{Change}
 use Rattle.db_value.specs.declared.version.VersionPlace.{VersionPlace}
@@ -13,6 +15,7 @@ use Rattle.db_store.specs.Table.{Table, with_changes}
 use Rattle.db_store.specs.Fits.{most_keys}
 use Rattle.db_store.specs.Overlay.{Overlay, untouched, laid}
 use Rattle.db_store.specs.Adopt.{full_from, stop_where, adopt_stop}
+use Rattle.db_store.specs.RowWidths.{all_widths}
 use Rattle.db_store.proofs.OverlayLemmas.{laid_untouched}
 use Rattle.db_store.proofs.CountLemmas.{length_with_changes}
 use Rattle.field_merge.specs.Merge.{Clash, least_clash, table_changes, table_clashes}
@@ -20,6 +23,10 @@ use Rattle.branch_tx.specs.Keeping.{over_table}
 use Rattle.branch_tx.specs.Act.{Outcome, refused}
 use Rattle.branch_tx.specs.Merging.{relation_name, conflict_in, merge_refusal, merged_to}
 use Rattle.branch_tx.specs.Granted.{Granted, ground_in, tx_in, merged}
+
+-- the name of a column among the names of all
+pub name_at : (columns : List Column) (i : ℕ) (d : Column) → i < length columns → (get_or columns i d).name ≡ get_or (map (λ c. c.name) columns) i []
+name_at columns i d h = sym (get_or-map (λ (c : Column). c.name) columns i d [] h)
 
 -- ---- why changes aren't taken
 
@@ -96,10 +103,10 @@ module _ (g : Granted) (clean : g.overlays ≡ untouched) where
   unless_open true a x e = absurd cc
   unless_open false a x e = refl
 
-  pub merged_by : (from : VersionPlace) (prefer : Prefer) (base right : Table) (cs : List Change) → (ground_in g).full ≡ false → cs ≡ table_changes prefer base (laid g.head g.overlays) right → table_clashes prefer base (laid g.head g.overlays) right ≡ []
+  pub merged_by : (from : VersionPlace) (prefer : Prefer) (base right : Table) (cs : List Change) → (ground_in g).full ≡ false → cs ≡ table_changes (all_widths g.schema) prefer base (laid g.head g.overlays) right → table_clashes prefer base (laid g.head g.overlays) right ≡ []
       → merged_to (over_table g.head) (tx_in g) from cs (given g cs) ≡ merged g from prefer base right
   merged_by from prefer base right cs room e free =
-      let is : cs ≡ table_changes prefer base g.head right = e ∙ ap (λ (t : Table). table_changes prefer base t right) laid_is in
+      let is : cs ≡ table_changes (all_widths g.schema) prefer base g.head right = e ∙ ap (λ (t : Table). table_changes (all_widths g.schema) prefer base t right) laid_is in
       let none : None ≡ least_clash (table_clashes prefer base g.head right) = sym (ap (λ (t : Table). least_clash (table_clashes prefer base t right)) (sym laid_is) ∙ ap least_clash free) in
       (λ i. merged_to (over_table g.head) (tx_in g) from (is i) (merge_refusal g.schema g.room (length (is i)) (none i) (full_from 0 (with_changes g.head (is i)))))
       ∙ unless_open (ground_in g).full _ _ room
@@ -108,6 +115,6 @@ module _ (g : Granted) (clean : g.overlays ≡ untouched) where
       → refused (tx_in g) (conflict_in g.schema c) ≡ merged g from prefer base right
   conflicting from prefer base right c room e =
       let is : Some c ≡ least_clash (table_clashes prefer base g.head right) = sym (ap (λ (t : Table). least_clash (table_clashes prefer base t right)) (sym laid_is) ∙ e) in
-      let cs = table_changes prefer base g.head right in
+      let cs = table_changes (all_widths g.schema) prefer base g.head right in
       (λ i. merged_to (over_table g.head) (tx_in g) from cs (merge_refusal g.schema g.room (length cs) (is i) (full_from 0 (with_changes g.head cs))))
       ∙ unless_open (ground_in g).full _ _ room

@@ -10,10 +10,10 @@ use Rattle.std.specs.FinMap as finite
 use Rattle.std.specs.FinMap.Entries.{find, is_sorted, below_all, put, by_order}
 use Rattle.db_value.specs.Value.{Value}
 use Rattle.db_store.specs.Table.{Table, relation_at}
-use Rattle.db_store.specs.Overlay.{Overlay, overlay_at, is_touched, count_touched, touch, over, laid, change_of, changes_from}
+use Rattle.db_store.specs.Overlay.{Overlay, overlay_at, is_touched, count_touched, touch, over, laid, own_widths, change_of, changes_from}
 use Rattle.db_store.specs.OverlayRules.{get_laid}
 use Rattle.db_store.proofs.OverlayLemmas.{laid_touched}
-use Rattle.branch_tx.specs.Keeping.{privately, is_among, with_key, keys_at, count_keys, change_to, state_in, states_from}
+use Rattle.branch_tx.specs.Keeping.{privately, is_among, with_key, keys_at, count_keys, state_in, states_from}
 use Rattle.branch_tx.specs.Laws.{keys_of, private_of}
 
 abbrev pub State : Type 0
@@ -111,28 +111,28 @@ later_found e es key st h f = elim (key == e.0) as (λ q. (key == e.0) ≡ q →
 pub here_found : (e : ℕ × State) (es : Entries) → find nat_cmp e.0 (e ∷ es) ≡ Some e.1
 here_found e es = ap (λ (q : Bool). cond q (Some e.1) (find nat_cmp e.0 es)) (same_key e.0 e.0 ∙ eq-eqb e.0 e.0 refl)
 
-states_map : (t : Table) (n : ℕ) (es : Entries) → T (is_sorted nat_cmp es) → ((key : ℕ) (st : State) → find nat_cmp key es ≡ Some st → finite.get (relation_at t n) key ≡ st) → map (state_in t n) (keys es) ≡ map (change_of n) es
-states_map t n [] h f = refl
-states_map t n (e ∷ es) h f =
+states_map : (ws : List ℕ) (t : Table) (n : ℕ) (es : Entries) → T (is_sorted nat_cmp es) → ((key : ℕ) (st : State) → find nat_cmp key es ≡ Some st → finite.get (relation_at t n) key ≡ st) → map (state_in ws t n) (keys es) ≡ map (change_of ws n) es
+states_map ws t n [] h f = refl
+states_map ws t n (e ∷ es) h f =
     let below = first (below_all nat_cmp e.0 es) (is_sorted nat_cmp es) h in
-    let here = ap (change_to n e.0) (f e.0 e.1 (here_found e es)) in
-    let later = states_map t n es (second (below_all nat_cmp e.0 es) (is_sorted nat_cmp es) h) (λ key st g. f key st (later_found e es key st below g)) in
+    let here = ap (λ st. change_of ws n (e.0, st)) (f e.0 e.1 (here_found e es)) in
+    let later = states_map ws t n es (second (below_all nat_cmp e.0 es) (is_sorted nat_cmp es) h) (λ key st g. f key st (later_found e es key st below g)) in
     λ i. here i ∷ later i
 
-states_are : (t : Table) (n : ℕ) (os : List Overlay) → ((r key : ℕ) (st : State) → finite.get (overlay_at os r) key ≡ Some st → finite.get (relation_at t (n + r)) key ≡ st) → states_from t n (map keys_of os) ≡ changes_from n os
-states_are t n [] f = refl
-states_are t n (o ∷ os) f =
+states_are : (wss : List (List ℕ)) (t : Table) (n : ℕ) (os : List Overlay) → ((r key : ℕ) (st : State) → finite.get (overlay_at os r) key ≡ Some st → finite.get (relation_at t (n + r)) key ≡ st) → states_from wss t n (map keys_of os) ≡ changes_from wss n os
+states_are wss t n [] f = refl
+states_are wss t n (o ∷ os) f =
     let zero : n + 0 ≡ n = omega arith in
-    let here = states_map t n (finite.entries o) (finite.entries_sorted o) (λ key st g. subst (λ k. finite.get (relation_at t k) key ≡ st) zero (f 0 key st (finite.get-entries o key ∙ g))) in
-    let later = states_are t (n + 1) os (λ r key st g. let e : n + suc r ≡ (n + 1) + r = omega arith in subst (λ k. finite.get (relation_at t k) key ≡ st) e (f (suc r) key st g)) in
+    let here = states_map (own_widths wss n) t n (finite.entries o) (finite.entries_sorted o) (λ key st g. subst (λ k. finite.get (relation_at t k) key ≡ st) zero (f 0 key st (finite.get-entries o key ∙ g))) in
+    let later = states_are wss t (n + 1) os (λ r key st g. let e : n + suc r ≡ (n + 1) + r = omega arith in subst (λ k. finite.get (relation_at t k) key ≡ st) e (f (suc r) key st g)) in
     λ i. here i ++ later i
 
 -- relations that the table lacks have no touched key
 abbrev pub IsIn : Table → List Overlay → Type 0
 IsIn t os = (r key : ℕ) → length t ≤ r → finite.get (overlay_at os r) key ≡ None
 
-pub changes_same : (t : Table) (os : List Overlay) → IsIn t os → privately.changes (private_of t os) ≡ changes_from 0 os
-changes_same t os h = states_are (laid t os) 0 os (λ r key st g. there r key st g (cases_lt r (length t)))
+pub changes_same : (wss : List (List ℕ)) (t : Table) (os : List Overlay) → IsIn t os → privately.changes wss (private_of t os) ≡ changes_from wss 0 os
+changes_same wss t os h = states_are wss (laid t os) 0 os (λ r key st g. there r key st g (cases_lt r (length t)))
   where
     there : (r key : ℕ) (st : State) → finite.get (overlay_at os r) key ≡ Some st → (r < length t) ⊎ (length t ≤ r) → finite.get (relation_at (laid t os) (0 + r)) key ≡ st
     there r key st g (inl l) =

@@ -1,9 +1,10 @@
 -- What a statement that reads or changes records does in a transaction.
-use Rattle.std.specs.Prelude.{ℕ, ◌==◌, ◌||◌, nat_lt, cond, Bool, true, false, List, [], ◌∷◌, length, map, Option, Some, None, Result, Ok, Err}
+use Rattle.std.specs.Prelude.{ℕ, ◌||◌, nat_lt, cond, Bool, true, false, List, [], ◌∷◌, length, map, Option, Some, None, Result, Ok, Err}
 use Rattle.std.specs.FinMap as finite
 use Rattle.std.specs.List.{filter}
 use Rattle.db_value.specs.Value.{Value}
-use Rattle.db_value.specs.Relations.{columns_at}
+use Rattle.db_value.specs.Relations.{columns_at, widths_at}
+use Rattle.db_value.specs.Widths.{meets}
 use Rattle.db_value.specs.Condition.{holds}
 use Rattle.db_value.specs.Pred.{first_unknown}
 use Rattle.db_value.specs.declared.schema.Relation.{Relation}
@@ -130,7 +131,7 @@ module _ {W : Type 0} (k : Keeping W) where
 
   abbrev pub insert_of : Ground → Tx W → List ℕ → ℕ → List Value → Option ℕ → Outcome W
   insert_of g tx name key fields None = refused tx (NoRelation name)
-  insert_of g tx name key fields (Some r) = cond (length fields == length (columns_at g.schema r)) (insert_in g tx r name key fields) (refused tx (ValueCount name (length (columns_at g.schema r))))
+  insert_of g tx name key fields (Some r) = cond (meets (widths_at g.schema r) fields) (insert_in g tx r name key fields) (refused tx (ValueCount name (length (columns_at g.schema r))))
 
   abbrev pub update_in : Ground → Tx W → ℕ → List ℕ → ℕ → Result (List Set) (List ℕ) → Outcome W
   update_in g tx r name key (Err column) = refused tx (NoColumn column)
@@ -138,7 +139,7 @@ module _ {W : Type 0} (k : Keeping W) where
 
   abbrev pub update_of : Ground → Tx W → List ℕ → ℕ → List NamedSet → Option ℕ → Outcome W
   update_of g tx name key sets None = refused tx (NoRelation name)
-  update_of g tx name key sets (Some r) = update_in g tx r name key (resolved (columns_at g.schema r) sets)
+  update_of g tx name key sets (Some r) = update_in g tx r name key (resolved (widths_at g.schema r) (columns_at g.schema r) sets)
 
   abbrev pub delete_of : Ground → Tx W → List ℕ → ℕ → Option ℕ → Outcome W
   delete_of g tx name key None = refused tx (NoRelation name)

@@ -1,6 +1,7 @@
 -- One transaction run alone on a dataset, on a branch b. Lists of lines are newest first.
 use Rattle.std.specs.Prelude.{ℕ, ◌||◌, nat_lt, nat_le, is_some, cond, Bool, true, false, List, [], ◌∷◌, length, Option, Some, None}
 use Rattle.db_value.specs.declared.condition.Prefer.{Prefer}
+use Rattle.db_value.specs.declared.schema.Relation.{Relation}
 use Rattle.db_value.specs.declared.version.VersionPlace.{VersionPlace}
 use Rattle.db_value.specs.declared.entry.Entry.{Entry}
 use Rattle.db_value.specs.declared.entry.Entry.TheVariants.{Commit as CommitEntry, Branch as BranchEntry}
@@ -9,6 +10,7 @@ use Rattle.db_value.specs.declared.reply.Reply.TheVariants.{Done, Made}
 use Rattle.db_value.specs.declared.reply.Refusal.{Refusal}
 use Rattle.db_value.specs.declared.reply.Refusal.TheVariants.{NoBranch as RefusedBranch, InTransaction, NoTransaction, NotFirst, BranchThere, BranchesFull}
 use Rattle.db_store.specs.Overlay.{Overlay, untouched}
+use Rattle.db_store.specs.RowWidths.{all_widths}
 use Rattle.db_store.specs.Table.{Table}
 use Rattle.db_store.specs.Dataset.{Dataset, branch_at, branch_named, head_of, head_place, table_at}
 use Rattle.db_store.specs.Order.{common}
@@ -119,16 +121,17 @@ module _ {W : Type 0} (k : Keeping W) where
   abbrev pub reply_after : W → Dataset → ℕ → List Stmt → Stmt → Reply
   reply_after start d b xs x = (step d b (after_lines start d b xs) x).reply
 
-  abbrev pub commit_entry : ℕ → Tx W → Option Entry
-  commit_entry b tx = cond (has_changed tx) (Some (CommitEntry b tx.second (k.changes tx.work))) None
+  -- its changes as a commit on a branch of a dataset with a schema, whose widths they have
+  abbrev pub commit_entry : List Relation → ℕ → Tx W → Option Entry
+  commit_entry schema b tx = cond (has_changed tx) (Some (CommitEntry b tx.second (k.changes (all_widths schema) tx.work))) None
 
-  abbrev pub entry_made : ℕ → Tx W → Option (List ℕ × VersionPlace) → Option Entry
-  entry_made b tx None = commit_entry b tx
-  entry_made b tx (Some new) = Some (BranchEntry new.0 new.1)
+  abbrev pub entry_made : List Relation → ℕ → Tx W → Option (List ℕ × VersionPlace) → Option Entry
+  entry_made schema b tx None = commit_entry schema b tx
+  entry_made schema b tx (Some new) = Some (BranchEntry new.0 new.1)
 
   -- the entry of a transaction that ends
-  abbrev pub entry_of : ℕ → Tx W → Option Entry
-  entry_of b tx = entry_made b tx tx.made
+  abbrev pub entry_of : List Relation → ℕ → Tx W → Option Entry
+  entry_of schema b tx = entry_made schema b tx tx.made
 
 -- a transaction's lines on a whole private table, which is a copy of the branch's head
 abbrev pub alone : Dataset → ℕ → List Stmt → Tx Private

@@ -1,26 +1,29 @@
 -- A granted transaction by itself: what it holds of its branch, what it has changed, and which versions were lent to it.
-use Rattle.std.specs.Prelude.{ℕ, ◌==◌, ◌&&◌, not, is_some, cond, Bool, true, false, List, [], ◌∷◌, length, take, Option, Some, None, refl}
-use Rattle.std.specs.FinMap as finite
+use Rattle.std.specs.Prelude.{ℕ, ◌==◌, ◌&&◌, nat_lt, not, is_some, cond, Bool, true, false, List, [], ◌∷◌, length, take, Option, Some, None, refl}
 use Rattle.std.specs.Coded.{Coded, code_by, coded×, coded_ℕ, coded_bool, coded_list, coded_option}
 use Rattle.db_value.specs.Text.{same}
+use Rattle.db_value.specs.Spelling.{fields_bytes}
 use Rattle.db_value.specs.declared.schema.Relation.{Relation}
+use Rattle.db_value.specs.declared.schema.Column.{Column}
 use Rattle.db_value.specs.declared.record.Record.{Record}
 use Rattle.db_value.specs.declared.entry.Change.{Change}
 use Rattle.db_value.specs.declared.version.VersionName.{VersionName}
 use Rattle.db_value.specs.declared.version.VersionPlace.{VersionPlace}
 use Rattle.db_value.specs.declared.condition.Prefer.{Prefer}
+use Rattle.db_value.specs.declared.reply.Reply.{Reply}
+use Rattle.db_value.specs.declared.reply.Reply.TheVariants.{One}
 use Rattle.db_value.specs.declared.reply.Refusal.TheVariants.{Line}
-use Rattle.db_store.specs.Table.{Table, table_code, relation_at, with_changes}
+use Rattle.db_store.specs.Table.{Table, table_code, with_changes}
 use Rattle.db_store.specs.Adopt.{full_from}
 use Rattle.db_store.specs.Overlay.{Overlay, overlay_code, laid}
 use Rattle.stmt_text.specs.declared.stmt.Stmt.{Stmt}
-use Rattle.stmt_text.specs.declared.stmt.Stmt.TheVariants.{Scan, Join, Minus}
+use Rattle.stmt_text.specs.declared.stmt.Stmt.TheVariants.{Get, Scan, Join, Minus}
 use Rattle.stmt_text.specs.declared.stmt.ScanOver.{ScanOver}
 use Rattle.line_needs.specs.declared.known.Known.{Known}
 use Rattle.line_needs.specs.Known.{known_of}
 use Rattle.branch_tx.specs.Keeping.{over_table}
 use Rattle.branch_tx.specs.Found.{Source, Own, Other, Lacking}
-use Rattle.branch_tx.specs.Act.{Tx, Outcome, Ground, act, get_from, scan_over, join_in, minus_in, record_with}
+use Rattle.branch_tx.specs.Act.{Tx, Outcome, Ground, act, get_from, scan_over, join_in, minus_in}
 use Rattle.branch_tx.specs.Merging.{merge_in, merged_to, merge_refusal}
 use Rattle.branch_tx.specs.Frame.{is_changed}
 use Rattle.branch_tx.specs.Shown.{Shown, shown_code, ViewsOf}
@@ -47,9 +50,13 @@ pub record Granted : Type 0 where
   -- the names of all branches, once they were noted
   pub heads : Option (List (List ℕ))
 
+-- a column can be written as numbers
+abbrev pub column_code : Coded Column
+column_code = code_by (List ℕ × ℕ) (coded× (coded_list coded_ℕ) coded_ℕ) (λ c. (c.name, c.width)) (λ p. record { name = p.0; width = p.1 }) (λ _. refl)
+
 -- a relation can be written as numbers
 abbrev pub relation_code : Coded Relation
-relation_code = code_by (List ℕ × List (List ℕ)) (coded× (coded_list coded_ℕ) (coded_list (coded_list coded_ℕ))) (λ r. (r.name, r.columns)) (λ p. record { name = p.0; columns = p.1 }) (λ _. refl)
+relation_code = code_by (List ℕ × List Column) (coded× (coded_list coded_ℕ) (coded_list column_code)) (λ r. (r.name, r.columns)) (λ p. record { name = p.0; columns = p.1 }) (λ _. refl)
 
 -- the name of a version can be written as numbers
 abbrev pub version_code : Coded VersionName
@@ -139,12 +146,27 @@ known_in g x = known_of g.schema true (has_done g) x
 abbrev pub acted : Granted → Stmt → Outcome (List Overlay)
 acted g x = act (over_table g.head) (ground_in g) (source_in g) (names_or_none g.heads) (tx_in g) x
 
--- the statements that list rows, which takes memory; no change of a record does, and no look at one
-abbrev pub lists_rows : Stmt → Bool
-lists_rows (Scan relation over terms) = true
-lists_rows (Join l r first second terms) = true
-lists_rows (Minus relation first second) = true
-lists_rows _ = false
+-- the bytes that a record's fields may have in the reply itself
+abbrev pub most_near : ℕ
+most_near = 62
+
+-- the record has more of them, so its fields stand in memory of their own
+abbrev pub is_far : Option Record → Bool
+is_far None = false
+is_far (Some row) = nat_lt most_near (length (fields_bytes row.fields))
+
+-- the reply has such a record
+abbrev pub tells_far : Reply → Bool
+tells_far (One row) = is_far row
+tells_far _ = false
+
+-- the statements that take memory: they list rows, or look at a record that doesn't stand in the reply itself; no change of a record does
+abbrev pub takes_memory : Granted → Stmt → Bool
+takes_memory g (Get relation key at) = tells_far (acted g (Get relation key at)).reply
+takes_memory g (Scan relation over terms) = true
+takes_memory g (Join l r first second terms) = true
+takes_memory g (Minus relation first second) = true
+takes_memory g _ = false
 
 -- it after what was done in it
 abbrev pub with_work : Granted → Outcome (List Overlay) → Granted
@@ -191,8 +213,3 @@ abbrev pub table_from : Granted → Source → Table
 table_from g Own = laid g.head g.overlays
 table_from g (Other t) = t
 table_from g (Lacking why) = []
-
--- the record with a key in a table, if there is one
-abbrev pub record_in : ℕ → ℕ → Option Table → Option (Option Record)
-record_in r key None = None
-record_in r key (Some t) = Some (record_with key (finite.get (relation_at t r) key))

@@ -5,8 +5,8 @@ use Rattle.std.proofs.Common.{get_or}
 use Rattle.db_value.specs.Value.{Value}
 use Rattle.db_value.specs.Schema.{most_relations}
 use Rattle.db_value.specs.declared.entry.Change.{Change}
-use Rattle.db_store.specs.Table.{Contents, Table, relation_at, with_change}
-use Rattle.db_store.specs.Overlay.{Overlay, laid, is_touched, count_touched, touch, changes_from}
+use Rattle.db_store.specs.Table.{Contents, Table, relation_at, changed}
+use Rattle.db_store.specs.Overlay.{Overlay, laid, is_touched, count_touched, touch, own_widths, change_of, changes_from}
 
 -- what a transaction asks of its working table, in whichever form it keeps that
 pub record Keeping (W : Type 0) : Type 0 where
@@ -17,8 +17,8 @@ pub record Keeping (W : Type 0) : Type 0 where
   pub touches : W → ℕ
   -- one key of a relation set, and touched
   pub put : W → ℕ → ℕ → Option (List Value) → W
-  -- the final state of each touched key, by relation and key
-  pub changes : W → List Change
+  -- the final state of each touched key, by relation and key, with the widths of its relation beside fields
+  pub changes : List (List ℕ) → W → List Change
 
 -- a private table, and the touched keys of each relation in ascending order
 pub record Private : Type 0 where
@@ -48,18 +48,14 @@ abbrev pub count_keys : List (List ℕ) → ℕ
 count_keys [] = 0
 count_keys (ks ∷ more) = length ks + count_keys more
 
--- the change that gives a key these fields, or none
-abbrev pub change_to : ℕ → ℕ → Option (List Value) → Change
-change_to r key state = record { relation = r; key = key; fields = state }
+-- a key's state in a table as a change of its relation, whose columns have these widths
+abbrev pub state_in : List ℕ → Table → ℕ → ℕ → Change
+state_in ws t r key = change_of ws r (key, finite.get (relation_at t r) key)
 
--- a key's state in a table
-abbrev pub state_in : Table → ℕ → ℕ → Change
-state_in t r key = change_to r key (finite.get (relation_at t r) key)
-
--- the states of keys in a table, by relation and key; the first keys are of relation n
-abbrev pub states_from : Table → ℕ → List (List ℕ) → List Change
-states_from t n [] = []
-states_from t n (ks ∷ more) = map (state_in t n) ks ++ states_from t (n + 1) more
+-- the states of keys in a table, by relation and key, with the widths of each relation; the first keys are of relation n
+abbrev pub states_from : List (List ℕ) → Table → ℕ → List (List ℕ) → List Change
+states_from wss t n [] = []
+states_from wss t n (ks ∷ more) = map (state_in (own_widths wss n) t n) ks ++ states_from wss t (n + 1) more
 
 -- a whole private table
 abbrev pub privately : Keeping Private
@@ -67,8 +63,8 @@ privately = record {
   contents = λ w r. relation_at w.table r;
   is_touched = λ w r key. is_among key (keys_at w r);
   touches = λ w. count_keys w.touched;
-  put = λ w r key state. record { table = with_change w.table (change_to r key state); touched = set w.touched r (with_key key (keys_at w r)) };
-  changes = λ w. states_from w.table 0 w.touched;
+  put = λ w r key state. record { table = set w.table r (changed (relation_at w.table r) key state); touched = set w.touched r (with_key key (keys_at w r)) };
+  changes = λ wss w. states_from wss w.table 0 w.touched;
 }
 
 -- changes over a table that stays
@@ -78,5 +74,5 @@ over_table t = record {
   is_touched = is_touched;
   touches = count_touched;
   put = touch;
-  changes = changes_from 0;
+  changes = λ wss os. changes_from wss 0 os;
 }

@@ -4,6 +4,7 @@ use Rattle.std.specs.FinMap as finite
 use Rattle.db_value.specs.declared.entry.Entry.{Entry}
 use Rattle.db_store.specs.Table.{Table, with_changes}
 use Rattle.db_store.specs.Overlay.{Overlay, laid, untouched}
+use Rattle.db_store.specs.RowWidths.{all_widths}
 use Rattle.db_store.specs.Dataset.{Dataset, head_of}
 use Rattle.db_store.specs.Fits.{fits}
 use Rattle.db_store.specs.Sound.{IsSound}
@@ -31,12 +32,12 @@ abbrev pub PrivateLaw : Type 0
 PrivateLaw = (d : Dataset) (b : ℕ) (xs : List Stmt) → IsCounted d → IsSound d → b < length d.branches
     → (alone d b xs ≡ as_private (head_of d b) (overlaid d b xs))
     × ((x : Stmt) → reply_alone d b xs x ≡ reply_after (over_table (head_of d b)) untouched d b xs x)
-    × (entry_of privately b (alone d b xs) ≡ entry_of (over_table (head_of d b)) b (overlaid d b xs))
+    × (entry_of privately d.schema b (alone d b xs) ≡ entry_of (over_table (head_of d b)) d.schema b (overlaid d b xs))
 
 -- the changes of a transaction make its private table of the head
 abbrev pub TableLaw : Type 0
 TableLaw = (d : Dataset) (b : ℕ) (xs : List Stmt) → IsCounted d → IsSound d → b < length d.branches
-    → with_changes (head_of d b) (privately.changes (alone d b xs).work) ≡ (alone d b xs).work.table
+    → with_changes (head_of d b) (privately.changes (all_widths d.schema) (alone d b xs).work) ≡ (alone d b xs).work.table
 
 -- a `begin` has room for at most 65,536 keys
 abbrev pub IsRoomy : Stmt → Type 0
@@ -52,4 +53,4 @@ AllRoomy (x ∷ xs) = IsRoomy x × AllRoomy xs
 -- the entry of a transaction fits the dataset on which it ran
 abbrev pub EntryLaw : Type 0
 EntryLaw = (d : Dataset) (b : ℕ) (xs : List Stmt) (e : Entry) → IsSound d → IsCounted d → b < length d.branches → AllRoomy xs
-    → entry_of (over_table (head_of d b)) b (overlaid d b xs) ≡ Some e → fits d e ≡ true
+    → entry_of (over_table (head_of d b)) d.schema b (overlaid d b xs) ≡ Some e → fits d e ≡ true

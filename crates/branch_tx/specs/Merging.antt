@@ -11,6 +11,7 @@ use Rattle.db_value.specs.declared.reply.Refusal.{Refusal}
 use Rattle.db_value.specs.declared.reply.Refusal.TheVariants.{Conflict, TableFull, Room}
 use Rattle.db_store.specs.Table.{Table, with_changes}
 use Rattle.db_store.specs.Adopt.{full_from}
+use Rattle.db_store.specs.RowWidths.{all_widths}
 use Rattle.field_merge.specs.Merge.{Clash, least_clash, table_changes, table_clashes}
 use Rattle.branch_tx.specs.Keeping.{Keeping}
 use Rattle.branch_tx.specs.Act.{Tx, Outcome, Ground, refused, answered, unless_full}
@@ -37,7 +38,7 @@ merge_refusal schema room count None None = cond (nat_le count room) None (Some 
 -- why the merge of three tables is refused
 abbrev pub refusal_of_merge : List Relation → ℕ → Prefer → Table → Table → Table → Option Refusal
 refusal_of_merge schema room prefer base left right =
-    merge_refusal schema room (length (table_changes prefer base left right)) (least_clash (table_clashes prefer base left right)) (full_from 0 (with_changes left (table_changes prefer base left right)))
+    merge_refusal schema room (length (table_changes (all_widths schema) prefer base left right)) (least_clash (table_clashes prefer base left right)) (full_from 0 (with_changes left (table_changes (all_widths schema) prefer base left right)))
 
 module _ {W : Type 0} (k : Keeping W) where
   -- several keys set, from left to right, and touched
@@ -52,7 +53,7 @@ module _ {W : Type 0} (k : Keeping W) where
 
   -- a merge of the right table, which stands at a place, into the left one
   abbrev pub merge_free : List Relation → Tx W → VersionPlace → Prefer → Table → Table → Table → Outcome W
-  merge_free schema tx from prefer base left right = merged_to tx from (table_changes prefer base left right) (refusal_of_merge schema tx.room prefer base left right)
+  merge_free schema tx from prefer base left right = merged_to tx from (table_changes (all_widths schema) prefer base left right) (refusal_of_merge schema tx.room prefer base left right)
 
   abbrev pub merge_in : Ground → Tx W → VersionPlace → Prefer → Table → Table → Table → Outcome W
   merge_in g tx from prefer base left right = unless_full g tx (merge_free g.schema tx from prefer base left right)

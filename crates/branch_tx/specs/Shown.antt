@@ -3,7 +3,7 @@ use Rattle.std.specs.Prelude.{◌≡◌, ℕ, Bool, List, [], map, refl}
 use Rattle.std.specs.List.{range_with_len}
 use Rattle.std.specs.Coded.{Coded, code_by, coded×, coded_ℕ, coded_bool, coded_list}
 use Rattle.std.proofs.Common.{get_or}
-use Rattle.db_value.specs.Value.{Value, coded_value}
+use Rattle.db_value.specs.Packed.{record_code}
 use Rattle.db_value.specs.Schema.{most_relations}
 use Rattle.db_value.specs.declared.record.Record.{Record}
 use Rattle.db_store.specs.State.{State}
@@ -37,10 +37,6 @@ ViewsOf s views = (v : ℕ) → AreOf s (parts_in views v)
 -- one of several views shows this
 abbrev pub IsAmong : List Shown → Shown → Type 0
 IsAmong views shown = (v : ℕ) × (get_or views v [] ≡ shown)
-
--- a record can be written as numbers
-abbrev pub record_code : Coded Record
-record_code = code_by (ℕ × List Value) (coded× coded_ℕ (coded_list coded_value)) (λ r. (r.key, r.fields)) (λ p. record { key = p.0; fields = p.1 }) (λ _. refl)
 
 -- a part can be written as numbers
 abbrev pub part_code : Coded Part

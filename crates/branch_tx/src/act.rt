@@ -1,10 +1,8 @@
 //! Statements that a granted transaction answers by itself, by what is known of them.
 ghost use Rattle.std.specs.Prelude.{◌≡◌, ◌<◌, ℕ, List, true, length, IfOk, OnOk, OnErr};
-ghost use Rattle.std.specs.FinMap as finite;
-ghost use Rattle.db_store.specs.Table.{relation_at};
-ghost use Rattle.db_store.specs.Overlay.{laid};
-ghost use Rattle.branch_tx.specs.Act.{record_with, source_at};
-ghost use Rattle.branch_tx.specs.Granted.{acted, known_in, left, lent_table, lists_rows, looked_up, record_in, source_in};
+ghost use Rattle.branch_tx.specs.Act.{source_at};
+ghost use Rattle.branch_tx.specs.Found.{Own};
+ghost use Rattle.branch_tx.specs.Granted.{acted, known_in, left, lent_source, lent_table, looked_up, source_in, takes_memory, tells_far};
 ghost use Rattle.branch_tx.specs.Keeping.{over_table};
 
 use crate::Tx;
@@ -15,6 +13,14 @@ use db_value::{KeptFields, Name, Record, Refusal, Reply, VersionName};
 use line_needs::Known;
 use std::alloc::AllocError;
 use stmt_text::Stmt;
+
+// Reads a record that is kept as a key and fields.
+fn read_row(key: u64, kept: &KeptFields, into: &mut Record)
+    ensures { into.new ≡ record { key = key; fields = kept.now } }
+{
+    into.key = key;
+    kept.read(&mut into.fields);
+}
 
 impl<St: Store> Tx<St> {
     ghost use Rattle.stmt_text.specs.declared.stmt.NamedSet.{NamedSet};
@@ -32,8 +38,7 @@ impl<St: Store> Tx<St> {
             return versions_full(self.current);
         }
         let mut row = Record::blank();
-        row.key = key;
-        kept.read(&mut row.fields);
+        read_row(key, kept, &mut row);
         match self.work.insert(*relation, &row) {
             Ok(()) => Reply::Done,
             Err(stop) => {
@@ -95,10 +100,12 @@ impl<St: Store> Tx<St> {
     fn get_own(&self, relation: u8, key: u64) -> Result<Reply, AllocError>
         requires { relation < length self.now.schema }
         ensures reply { IfOk result (λ r. r ≡ (looked_up self.now relation key Own).reply) }
-        ensures far { IsErr result → tells_far (looked_up self.now relation key Own).reply ≡ true }
+        ensures far { OnErr result (tells_far (looked_up self.now relation key Own).reply ≡ true) }
     {
-        let row = find_row(self.allocator(), &self.work, relation, key)?;
-        Ok(Reply::One { row })
+        match find_row(self.allocator(), &self.work, relation, key) {
+            Ok(row) => Ok(Reply::One { row }),
+            Err(stop) => Err(stop),
+        }
     }
 
     // The record with a key in a version that was lent.
@@ -106,15 +113,15 @@ impl<St: Store> Tx<St> {
         requires { relation < length self.now.schema }
         ensures reply { IfOk result (λ r. r ≡ (looked_up self.now relation key
             (lent_source (lent_table self.now.lent version.now))).reply) }
-        ensures far { IsErr result → tells_far (looked_up self.now relation key
-            (lent_source (lent_table self.now.lent version.now))).reply ≡ true }
+        ensures far { OnErr result (tells_far (looked_up self.now relation key
+            (lent_source (lent_table self.now.lent version.now))).reply ≡ true) }
     {
         match self.lent.find(version) {
             None => Ok(refused(Refusal::Line)),
-            Some(view) => {
-                let row = find_row(self.allocator(), view, relation, key)?;
-                Ok(Reply::One { row })
-            }
+            Some(view) => match find_row(self.allocator(), view, relation, key) {
+                Ok(row) => Ok(Reply::One { row }),
+                Err(stop) => Err(stop),
+            },
         }
     }
 
@@ -123,8 +130,8 @@ impl<St: Store> Tx<St> {
         requires { relation < length self.now.schema }
         ensures reply { IfOk result (λ r. r ≡ (looked_up self.now relation key
             (source_in self.now version.now)).reply) }
-        ensures far { IsErr result → tells_far (looked_up self.now relation key
-            (source_in self.now version.now)).reply ≡ true }
+        ensures far { OnErr result (tells_far (looked_up self.now relation key
+            (source_in self.now version.now)).reply ≡ true) }
     {
         if self.is_current(version) {
             return self.get_own(relation, key);
@@ -133,17 +140,12 @@ impl<St: Store> Tx<St> {
     }
 
     // The record with a key, in a version where one is named.
-    fn get_at(
-        &self,
-        relation: u8,
-        key: u64,
-        at: &Option<VersionName>,
-    ) -> Result<Reply, AllocError>
+    fn get_at(&self, relation: u8, key: u64, at: &Option<VersionName>) -> Result<Reply, AllocError>
         requires { relation < length self.now.schema }
         ensures reply { IfOk result (λ r. r ≡ (looked_up self.now relation key
             (source_at (over_table self.now.head) (source_in self.now) at.now)).reply) }
-        ensures far { IsErr result → tells_far (looked_up self.now relation key
-            (source_at (over_table self.now.head) (source_in self.now) at.now)).reply ≡ true }
+        ensures far { OnErr result (tells_far (looked_up self.now relation key
+            (source_at (over_table self.now.head) (source_in self.now) at.now)).reply ≡ true) }
     {
         match at {
             None => self.get_own(relation, key),
@@ -157,9 +159,9 @@ impl<St: Store> Tx<St> {
         ensures reply { IfOk result (λ r. (name : List ℕ)
             → known.now ≡ known_in self.now (Stmt.Get name key at.now)
             → r ≡ (acted self.now (Stmt.Get name key at.now)).reply) }
-        ensures far { IsErr result → (name : List ℕ)
+        ensures far { OnErr result ((name : List ℕ)
             → known.now ≡ known_in self.now (Stmt.Get name key at.now)
-            → tells_far (acted self.now (Stmt.Get name key at.now)).reply ≡ true }
+            → tells_far (acted self.now (Stmt.Get name key at.now)).reply ≡ true) }
     {
         let Known::Of { relation } = known else {
             return Ok(refused_by(known));

@@ -1,5 +1,5 @@
 //! Reading in a view.
-ghost use Rattle.std.specs.Prelude.{◌≡◌, ◌<◌, is_some, length, IfOk, IfSome, IsErr};
+ghost use Rattle.std.specs.Prelude.{◌≡◌, ◌<◌, is_some, true, length, IfOk, IfSome, OnErr};
 ghost use Rattle.std.specs.FinMap as finite;
 ghost use Rattle.db_store.specs.Table.{relation_at};
 ghost use Rattle.branch_tx.specs.Act.{record_with};
@@ -43,8 +43,8 @@ pub fn find_row<V: View>(
     requires { relation < length (V.table view.now) }
     ensures row { IfOk result (λ row. row
         ≡ record_with key (finite.get (relation_at (V.table view.now) relation) key)) }
-    ensures far { IsErr result → is_far
-        (record_with key (finite.get (relation_at (V.table view.now) relation) key)) ≡ true }
+    ensures far { OnErr result (is_far
+        (record_with key (finite.get (relation_at (V.table view.now) relation) key)) ≡ true) }
 {
     let mut row = Record::blank();
     if !find_counted::<V, Brand>(view, relation, key, &mut row, Blank::new(1)) {

@@ -1,8 +1,10 @@
 //! Merges in a granted transaction.
-ghost use Rattle.std.specs.Prelude.{◌≡◌, ◌<◌, true, nat_lt, length, IfOk, OnOk, OnErr};
+ghost use Rattle.std.specs.Prelude.{◌≡◌, ◌<◌, [], true, nat_lt, length, map, IfOk, OnOk, OnErr};
+ghost use Rattle.std.proofs.Common.{get_or};
 ghost use Rattle.std.specs.List.{list_all};
 ghost use Rattle.db_value.specs.Relations.{columns_at};
 ghost use Rattle.db_store.specs.Adopt.{keys_differ};
+ghost use Rattle.db_store.specs.Fits.{change_fits};
 ghost use Rattle.db_store.specs.Overlay.{untouched};
 ghost use Rattle.field_merge.specs.Named.{IsFieldOf};
 ghost use Rattle.branch_tx.specs.Merging.{relation_name, field_name};
@@ -12,8 +14,9 @@ ghost use Rattle.branch_tx.specs.MayMerge.{MayMerge};
 use crate::refuse::{refused, versions_full};
 use crate::tx::Tx;
 use db_store::{Store, WorkStop};
-use db_value::{Changes, Name, Prefer, Refusal, Reply, Schema, VersionPlace};
+use db_value::{Changes, Column, Name, Prefer, Refusal, Reply, Schema, VersionPlace};
 use field_merge::{MergeStop, merge_tables};
+use line_needs::columns_of;
 use std::alloc::AllocError;
 
 // The name of a relation.
@@ -24,6 +27,15 @@ fn relation_name(schema: &Schema, relation: u8) -> Name
     schema.relations()[relation as usize].name
 }
 
+// The name of a column.
+#[tactic(auto, using(crate::proofs::MergeLemmas::name_at))]
+fn column_name(columns: &[Column], column: u8) -> Name
+    requires { column < length columns.now }
+    ensures { result ≡ get_or (map (λ c. c.name) columns.now) column [] }
+{
+    columns[column as usize].name
+}
+
 // The name of a column, unless the whole record is meant.
 fn field_name(schema: &Schema, relation: u8, field: Option<u8>) -> Option<Name>
     requires relation { relation < length schema.now }
@@ -32,10 +44,7 @@ fn field_name(schema: &Schema, relation: u8, field: Option<u8>) -> Option<Name>
 {
     match field {
         None => None,
-        Some(column) => {
-            let columns = schema.relations()[relation as usize].columns.as_slice();
-            Some(columns[column as usize].name)
-        }
+        Some(column) => Some(column_name(columns_of(schema, relation), column)),
     }
 }
 
@@ -46,6 +55,7 @@ impl<St: Store> Tx<St> {
         requires relations { list_all (λ c.
             nat_lt c.relation (length self.old.head)) changes.now ≡ true }
         requires differ { keys_differ changes.now ≡ true }
+        requires fit { list_all (change_fits self.old.schema) changes.now ≡ true }
         ensures reply { result ≡ (adopted self.old from changes.now).reply }
         ensures left { self.new ≡ with_merge self.old
             (adopted self.old from changes.now) }

@@ -1,12 +1,14 @@
 //! A granted transaction.
 ghost use Rattle.std.specs.Prelude.{◌≡◌, ◌++◌, ◌∷◌, [], None, Some, length, IfOk, OnOk, OnErr};
-ghost use Rattle.db_store.specs.Overlay.{untouched};
+ghost use Rattle.db_store.specs.Overlay.{laid, untouched};
 ghost use Rattle.db_store.specs.Parts.{IsViewable};
-ghost use Rattle.db_store.specs.WorkState.{under_of, overlays_of, room_of};
+ghost use Rattle.db_store.specs.RowWidths.{all_widths};
+ghost use Rattle.db_store.specs.WorkState.{under_of, overlays_of, room_of, widths_of};
 ghost use Rattle.branch_tx.specs.Keeping.{over_table};
 ghost use Rattle.branch_tx.specs.Alone.{commit_entry};
 ghost use Rattle.branch_tx.specs.Granted.{ungranted, tx_in, has_done, lent_table, views_of};
 ghost use Rattle.branch_tx.specs.Shown.{parts_by, ViewsAgree};
+ghost use Rattle.branch_tx.specs.TxState.{AreMet};
 
 use crate::lent::Lending;
 use db_store::{Store, View, Work};
@@ -53,10 +55,12 @@ pub struct Tx<St: Store> {
 
 impl<St: Store> Model for Tx<St> {
     ghost use Rattle.std.specs.Prelude.{◌≡◌, ◌∷◌, length, map};
-    ghost use Rattle.db_store.specs.WorkState.{under_of, overlays_of, room_of};
+    ghost use Rattle.db_store.specs.Overlay.{laid};
+    ghost use Rattle.db_store.specs.RowWidths.{all_widths};
+    ghost use Rattle.db_store.specs.WorkState.{under_of, overlays_of, room_of, widths_of};
     ghost use Rattle.branch_tx.specs.Granted.{Granted, granted_code};
     ghost use Rattle.branch_tx.specs.Shown.{parts_by, ViewsAgree};
-    ghost use Rattle.branch_tx.specs.TxState.{held_of, AllWide};
+    ghost use Rattle.branch_tx.specs.TxState.{held_of, AllWide, AreMet};
 
     ghost Value = { Granted };
 
@@ -76,14 +80,15 @@ impl<St: Store> Model for Tx<St> {
       heads = t.heads;
     } };
 
-    ghost invariant = { λ t. (length (St.View.table (under_of t.work)) ≡ length t.schema) × AllWide (length t.schema) (map (λ l. l.1) t.lent.0) × ViewsAgree (parts_by (St.View.parts_of (under_of t.work)) ∷ t.lent.1) };
+    ghost invariant = { λ t. (length (St.View.table (under_of t.work)) ≡ length t.schema) × AllWide (length t.schema) (map (λ l. l.1) t.lent.0) × ViewsAgree (parts_by (St.View.parts_of (under_of t.work)) ∷ t.lent.1) × (widths_of t.work ≡ all_widths t.schema) × AreMet t.schema (laid (St.View.table (under_of t.work)) (overlays_of t.work)) };
 }
 
 impl<St: Store> Tx<St> {
     ghost use Rattle.std.specs.Prelude.{is_some, cond};
     ghost use Rattle.branch_tx.specs.Granted.{ground_in, back_at, is_current};
 
-    /// A transaction on the branch of this name, to which nothing is granted yet.
+    /// A transaction on the branch of this name, to which nothing is granted yet. The working table
+    /// keeps the widths of the schema, and each row of it meets them.
     pub fn over(
         alloc: Global,
         schema: &Schema,
@@ -92,6 +97,9 @@ impl<St: Store> Tx<St> {
     ) -> Result<Tx<St>, AllocError>
         requires wide { length (St.View.table (under_of work)) ≡ length schema.now }
         requires agree { ViewsAgree (parts_by (St.View.parts_of (under_of work)) ∷ []) }
+        requires widths { widths_of work ≡ all_widths schema.now }
+        requires met { AreMet schema.now (laid (St.View.table (under_of work))
+            (overlays_of work)) }
         ensures { IfOk result (λ t. t ≡ ungranted schema.now current (St.View.table (under_of work))
             (parts_by (St.View.parts_of (under_of work))) (overlays_of work) (room_of work)) }
     {
@@ -115,6 +123,7 @@ impl<St: Store> Tx<St> {
         requires viewable { IsViewable (St.View.table view) (St.View.parts_of view) }
         requires wide { length (St.View.table view) ≡ length self.old.schema }
         requires agree { ViewsAgree (parts_by (St.View.parts_of view) ∷ self.old.shown) }
+        requires met { AreMet self.old.schema (St.View.table view) }
         ensures { self.new ≡ record self.old {
           held = Some
               (exclusive, full);
@@ -174,7 +183,7 @@ impl<St: Store> Tx<St> {
     /// The entry of its changes as a commit on a branch, if there are any or it merged.
     pub fn entry(&self, branch: u32) -> Result<Option<Entry>, AllocError>
         ensures { IfOk result (λ e.
-            e ≡ commit_entry (over_table self.now.head) branch (tx_in self.now)) }
+            e ≡ commit_entry (over_table self.now.head) self.now.schema branch (tx_in self.now)) }
     {
         if !self.has_done() {
             return Ok(None);

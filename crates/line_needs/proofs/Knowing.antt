@@ -1,8 +1,9 @@
 -- What is known of a line: it is refused exactly if it is refused early, and for the same; otherwise its names stand for what is known.
-use Rattle.std.proofs.Common.{◌≡◌, ℕ, ◌==◌, is_some, Bool, true, false, cond, List, [], length, refl, ap, sym, ◌∙◌, Option, Some, None}
+use Rattle.std.proofs.Common.{◌≡◌, ℕ, is_some, Bool, true, false, cond, List, [], length, refl, ap, sym, ◌∙◌, Option, Some, None}
 use Rattle.std.specs.Prelude.{Result, Ok, Err}
 use Rattle.db_value.specs.Value.{Value}
-use Rattle.db_value.specs.Relations.{columns_at}
+use Rattle.db_value.specs.Relations.{columns_at, widths_at}
+use Rattle.db_value.specs.Widths.{meets}
 use Rattle.db_value.specs.Pred.{first_unknown}
 use Rattle.db_value.specs.declared.schema.Relation.{Relation}
 use Rattle.db_value.specs.declared.condition.Set.{Set}
@@ -16,7 +17,7 @@ use Rattle.stmt_text.specs.declared.stmt.Stmt.TheVariants.{Insert, Update, Delet
 use Rattle.stmt_text.specs.declared.stmt.NamedSet.{NamedSet}
 use Rattle.stmt_text.specs.declared.stmt.ScanOver.{ScanOver}
 use Rattle.line_needs.specs.Columns.{relation_named, resolved}
-use Rattle.line_needs.specs.Early.{relation_refusal, count_refusal, unresolved_refusal, set_refusal, column_refusal, ask_refusal, join_refusal, early_refusal, is_early}
+use Rattle.line_needs.specs.Early.{relation_refusal, row_refusal, unresolved_refusal, set_refusal, column_refusal, ask_refusal, join_refusal, early_refusal, is_early}
 use Rattle.line_needs.specs.Needs.{stmt_needs, needs}
 use Rattle.line_needs.specs.declared.known.Known.{Known}
 use Rattle.line_needs.specs.declared.known.Known.TheVariants.{Refused, Of, With, Both}
@@ -38,7 +39,7 @@ resolved_free r (Ok sets) = refl
 
 with_free : (schema : List Relation) (sets : List NamedSet) (o : Option ℕ) → refusal_in (with_named schema sets o) ≡ None
 with_free schema sets None = refl
-with_free schema sets (Some r) = resolved_free r (resolved (columns_at schema r) sets)
+with_free schema sets (Some r) = resolved_free r (resolved (widths_at schema r) (columns_at schema r) sets)
 
 both_free : (o p : Option ℕ) → refusal_in (both_named o p) ≡ None
 both_free None p = refl
@@ -102,15 +103,15 @@ counted_is : (t : Bool) (q r : ℕ) (why : Refusal) → refused_or (cond t None 
 counted_is true q r why e = (cc, refl)
 counted_is false q r why e = absurd cc
 
-row_is : (schema : List Relation) (name : List ℕ) (fields : List Value) (o : Option ℕ) (r : ℕ) → refused_or (count_refusal schema name fields o) (of_named o) ≡ Of r
-    → (o ≡ Some r) × ((length fields == length (columns_at schema r)) ≡ true)
+row_is : (schema : List Relation) (name : List ℕ) (fields : List Value) (o : Option ℕ) (r : ℕ) → refused_or (row_refusal schema name fields o) (of_named o) ≡ Of r
+    → (o ≡ Some r) × (meets (widths_at schema r) fields ≡ true)
 row_is schema name fields None r e = absurd cc
 row_is schema name fields (Some q) r e =
-    let is = counted_is (length fields == length (columns_at schema q)) q r (ValueCount name (length (columns_at schema q))) e in
-    (ap Some is.0, ap (λ (n : ℕ). length fields == length (columns_at schema n)) (sym is.0) ∙ is.1)
+    let is = counted_is (meets (widths_at schema q) fields) q r (ValueCount name (length (columns_at schema q))) e in
+    (ap Some is.0, ap (λ (n : ℕ). meets (widths_at schema n) fields) (sym is.0) ∙ is.1)
 
 pub known_insert : (schema : List Relation) (begun changed : Bool) (name : List ℕ) (key : ℕ) (fields : List Value) (r : ℕ) → known_of schema begun changed (Insert name key fields) ≡ Of r
-    → (relation_named schema name ≡ Some r) × ((length fields == length (columns_at schema r)) ≡ true)
+    → (relation_named schema name ≡ Some r) × (meets (widths_at schema r) fields ≡ true)
 known_insert schema begun changed name key fields r e = row_is schema name fields (relation_named schema name) r e
 
 -- of an update
@@ -119,14 +120,14 @@ resolved_is q (Err column) r sets e = absurd cc
 resolved_is q (Ok own) r sets e = (cc, cc)
 
 sets_are : (schema : List Relation) (name : List ℕ) (named : List NamedSet) (o : Option ℕ) (r : ℕ) (sets : List Set) → refused_or (set_refusal schema name named o) (with_named schema named o) ≡ With r sets
-    → (o ≡ Some r) × (resolved (columns_at schema r) named ≡ Ok sets)
+    → (o ≡ Some r) × (resolved (widths_at schema r) (columns_at schema r) named ≡ Ok sets)
 sets_are schema name named None r sets e = absurd cc
 sets_are schema name named (Some q) r sets e =
-    let is = resolved_is q (resolved (columns_at schema q) named) r sets e in
-    (ap Some is.0, ap (λ (n : ℕ). resolved (columns_at schema n) named) (sym is.0) ∙ is.1)
+    let is = resolved_is q (resolved (widths_at schema q) (columns_at schema q) named) r sets e in
+    (ap Some is.0, ap (λ (n : ℕ). resolved (widths_at schema n) (columns_at schema n) named) (sym is.0) ∙ is.1)
 
 pub known_update : (schema : List Relation) (begun changed : Bool) (name : List ℕ) (key : ℕ) (named : List NamedSet) (r : ℕ) (sets : List Set) → known_of schema begun changed (Update name key named) ≡ With r sets
-    → (relation_named schema name ≡ Some r) × (resolved (columns_at schema r) named ≡ Ok sets)
+    → (relation_named schema name ≡ Some r) × (resolved (widths_at schema r) (columns_at schema r) named ≡ Ok sets)
 known_update schema begun changed name key named r sets e = sets_are schema name named (relation_named schema name) r sets e
 
 -- of a statement with a condition
@@ -176,9 +177,9 @@ counted_stops : (t : Bool) (q : ℕ) (why : Refusal) → ((r : ℕ) → refused_
 counted_stops true q why n = absurd (n q refl)
 counted_stops false q why n = (why, refl)
 
-row_stops : (schema : List Relation) (name : List ℕ) (fields : List Value) (o : Option ℕ) → ((r : ℕ) → refused_or (count_refusal schema name fields o) (of_named o) ≡ Of r → ⊥) → Stops (refused_or (count_refusal schema name fields o) (of_named o))
+row_stops : (schema : List Relation) (name : List ℕ) (fields : List Value) (o : Option ℕ) → ((r : ℕ) → refused_or (row_refusal schema name fields o) (of_named o) ≡ Of r → ⊥) → Stops (refused_or (row_refusal schema name fields o) (of_named o))
 row_stops schema name fields None n = (NoRelation name, refl)
-row_stops schema name fields (Some q) n = counted_stops (length fields == length (columns_at schema q)) q (ValueCount name (length (columns_at schema q))) n
+row_stops schema name fields (Some q) n = counted_stops (meets (widths_at schema q) fields) q (ValueCount name (length (columns_at schema q))) n
 
 pub insert_stops : (schema : List Relation) (begun changed : Bool) (name : List ℕ) (key : ℕ) (fields : List Value) → ((r : ℕ) → known_of schema begun changed (Insert name key fields) ≡ Of r → ⊥) → Stops (known_of schema begun changed (Insert name key fields))
 insert_stops schema begun changed name key fields n = row_stops schema name fields (relation_named schema name) n
@@ -190,7 +191,7 @@ resolved_stops q (Ok sets) n = absurd (n q sets refl)
 sets_stop : (schema : List Relation) (name : List ℕ) (named : List NamedSet) (o : Option ℕ) → ((r : ℕ) (sets : List Set) → refused_or (set_refusal schema name named o) (with_named schema named o) ≡ With r sets → ⊥)
     → Stops (refused_or (set_refusal schema name named o) (with_named schema named o))
 sets_stop schema name named None n = (NoRelation name, refl)
-sets_stop schema name named (Some q) n = resolved_stops q (resolved (columns_at schema q) named) n
+sets_stop schema name named (Some q) n = resolved_stops q (resolved (widths_at schema q) (columns_at schema q) named) n
 
 pub update_stops : (schema : List Relation) (begun changed : Bool) (name : List ℕ) (key : ℕ) (named : List NamedSet) → ((r : ℕ) (sets : List Set) → known_of schema begun changed (Update name key named) ≡ With r sets → ⊥)
     → Stops (known_of schema begun changed (Update name key named))

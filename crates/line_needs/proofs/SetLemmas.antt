@@ -1,11 +1,17 @@
--- New values behind those of columns that were found.
-use Rattle.std.proofs.Common.{◌≡◌, ℕ, ◌+◌, ◌<◌, List, [], ◌∷◌, ◌++◌, length, drop, get_or, append_assoc, ap, sym, ◌∙◌, Option, Some, None}
+-- New values behind those of columns that were found; they are of columns of numbers.
+use Rattle.std.proofs.Common.{◌≡◌, ℕ, ◌+◌, ◌<◌, Bool, true, false, cond, List, [], ◌∷◌, ◌++◌, length, drop, get_or, append_assoc, refl, ap, sym, subst, ◌∙◌, Option, Some, None}
 use Rattle.std.proofs.lemmas.List.{drop_more}
 use Rattle.std.specs.Prelude.{Result, Ok, Err}
 use Rattle.db_value.specs.declared.condition.Set.{Set}
 use Rattle.stmt_text.specs.declared.stmt.NamedSet.{NamedSet}
-use Rattle.line_needs.specs.Columns.{set_onto, resolved, column_named}
+use Rattle.line_needs.specs.Columns.{column_named, is_number, number_in, number_named, set_at, set_onto, resolved}
 
+-- each new value is of a column of numbers
+abbrev pub AreNumbers : List ℕ → List Set → Type 0
+AreNumbers ws [] = Unit {0}
+AreNumbers ws (s ∷ ss) = (is_number ws s.column ≡ true) × AreNumbers ws ss
+
+-- new values that were found, and what the others give
 abbrev pub behind : List Set → Result (List Set) (List ℕ) → Result (List Set) (List ℕ)
 behind done (Err name) = Err name
 behind done (Ok sets) = Ok (done ++ sets)
@@ -20,14 +26,34 @@ found_more done s c o (Ok sets) e = ap (λ q. behind done (set_onto s q (Ok sets
 pub found_none : (done : List Set) (s : NamedSet) (o : Option ℕ) (rest : Result (List Set) (List ℕ)) → o ≡ None → behind done (set_onto s o rest) ≡ Err s.column
 found_none done s o rest e = ap (λ q. behind done (set_onto s q rest)) e
 
-pub found_step : (columns : List (List ℕ)) (sets : List NamedSet) (all : Result (List Set) (List ℕ)) (done : List Set) (i : ℕ) (x d : NamedSet) (c : ℕ) → i < length sets → get_or sets i d ≡ x → column_named columns x.column ≡ Some c
-    → all ≡ behind done (resolved columns (drop i sets)) → all ≡ behind (done ++ record { column = c; value = x.value } ∷ []) (resolved columns (drop (i + 1) sets))
-found_step columns sets all done i x d c h is at inv =
-    inv ∙ ap (λ t. behind done (resolved columns t)) (drop_more sets i d h ∙ ap (λ (y : NamedSet). y ∷ drop (i + 1) sets) is)
-    ∙ found_more done x c (column_named columns x.column) (resolved columns (drop (i + 1) sets)) at
+pub found_step : (ws : List ℕ) (columns : List (List ℕ)) (sets : List NamedSet) (all : Result (List Set) (List ℕ)) (done : List Set) (i : ℕ) (x d : NamedSet) (c : ℕ) → i < length sets → get_or sets i d ≡ x → number_named ws columns x.column ≡ Some c
+    → all ≡ behind done (resolved ws columns (drop i sets)) → all ≡ behind (done ++ record { column = c; value = x.value } ∷ []) (resolved ws columns (drop (i + 1) sets))
+found_step ws columns sets all done i x d c h is at inv =
+    inv ∙ ap (λ t. behind done (resolved ws columns t)) (drop_more sets i d h ∙ ap (λ (y : NamedSet). y ∷ drop (i + 1) sets) is)
+    ∙ found_more done x c (number_named ws columns x.column) (resolved ws columns (drop (i + 1) sets)) at
 
-pub found_stop : (columns : List (List ℕ)) (sets : List NamedSet) (all : Result (List Set) (List ℕ)) (done : List Set) (i : ℕ) (x d : NamedSet) → i < length sets → get_or sets i d ≡ x → column_named columns x.column ≡ None
-    → all ≡ behind done (resolved columns (drop i sets)) → all ≡ Err x.column
-found_stop columns sets all done i x d h is at inv =
-    inv ∙ ap (λ t. behind done (resolved columns t)) (drop_more sets i d h ∙ ap (λ (y : NamedSet). y ∷ drop (i + 1) sets) is)
-    ∙ found_none done x (column_named columns x.column) (resolved columns (drop (i + 1) sets)) at
+pub found_stop : (ws : List ℕ) (columns : List (List ℕ)) (sets : List NamedSet) (all : Result (List Set) (List ℕ)) (done : List Set) (i : ℕ) (x d : NamedSet) → i < length sets → get_or sets i d ≡ x → number_named ws columns x.column ≡ None
+    → all ≡ behind done (resolved ws columns (drop i sets)) → all ≡ Err x.column
+found_stop ws columns sets all done i x d h is at inv =
+    inv ∙ ap (λ t. behind done (resolved ws columns t)) (drop_more sets i d h ∙ ap (λ (y : NamedSet). y ∷ drop (i + 1) sets) is)
+    ∙ found_none done x (number_named ws columns x.column) (resolved ws columns (drop (i + 1) sets)) at
+
+-- ---- they are of columns of numbers
+
+number_at : (ws : List ℕ) (o : Option ℕ) (c : ℕ) → number_in ws o ≡ Some c → is_number ws c ≡ true
+number_at ws None c e = absurd cc
+number_at ws (Some column) c e = by (is_number ws column) refl e
+  where
+    by : (q : Bool) → is_number ws column ≡ q → cond q (Some column) None ≡ Some c → is_number ws c ≡ true
+    by true is f = let same : column ≡ c = cc in ap (is_number ws) (sym same) ∙ is
+    by false is f = absurd cc
+
+onto_numbers : (ws : List ℕ) (s : NamedSet) (o : Option ℕ) (rest : Result (List Set) (List ℕ)) (sets : List Set) → ((c : ℕ) → o ≡ Some c → is_number ws c ≡ true) → ((ss : List Set) → rest ≡ Ok ss → AreNumbers ws ss) → set_onto s o rest ≡ Ok sets → AreNumbers ws sets
+onto_numbers ws s None rest sets one more e = absurd cc
+onto_numbers ws s (Some c) (Err name) sets one more e = absurd cc
+onto_numbers ws s (Some c) (Ok ss) sets one more e = let same : set_at c s ∷ ss ≡ sets = cc in subst (AreNumbers ws) same (one c refl, more ss refl)
+
+pub resolved_numbers : (ws : List ℕ) (columns : List (List ℕ)) (named : List NamedSet) (sets : List Set) → resolved ws columns named ≡ Ok sets → AreNumbers ws sets
+resolved_numbers ws columns [] sets e = let same : [] ≡ sets = cc in subst (AreNumbers ws) same tt
+resolved_numbers ws columns (s ∷ ss) sets e =
+    onto_numbers ws s (number_named ws columns s.column) (resolved ws columns ss) sets (λ c f. number_at ws (column_named columns s.column) c f) (λ more f. resolved_numbers ws columns ss more f) e

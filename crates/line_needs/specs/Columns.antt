@@ -2,9 +2,15 @@
 use Rattle.std.specs.Prelude.{ℕ, ◌==◌, cond, Bool, List, [], ◌∷◌, position, Option, Some, None, Result, Ok, Err}
 use Rattle.std.proofs.Common.{get_or}
 use Rattle.db_value.specs.Text.{same}
+use Rattle.db_value.specs.Relations.{no_relation}
 use Rattle.db_value.specs.declared.schema.Relation.{Relation}
+use Rattle.db_value.specs.declared.schema.Column.{Column}
 use Rattle.db_value.specs.declared.condition.Set.{Set}
 use Rattle.stmt_text.specs.declared.stmt.NamedSet.{NamedSet}
+
+-- the columns of a relation, by its number
+abbrev pub columns_of : List Relation → ℕ → List Column
+columns_of schema r = (get_or schema r no_relation).columns
 
 -- the number of the relation with a name
 abbrev pub relation_named : List Relation → List ℕ → Option ℕ

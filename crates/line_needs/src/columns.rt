@@ -1,10 +1,19 @@
 //! The columns of a relation, and new values by the numbers of the columns.
 ghost use Rattle.std.specs.Prelude.{◌≡◌, ◌<◌, ◌≤◌, length};
 ghost use Rattle.db_value.specs.Relations.{columns_at, widths_at};
-ghost use Rattle.line_needs.specs.Columns.{is_number, number_named, set_at, resolved};
+ghost use Rattle.line_needs.specs.Columns.{columns_of, is_number, number_named, set_at, resolved};
 
-use db_value::{Name, Schema, Set, Sets};
+use db_value::{Column, Name, Schema, Set, Sets, Widths};
 use stmt_text::{NamedSet, NamedSets};
+
+/// The columns of a relation.
+pub fn columns_of(schema: &Schema, relation: u8) -> &[Column]
+    requires { relation < length schema.now }
+    ensures columns { result.now ≡ columns_of schema.now relation }
+    ensures few { length result.now ≤ 15 }
+{
+    schema.relations()[relation as usize].columns.as_slice()
+}
 
 /// How many columns a relation has.
 pub fn column_count(schema: &Schema, relation: u8) -> usize
@@ -12,32 +21,27 @@ pub fn column_count(schema: &Schema, relation: u8) -> usize
     ensures count { result ≡ length (columns_at schema.now relation) }
     ensures few { result ≤ 15 }
 {
-    schema.relations()[relation as usize]
-        .columns
-        .as_slice()
-        .len()
+    columns_of(schema, relation).len()
 }
 
 // Is a column one of numbers?
-fn is_number(schema: &Schema, relation: u8, column: u8) -> bool
-    requires relation { relation < length schema.now }
-    requires column { column < length (columns_at schema.now relation) }
-    ensures { result ≡ is_number (widths_at schema.now relation) column }
+fn is_number(widths: &Widths, column: u8) -> bool
+    requires { column < length widths.now }
+    ensures { result ≡ is_number widths.now column }
 {
-    let columns = schema.relations()[relation as usize].columns.as_slice();
-    columns[column as usize].width == 0
+    widths.as_slice()[column as usize] == 0
 }
 
-// The column of numbers with a name.
-fn number_named(schema: &Schema, relation: u8, name: &Name) -> Option<u8>
-    requires { relation < length schema.now }
-    ensures { result ≡ number_named (widths_at schema.now relation)
-        (columns_at schema.now relation) name.now }
+// The column of numbers with a name, in a relation of these widths.
+fn number_named(schema: &Schema, relation: u8, widths: &Widths, name: &Name) -> Option<u8>
+    requires relation { relation < length schema.now }
+    requires widths { widths.now ≡ widths_at schema.now relation }
+    ensures { result ≡ number_named widths.now (columns_at schema.now relation) name.now }
 {
     match schema.column(relation, name) {
         None => None,
         Some(column) => {
-            if is_number(schema, relation, column) {
+            if is_number(widths, column) {
                 return Some(column);
             }
             None
@@ -62,10 +66,11 @@ pub fn resolve(schema: &Schema, relation: u8, sets: &NamedSets) -> Result<Sets, 
     ensures { result ≡ resolved (widths_at schema.now relation) (columns_at schema.now relation)
         sets.now }
 {
+    let widths = schema.widths(relation);
     let sets = sets.as_slice();
     let mut all = Sets::new();
     for set in sets {
-        match number_named(schema, relation, &set.column) {
+        match number_named(schema, relation, &widths, &set.column) {
             None => return Err(set.column),
             Some(column) => all.push(set_at(column, set)),
         }

@@ -58,11 +58,11 @@ IsWork x = IsAct x
 
 -- the entry of changes over the head as a commit, and of the transaction whose last line is x
 abbrev pub commit_over : Dataset → ℕ → Tx (List Overlay) → Option Entry
-commit_over d b tx = commit_entry (over_table (head_of d b)) b tx
+commit_over d b tx = commit_entry (over_table (head_of d b)) d.schema b tx
 
 -- what a statement that ends a transaction on branch b logs
 abbrev pub entry_over : Dataset → ℕ → Stmt → Tx (List Overlay) → Option Entry
-entry_over d b x tx = entry_at (over_table (head_of d b)) x b tx
+entry_over d b x tx = entry_at (over_table (head_of d b)) d.schema x b tx
 
 -- a statement inside an open transaction
 abbrev pub step_in : Dataset → ℕ → Granted → Stmt → Outcome (List Overlay)

@@ -1,17 +1,39 @@
-use Rattle.std.proofs.Common.{◌≡◌, None, Some, length, Option, ap, sym, ◌∙◌, arith}
+use Rattle.std.proofs.Common.{◌≡◌, ℕ, List, true, None, Some, length, Option, ap, sym, subst, ◌∙◌, arith}
+use Rattle.std.specs.List.{list_all}
 use Rattle.db_value.specs.declared.reply.Refusal.{Refusal}
 use Rattle.db_value.specs.declared.reply.Refusal.TheVariants.{TableFull as RefusedFull, Room as RefusedRoom}
 use Rattle.db_value.specs.declared.reply.Reply.TheVariants.{Refused}
 use Rattle.db_store.specs.declared.work.WorkStop.TheVariants.{TableFull, Room}
-use Rattle.db_store.specs.Adopt.{touched_by}
+use Rattle.db_store.specs.Fits.{change_fits}
+use Rattle.db_store.specs.Adopt.{touched_by, change_meets}
 use Rattle.branch_tx.specs.Keeping.{over_table}
 use Rattle.branch_tx.specs.Merging.{relation_name, merged_to}
 use Rattle.branch_tx.specs.Granted.{Granted, tx_in, with_merge}
 use Rattle.branch_tx.specs.TxState.{held_of}
 use Rattle.branch_tx.specs.Shown.{parts_by}
+use Rattle.branch_tx.proofs.Works.{fits_meet, holds_adopted, holds_same}
 use Rattle.branch_tx.proofs.Fitting.{put_all_is}
 use Rattle.branch_tx.proofs.MergeLemmas.{stop_in, taken, filled, filled_within, crowded}
 use Rattle.branch_tx.proofs.tx.Tx.adopt.Goals as goal
+
+pub adopt-requires-clause-meet : goal.adopt-requires-clause-meet
+adopt-requires-clause-meet g c =
+    let schema = c.self.inside.schema in
+    let few = c.self.inside.work.viewable.relations in
+    let fit = subst (λ (x : Granted). list_all (change_fits x.schema) c.args.changes.now ≡ true) (sym c.self.view_is) c.requires.fit in
+    subst (λ (wss : List (List ℕ)). list_all (change_meets wss) c.args.changes.now ≡ true) (sym c.self.invariant.3) (fits_meet schema c.args.changes.now (omega (arith, few, c.self.invariant.0)) fit)
+
+pub invariant_of-self-in-Ok : goal.invariant_of-self-in-Ok
+invariant_of-self-in-Ok g c =
+    let schema = c.self.inside.schema in
+    let fit = subst (λ (x : Granted). list_all (change_fits x.schema) c.args.changes.now ≡ true) (sym c.self.view_is) c.requires.fit in
+    holds_adopted schema _ c.self.inside.lent.1 c.self.inside.work c.adopt.new.self c.args.changes.now c.in-Ok.ensures.stays c.in-Ok.ensures.made fit c.self.invariant
+
+pub invariant_of-self-in-Err-TableFull : goal.invariant_of-self-in-Err-TableFull
+invariant_of-self-in-Err-TableFull g c = holds_same c.self.inside.schema _ c.self.inside.lent.1 c.self.inside.work c.adopt.new.self c.in-Err-TableFull.ensures.stays c.in-Err-TableFull.ensures.err c.self.invariant
+
+pub invariant_of-self-in-Err-Room : goal.invariant_of-self-in-Err-Room
+invariant_of-self-in-Err-Room g c = holds_same c.self.inside.schema _ c.self.inside.lent.1 c.self.inside.work c.adopt.new.self c.in-Err-Room.ensures.stays c.in-Err-Room.ensures.err c.self.invariant
 
 pub relation_name-requires : goal.relation_name-requires
 relation_name-requires g c =

@@ -13,4 +13,6 @@ invariant_of-self g c =
       c.self.invariant.0,
       subst (λ (vs : Views). AllWide n (map (λ l. l.1) vs.0)) (sym c.keep_first.ensures) (wide_taken n c.mark.inside.lent c.self.inside.lent.0 c.self.invariant.1),
       subst (λ (vs : Views). ViewsAgree (below ∷ vs.1)) (sym c.keep_first.ensures) (agree_taken (suc c.mark.inside.lent) (below ∷ c.self.inside.lent.1) c.self.invariant.2),
+      c.self.invariant.3,
+      c.self.invariant.4,
     )

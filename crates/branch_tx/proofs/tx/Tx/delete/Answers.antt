@@ -1,8 +1,9 @@
-use Rattle.std.proofs.Common.{rules, arith, ap, sym, ◌∙◌, length, List}
+use Rattle.std.proofs.Common.{rules, arith, ◌<◌, None, refl, ap, sym, subst, ◌∙◌, length, List}
 use Rattle.db_store.specs.Overlay.{Overlay}
 use Rattle.branch_tx.specs.Act.{Outcome}
 use Rattle.branch_tx.specs.Granted.{Granted, with_work}
 use Rattle.branch_tx.proofs.KnownLines.{delete_stopped, delete_is}
+use Rattle.branch_tx.proofs.Works.{holds_put}
 use Rattle.branch_tx.proofs.tx.Tx.delete.Goals as goal
 
 pub returns-in_default : goal.returns-in_default
@@ -16,6 +17,13 @@ delete-requires g c =
     let there = (delete_is c.args.self.now c.args.name c.args.key c.in-Of.relation (sym c.requires ∙ c.in-Of.is)).0 in
     let wide = ap (λ (x : Granted). length x.schema) c.self.view_is in
     omega (arith, there, wide, c.self.invariant.0)
+
+pub invariant_of-self : goal.invariant_of-self
+invariant_of-self g c =
+    let is = delete_is c.args.self.now c.args.name c.args.key c.in-Of.relation (sym c.requires ∙ c.in-Of.is) in
+    let there = subst (λ (x : Granted). c.in-Of.relation < length x.schema) (sym c.self.view_is) is.0 in
+    holds_put c.self.inside.schema c.delete.result _ c.self.inside.lent.1 c.self.inside.work c.delete.new.self c.in-Of.relation c.args.key None
+    c.delete.ensures.stays c.delete.ensures.changed c.delete.ensures.err there refl c.self.invariant
 
 pub returns-then-is_full : goal.returns-then-is_full
 returns-then-is_full g c =

@@ -15,4 +15,6 @@ invariant_of-self-2 g c =
       c.self.invariant.0,
       subst (λ (vs : Views). AllWide n (map (λ l. l.1) vs.0)) (sym c.in_ok-push.ensures.ok) (wide_more n c.self.inside.lent.0 (c.args.name, table) c.self.invariant.1 (c.requires.wide ∙ ap (λ (x : Granted). length x.schema) (sym c.self.view_is))),
       subst (λ (vs : Views). ViewsAgree (below ∷ vs.1)) (sym c.in_ok-push.ensures.ok) (subst (λ (x : Granted). ViewsAgree (views_of x ++ shown ∷ [])) (sym c.self.view_is) c.requires.agree),
+      c.self.invariant.3,
+      c.self.invariant.4,
     )

@@ -8,6 +8,8 @@ use Rattle.db_store.specs.Table.{Table}
 use Rattle.db_store.specs.Counted.{IsTable}
 use Rattle.db_value.specs.Schema.{most_relations}
 use Rattle.db_store.specs.Overlay.{Overlay, laid, untouched}
+use Rattle.db_store.specs.RowWidths.{all_widths}
+use Rattle.db_store.specs.Fits.{change_fits}
 use Rattle.db_store.specs.WorkState.{overlays_of}
 use Rattle.db_store.proofs.CountLemmas.{ascending_differ}
 use Rattle.field_merge.specs.Merge.{Clash, least_clash, table_changes, table_clashes}
@@ -40,7 +42,10 @@ adopt-requires-clause-relations g c =
     let long : length left ≡ length c.args.self.now.head = ap (λ (x : Granted). length (laid x.head x.overlays)) c.self.view_is ∙ ap length (laid_is c.args.self.now c.requires.may.untouched) in
     subst (λ n. list_all (λ (x : Change). nat_lt x.relation n) c.in-Ok.changes ≡ true) long
     (ap (list_all (λ (x : Change). nat_lt x.relation (length left))) c.in-Ok.ensures.merged.changes
-    ∙ merged_within c.args.prefer (g.St.View.View.table c.args.base.now) left (g.St.View.View.table c.args.right.now))
+    ∙ merged_within (all_widths c.self.inside.schema) c.args.prefer (g.St.View.View.table c.args.base.now) left (g.St.View.View.table c.args.right.now))
+
+pub adopt-requires-clause-fit : goal.adopt-requires-clause-fit
+adopt-requires-clause-fit g c = subst (λ (x : Granted). list_all (change_fits x.schema) c.in-Ok.changes ≡ true) c.self.view_is c.in-Ok.ensures.merged.fit
 
 pub adopt-requires-clause-differ : goal.adopt-requires-clause-differ
 adopt-requires-clause-differ g c = ascending_differ c.in-Ok.changes c.in-Ok.ensures.merged.order
@@ -66,7 +71,7 @@ returns-in-Ok-clause-reply g c =
     let old : Granted = c.args.self.now in
     let base = g.St.View.View.table c.args.base.now in
     let right = g.St.View.View.table c.args.right.now in
-    let is = c.in-Ok.ensures.merged.changes ∙ ap (λ (x : Granted). table_changes c.args.prefer base (laid x.head x.overlays) right) c.self.view_is in
+    let is = c.in-Ok.ensures.merged.changes ∙ ap (λ (x : Granted). table_changes (all_widths x.schema) c.args.prefer base (laid x.head x.overlays) right) c.self.view_is in
     let free = ap (λ (x : Granted). table_clashes c.args.prefer base (laid x.head x.overlays) right) (sym c.self.view_is) ∙ c.in-Ok.ensures.merged.free in
     c.adopt.ensures.reply
     ∙ ap (λ (o : Outcome (List Overlay)). o.reply) (merged_by old c.requires.may.untouched c.args.from c.args.prefer base right c.in-Ok.changes (sym c.is_full.ensures ∙ c.if-is_full.false) is free)
@@ -76,7 +81,7 @@ returns-in-Ok-clause-left g c =
     let old : Granted = c.args.self.now in
     let base = g.St.View.View.table c.args.base.now in
     let right = g.St.View.View.table c.args.right.now in
-    let is = c.in-Ok.ensures.merged.changes ∙ ap (λ (x : Granted). table_changes c.args.prefer base (laid x.head x.overlays) right) c.self.view_is in
+    let is = c.in-Ok.ensures.merged.changes ∙ ap (λ (x : Granted). table_changes (all_widths x.schema) c.args.prefer base (laid x.head x.overlays) right) c.self.view_is in
     let free = ap (λ (x : Granted). table_clashes c.args.prefer base (laid x.head x.overlays) right) (sym c.self.view_is) ∙ c.in-Ok.ensures.merged.free in
     c.adopt.ensures.left
     ∙ ap (with_merge old) (merged_by old c.requires.may.untouched c.args.from c.args.prefer base right c.in-Ok.changes (sym c.is_full.ensures ∙ c.if-is_full.false) is free)

@@ -1,8 +1,16 @@
-use Rattle.std.proofs.Common.{rules, arith, ap, sym, ◌∙◌, length, List}
+use Rattle.std.proofs.Common.{rules, arith, ◌≡◌, ◌<◌, ℕ, true, ap, sym, subst, ◌∙◌, length, List}
+use Rattle.std.specs.Prelude.{IfSome}
+use Rattle.db_value.specs.Widths.{meets}
+use Rattle.db_value.specs.Relations.{widths_at}
 use Rattle.db_store.specs.Overlay.{Overlay}
+use Rattle.db_store.specs.Work.{fields_at, updated}
+use Rattle.db_store.specs.WorkState.{working_of}
+use Rattle.line_needs.proofs.SetLemmas.{AreNumbers}
 use Rattle.branch_tx.specs.Act.{Outcome}
 use Rattle.branch_tx.specs.Granted.{Granted, with_work}
 use Rattle.branch_tx.proofs.KnownLines.{update_stopped, update_is}
+use Rattle.branch_tx.proofs.WithSets.{fields_meet}
+use Rattle.branch_tx.proofs.Works.{own_are, updated_at_meets, holds_put}
 use Rattle.branch_tx.proofs.tx.Tx.update.Goals as goal
 
 pub returns-in_default : goal.returns-in_default
@@ -15,11 +23,35 @@ returns-in_default g c =
       left = λ named e. ap (with_work old) (sym (update_stopped old c.args.known.now c.args.name c.args.key named e c.in_default.not-With).2);
     }
 
-pub update-requires : goal.update-requires
-update-requires g c =
+pub update-requires-clause-relation : goal.update-requires-clause-relation
+update-requires-clause-relation g c =
     let there = (update_is c.args.self.now c.args.name c.args.key c.requires.0 c.in-With.relation c.in-With.sets (sym c.requires.1 ∙ c.in-With.is)).0 in
     let wide = ap (λ (x : Granted). length x.schema) c.self.view_is in
     omega (arith, there, wide, c.self.invariant.0)
+
+pub update-requires-clause-meets : goal.update-requires-clause-meets
+update-requires-clause-meets g c =
+    let is = update_is c.args.self.now c.args.name c.args.key c.requires.0 c.in-With.relation c.in-With.sets (sym c.requires.1 ∙ c.in-With.is) in
+    let r = c.in-With.relation in
+    let schema = c.self.inside.schema in
+    let work = c.self.inside.work in
+    let there = subst (λ (x : Granted). r < length x.schema) (sym c.self.view_is) is.0 in
+    let numbers = subst (λ (x : Granted). AreNumbers (widths_at x.schema r) c.in-With.sets) (sym c.self.view_is) is.2 in
+    let new = updated_at_meets schema work c.self.invariant.0 c.self.invariant.4 r c.args.key c.in-With.sets there numbers in
+    subst (λ (ws : List ℕ). IfSome (updated c.in-With.sets (fields_at (working_of work) r c.args.key)) (λ fields. meets ws fields ≡ true)) (sym (own_are schema work r c.self.invariant.3 c.self.invariant.0 there))
+    (fields_meet (widths_at schema r) (updated c.in-With.sets (fields_at (working_of work) r c.args.key)) new)
+
+pub invariant_of-self : goal.invariant_of-self
+invariant_of-self g c =
+    let is = update_is c.args.self.now c.args.name c.args.key c.requires.0 c.in-With.relation c.in-With.sets (sym c.requires.1 ∙ c.in-With.is) in
+    let r = c.in-With.relation in
+    let schema = c.self.inside.schema in
+    let work = c.self.inside.work in
+    let there = subst (λ (x : Granted). r < length x.schema) (sym c.self.view_is) is.0 in
+    let numbers = subst (λ (x : Granted). AreNumbers (widths_at x.schema r) c.in-With.sets) (sym c.self.view_is) is.2 in
+    let new = updated_at_meets schema work c.self.invariant.0 c.self.invariant.4 r c.args.key c.in-With.sets there numbers in
+    holds_put schema c.update.result _ c.self.inside.lent.1 work c.update.new.self r c.args.key (updated c.in-With.sets (fields_at (working_of work) r c.args.key))
+    c.update.ensures.stays c.update.ensures.changed c.update.ensures.err there new c.self.invariant
 
 pub returns-then-is_full : goal.returns-then-is_full
 returns-then-is_full g c = record {

@@ -1,4 +1,4 @@
-use Rattle.branch_tx.proofs.look.find_record.Given as goal
+use Rattle.branch_tx.proofs.look.find_row.Given as goal
 
 -- the steps are counted on the blank that is handed over
 abbrev pub ghosts-find_counted : goal.ghosts-find_counted
