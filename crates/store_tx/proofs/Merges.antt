@@ -13,6 +13,7 @@ use Rattle.db_store.specs.Overlay.{Overlay}
 use Rattle.db_store.specs.Dataset.{Dataset, branch_named, head_of, head_place, table_at}
 use Rattle.db_store.specs.Order.{common}
 use Rattle.db_store.specs.Counted.{IsTable}
+use Rattle.db_store.specs.RowWidths.{all_widths}
 use Rattle.lock_table.specs.Rows.{Row}
 use Rattle.lock_table.specs.declared.need.Need.{Need}
 use Rattle.lock_table.specs.Grants.{Has, row}
@@ -40,7 +41,7 @@ unless_is g false why o e = e
 
 pub merged_is : (g : Granted) (from : VersionPlace) (prefer : Prefer) (base right : Table) → tx_in (with_merge g (merged g from prefer base right)) ≡ (merged g from prefer base right).tx
 merged_is g from prefer base right =
-    let cs = table_changes prefer base g.head right in
+    let cs = table_changes (all_widths g.schema) prefer base g.head right in
     let why = refusal_of_merge g.schema g.room prefer base g.head right in
     unless_is g (ground_in g).full (VersionsFull g.name) (merged_to (over_table g.head) (tx_in g) from cs why) (merged_to_is g from cs why)
 

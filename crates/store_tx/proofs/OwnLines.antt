@@ -18,6 +18,7 @@ use Rattle.db_value.specs.declared.reply.Reply.TheVariants.{Done, Made}
 use Rattle.db_value.specs.declared.reply.Refusal.{Refusal}
 use Rattle.db_value.specs.declared.reply.Refusal.TheVariants.{BranchesFull}
 use Rattle.db_store.specs.Overlay.{Overlay, untouched, is_touched, count_touched, touch}
+use Rattle.db_store.specs.RowWidths.{all_widths}
 use Rattle.db_store.specs.Dataset.{Dataset, branch_named, head_of, head_place}
 use Rattle.db_store.specs.Sound.{IsSound}
 use Rattle.db_store.specs.Counted.{IsCounted}
@@ -150,8 +151,8 @@ own_kept : (d : Dataset) (b : ℕ) (x : Stmt) → IsWork x → is_done (own d b 
 own_kept d b x a = own_does d b x (λ o. is_done o.reply ≡ false → o.tx ≡ none_yet) a (λ why e. refl) (λ reply e f. refl) (λ r key state h e. absurd (true≢false e)) (λ work from e. absurd (true≢false e))
 
 -- a transaction without a new branch has its changes as its entry
-plain_entry : (d : Dataset) (b : ℕ) (tx : Tx (List Overlay)) (o : Option (List ℕ × VersionPlace)) → o ≡ None → entry_made (over_table (head_of d b)) b tx o ≡ commit_over d b tx
-plain_entry d b tx o e = ap (entry_made (over_table (head_of d b)) b tx) e
+plain_entry : (d : Dataset) (b : ℕ) (tx : Tx (List Overlay)) (o : Option (List ℕ × VersionPlace)) → o ≡ None → entry_made (over_table (head_of d b)) d.schema b tx o ≡ commit_over d b tx
+plain_entry d b tx o e = ap (entry_made (over_table (head_of d b)) d.schema b tx) e
 
 not_abort : (x : Stmt) → IsWork x → is_abort x ≡ false
 not_abort Abort a = absurd a
@@ -159,16 +160,16 @@ not_abort _ a = refl
 
 own_entry : (d : Dataset) (b : ℕ) (x : Stmt) → IsWork x → entry_over d b x (step_out d b x).tx ≡ commit_over d b (own d b x).tx
 own_entry d b x a =
-    ap (λ q. cond q None (entry_of (over_table (head_of d b)) b (step_out d b x).tx)) (not_abort x a)
-    ∙ ap (λ (o : Outcome (List Overlay)). entry_of (over_table (head_of d b)) b o.tx) (own_step d b x a)
+    ap (λ q. cond q None (entry_of (over_table (head_of d b)) d.schema b (step_out d b x).tx)) (not_abort x a)
+    ∙ ap (λ (o : Outcome (List Overlay)). entry_of (over_table (head_of d b)) d.schema b o.tx) (own_step d b x a)
     ∙ plain_entry d b (own d b x).tx (own d b x).tx.made (own_made d b x a)
 
 -- nothing is committed of a transaction in which nothing was done
 nothing : (d : Dataset) (b : ℕ) (tx : Tx (List Overlay)) → tx.work ≡ untouched → tx.second ≡ None → commit_over d b tx ≡ None
 nothing d b tx w s =
-    ap (λ (os : List Overlay). cond (nat_lt 0 (count_touched os) || is_some tx.second) (Some (CommitEntry b tx.second ((over_table (head_of d b)).changes tx.work))) None) w
-    ∙ ap (λ n. cond (nat_lt 0 n || is_some tx.second) (Some (CommitEntry b tx.second ((over_table (head_of d b)).changes tx.work))) None) count_untouched
-    ∙ ap (λ o. cond (is_some o) (Some (CommitEntry b tx.second ((over_table (head_of d b)).changes tx.work))) None) s
+    ap (λ (os : List Overlay). cond (nat_lt 0 (count_touched os) || is_some tx.second) (Some (CommitEntry b tx.second ((over_table (head_of d b)).changes (all_widths d.schema) tx.work))) None) w
+    ∙ ap (λ n. cond (nat_lt 0 n || is_some tx.second) (Some (CommitEntry b tx.second ((over_table (head_of d b)).changes (all_widths d.schema) tx.work))) None) count_untouched
+    ∙ ap (λ o. cond (is_some o) (Some (CommitEntry b tx.second ((over_table (head_of d b)).changes (all_widths d.schema) tx.work))) None) s
 
 -- its entry fits
 act_roomy : (x : Stmt) → IsWork x → IsRoomy x
@@ -178,7 +179,7 @@ act_roomy _ a = tt
 pub own_fits : (d : Dataset) (b : ℕ) (x : Stmt) (tx : Tx (List Overlay)) (e : Entry) → IsSound d → IsCounted d → b < length d.branches → IsWork x → tx ≡ (act_over d b (begun none_yet) x).tx → commit_over d b tx ≡ Some e → fits d e ≡ true
 own_fits d b x tx e s c h a is f =
     entry_is d b (x ∷ []) e s c h (act_roomy x a, tt)
-    (ap (λ (o : Outcome (List Overlay)). entry_of (over_table (head_of d b)) b o.tx) (own_step d b x a) ∙ plain_entry d b (own d b x).tx (own d b x).tx.made (own_made d b x a)
+    (ap (λ (o : Outcome (List Overlay)). entry_of (over_table (head_of d b)) d.schema b o.tx) (own_step d b x a) ∙ plain_entry d b (own d b x).tx (own d b x).tx.made (own_made d b x a)
     ∙ ap (λ (o : Outcome (List Overlay)). commit_over d b o.tx) (sym (own_begun d b x a)) ∙ ap (commit_over d b) (sym is) ∙ f)
 
 told_other : (d : Dataset) (b : ℕ) (r : Reply) → is_done r ≡ false → told d b false r ≡ r
@@ -227,7 +228,7 @@ own_none d b x r a re n =
 pub quiet : (d : Dataset) (b : ℕ) (x : Stmt) (tx : Tx (List Overlay)) → tx.work ≡ untouched → tx.second ≡ None → tx.made ≡ None → None ≡ entry_over d b x tx
 quiet d b x tx w e m = sym (by_abort (is_abort x))
   where
-    by_abort : (q : Bool) → cond q None (entry_of (over_table (head_of d b)) b tx) ≡ None
+    by_abort : (q : Bool) → cond q None (entry_of (over_table (head_of d b)) d.schema b tx) ≡ None
     by_abort true = refl
     by_abort false = plain_entry d b tx tx.made m ∙ nothing d b tx w e
 
@@ -269,12 +270,12 @@ quiet_on d b x name e = by_name (branch_named d name) refl ∙ ap (λ y. entry_o
 
 -- a new branch: its entry, and the session stays
 module _ (d : Dataset) (b : ℕ) (name : List ℕ) where
-  new_entry : (at : VersionPlace) (o : Option Refusal) (there : Option ℕ) (count : ℕ) → entry_of (over_table (head_of d b)) b (branch_as none_yet name at o there count).tx ≡ branch_entry (branch_as none_yet name at o there count).tx.made
+  new_entry : (at : VersionPlace) (o : Option Refusal) (there : Option ℕ) (count : ℕ) → entry_of (over_table (head_of d b)) d.schema b (branch_as none_yet name at o there count).tx ≡ branch_entry (branch_as none_yet name at o there count).tx.made
   new_entry at (Some why) there count = nothing d b none_yet refl refl
   new_entry at None (Some old) count = nothing d b none_yet refl refl
   new_entry at None None count = by_room (nat_lt count most_branches)
     where
-      by_room : (q : Bool) → entry_of (over_table (head_of d b)) b (cond q (answered (record none_yet { made = Some (name, at) }) (Made name 0)) (refused none_yet BranchesFull)).tx
+      by_room : (q : Bool) → entry_of (over_table (head_of d b)) d.schema b (cond q (answered (record none_yet { made = Some (name, at) }) (Made name 0)) (refused none_yet BranchesFull)).tx
           ≡ branch_entry (cond q (answered (record none_yet { made = Some (name, at) }) (Made name 0)) (refused none_yet BranchesFull)).tx.made
       by_room true = refl
       by_room false = nothing d b none_yet refl refl
@@ -317,7 +318,7 @@ called_of x None = by (is_checkpoint x)
 pub commit_named : (d : Dataset) (b : ℕ) (tx : Tx (List Overlay)) → IsNamedIf (commit_over d b tx)
 commit_named d b tx = by (nat_lt 0 (count_touched tx.work) || is_some tx.second)
   where
-    by : (q : Bool) → IsNamedIf (cond q (Some (CommitEntry b tx.second ((over_table (head_of d b)).changes tx.work))) None)
+    by : (q : Bool) → IsNamedIf (cond q (Some (CommitEntry b tx.second ((over_table (head_of d b)).changes (all_widths d.schema) tx.work))) None)
     by true = tt
     by false = tt
 

@@ -1,8 +1,8 @@
 -- Entries that fit, as a batch.
 use Rattle.std.proofs.Common.{◌≡◌, ◌⊎◌, inl, inr, ⊎_elim, subst, ℕ, ◌*◌, ◌<◌, ◌≤◌, cond, not, ◌&&◌, nat_le, true, false, Bool, List, [], ◌∷◌, ◌++◌, length, refl, sym, ◌∙◌, ap, arith, Option, Some, None}
-use Rattle.std.specs.Prelude.{Result, Ok, Err, OnOk, OnErr, IsErrOf}
+use Rattle.std.specs.Prelude.{Result, Ok, Err, OnOk, OnErr, IsErrOf, ◌↔◌}
 use Rattle.std.proofs.lemmas.List.{append-nil}
-use Rattle.std.proofs.lemmas.Bool.{and_parts, leb-true}
+use Rattle.std.proofs.lemmas.Bool.{and_parts, leb-true, cases_lt}
 use Rattle.db_value.specs.Value.{Value}
 use Rattle.db_value.specs.Text.{is_name, starts_with_letter, is_name_byte, is_reserved}
 use Rattle.std.specs.List.{list_all}
@@ -15,9 +15,11 @@ use Rattle.db_store.specs.Growth.{commit_parts}
 use Rattle.db_store.specs.Fits.{fits}
 use Rattle.db_store.specs.State.{State, dataset_of, grow}
 use Rattle.db_outside.specs.Record.{most_body}
-use Rattle.entry_codec.specs.Spelling.{spelling, spellings, entry_size, second_size, change_size, changes_size, field_count, HasFewChanges}
+use Rattle.db_outside.specs.declared.batch.BatchStop.{BatchStop}
+use Rattle.db_outside.specs.declared.batch.BatchStop.TheVariants.{Full}
+use Rattle.entry_codec.specs.Spelling.{spelling, spellings, entry_size, HasFewChanges}
 use Rattle.entry_codec.specs.Grammar.{entries_in}
-use Rattle.entry_codec.specs.Laws.{IsEntry, AreEntries, IsChange, AreChanges, AreFields}
+use Rattle.entry_codec.specs.Laws.{IsEntry, AreEntries}
 use Rattle.entry_codec.specs.declared.log.Log.{Ghosts}
 use Rattle.entry_codec.specs.declared.stop.CheckpointStop.{CheckpointStop}
 use Rattle.entry_codec.specs.declared.stop.CheckpointStop.TheVariants.{DiskFault}
@@ -26,36 +28,6 @@ use Rattle.db_outside.specs.Device.{Rose}
 use Rattle.store_tx.specs.declared.stored.LogCall.TheVariants.{Nothing, Append, Save}
 use Rattle.store_tx.specs.Stored.{nothing, batch, image, all_grown, Has, GivesIn, GivesOwed, IsPendingOf, StoresAsked, Stores}
 use Rattle.entry_codec.proofs.Back.{size_is, all}
-
-few_fields : (fields : Option (List Value)) → AreFields fields → field_count fields ≤ 15
-few_fields None are = omega arith
-few_fields (Some fields) are = are.1
-
-change_few : (c : Change) → IsChange c → change_size c ≤ 130
-change_few c is = omega (arith, few_fields c.fields is.fields)
-
-changes_few : (cs : List Change) → AreChanges cs → changes_size cs ≤ 130 * length cs
-changes_few [] are = omega arith
-changes_few (c ∷ cs) are = omega (arith, change_few c are.0, changes_few cs are.1)
-
-second_few : (second : Option VersionPlace) → second_size second ≤ 9
-second_few None = omega arith
-second_few (Some at) = omega arith
-
-name_few : (name : List ℕ) → is_name name ≡ true → length name ≤ 32
-unfolding is_name
-name_few name is =
-    let short : nat_le (length name) 32 ≡ true = by (nat_le (length name) 32) (starts_with_letter name) (list_all is_name_byte name) (not (is_reserved name)) is in
-    search (arith, short)
-  where
-    by : (p q r t : Bool) → p && q && r && t ≡ true → p ≡ true
-    by true q r t all = refl
-    by false q r t all = all
-
--- the entry of one transaction alone is never too large for a batch
-pub entry_few : (e : Entry) → IsEntry e → entry_size e ≤ most_body
-entry_few (Commit branch second cs) is = omega (arith, second_few second, changes_few cs is.each, is.few)
-entry_few (Branch name origin) is = omega (arith, name_few name is.0)
 
 pub few_changes : (e : Entry) → IsEntry e → HasFewChanges e
 few_changes (Commit branch second cs) is = is.few
@@ -78,11 +50,11 @@ pub record IsBatch (s : State) (es : List Entry) (b : List ℕ) : Type 0 where
   pub are : AreEntries es
 
 -- one entry is a batch
-pub one_batch : (s : State) (e : Entry) (b : List ℕ) → b ≡ spelling e → fits (dataset_of s) e ≡ true → IsEntry e → IsBatch s (e ∷ []) b
-one_batch s e b same fit is = record {
+pub one_batch : (s : State) (e : Entry) (b : List ℕ) → b ≡ spelling e → length b ≤ most_body → fits (dataset_of s) e ≡ true → IsEntry e → IsBatch s (e ∷ []) b
+one_batch s e b same few fit is = record {
   same = same ∙ sym (append-nil (spelling e));
   some = omega (arith, ap length same, size_is e, size_some e);
-  few = omega (arith, ap length same, size_is e, entry_few e is);
+  few = few;
   fit = ap (λ (q : Bool). cond q (Some (grow s e)) None) fit;
   are = (is, tt);
 }
@@ -90,6 +62,10 @@ one_batch s e b same fit is = record {
 -- the entries of a batch follow
 abbrev pub follows_all : (s : State) (es : List Entry) (b : List ℕ) → IsBatch s es b → Follows s b
 follows_all s es b is = record { some = is.some; few = is.few; entries = es; read = ap entries_in is.same ∙ all es is.are; state = all_grown s es; fit = is.fit }
+
+-- bytes that were added to a batch had space there
+pub not_full : {T : Type 0} (r : Result T BatchStop) (x : T) → r ≡ Ok x → (n : ℕ) → (IsErrOf r Full ↔ (most_body < n)) → n ≤ most_body
+not_full r x e n full = ⊎_elim (λ lt. absurd (cc (sym e ∙ full.1 lt))) (λ le. le) (cases_lt most_body n)
 
 -- an entry that fits has few changes
 pub few_fit : (d : Dataset) (e : Entry) → fits d e ≡ true → HasFewChanges e

@@ -11,6 +11,7 @@ ghost use Rattle.db_store.specs.Found.{found, branch_names};
 ghost use Rattle.branch_tx.specs.Found.{Lacking, source_of};
 ghost use Rattle.branch_tx.specs.Alone.{ground_of};
 ghost use Rattle.branch_tx.specs.Granted.{tx_in, is_current, AreAllOf};
+ghost use Rattle.branch_tx.specs.TxState.{AreMet};
 ghost use Rattle.branch_tx.specs.Covers.{covers, holds_alone, has_version, has_at, has_heads, has_over};
 ghost use Rattle.line_needs.specs.Needs.{found_needs, source_needs, names_needs, scan_needs, needs};
 ghost use Rattle.store_tx.specs.Keeps.{Keeps, IsKept, IsOn, HasNeeds, KeepsWith, KeepsBy, IsBack, IsMore, GrantsMore, head_need, needs_in};
@@ -46,6 +47,8 @@ fn head_view<St: Store>(store: &St, branch: u32) -> Result<St::View, AllocError>
         length (St.View.table v) ≡ length (dataset_of (St.state store.now)).schema) }
     ensures viewable { IfOk result (λ v. IsViewable (St.View.table v) (St.View.parts_of v)) }
     ensures parts { IfOk result (λ v. AreOf (St.state store.now) (St.View.parts_of v)) }
+    ensures met { IfOk result (λ v.
+        AreMet (dataset_of (St.state store.now)).schema (St.View.table v)) }
 {
     store.view(head_place(store, branch))
 }
@@ -72,9 +75,10 @@ pub fn open_tx<St: Store>(
     ensures shown { IfOk result (λ t. AreAllOf (St.state store.now) t) }
 {
     let below = head_view(store, branch)?;
-    let work = Work::over(alloc, below, room, store.schema())?;
+    let schema = store.schema();
+    let work = Work::over(alloc, below, room, schema)?;
     let name = store.branch_name(branch);
-    Tx::over(alloc, store.schema(), work, name)
+    Tx::over(alloc, schema, work, name)
 }
 
 // Puts the head of its branch under the transaction, which has touched nothing.

@@ -1,6 +1,7 @@
 //! What a line asks of the log: its entry goes to the log and then to the store, or the state is written
 //! as an image.
-ghost use Rattle.std.specs.Prelude.{◌≡◌, ◌≤◌, Some, None, true, false, IfOk, OnOk, OnErr};
+ghost use Rattle.std.specs.Prelude.{◌≡◌, ◌≤◌, Some, None, true, false, length, IfOk, OnOk, OnErr};
+ghost use Rattle.db_outside.specs.Record.{most_body};
 ghost use Rattle.db_store.specs.Fits.{fits};
 ghost use Rattle.db_store.specs.State.{dataset_of};
 ghost use Rattle.entry_codec.specs.Spelling.{spelling};
@@ -8,7 +9,7 @@ ghost use Rattle.entry_codec.specs.Laws.{IsNamed, IsEntry};
 ghost use Rattle.store_tx.specs.Ends.{grown};
 ghost use Rattle.store_tx.specs.Stored.{Stores, entry_called, told_if, stored_if, FitsIf, IsNamedIf, SparesIf};
 
-use db_outside::{Batch, BatchStop};
+use db_outside::Batch;
 use db_store::Store;
 use db_value::{Entry, Refusal, Reply};
 use entry_codec::{CheckpointStop, Log, encode, fitting_law};
@@ -66,20 +67,21 @@ pub fn unmarked<St: Store, J: Log<St>>(_store: &St, _log: &J, told: Reply) -> An
     }
 }
 
-// The batch of one entry, ready to be appended. An entry that fits is within the rules of spelling.
+// The batch of one entry, ready to be appended. An entry that fits is within the rules of spelling. One
+// that is too large for a batch is as want of memory; with columns of numbers alone none is.
 fn batch_of<St: Store>(alloc: Global, _store: &St, entry: &Entry) -> Result<Batch, AllocError>
     requires fits { fits (dataset_of (St.state _store.now)) entry.now ≡ true }
     requires named { IsNamed entry.now }
     ensures bytes { IfOk result (λ b. b ≡ spelling entry.now) }
     ensures within { OnOk result (IsEntry entry.now) }
+    ensures few { IfOk result (λ b. length b ≤ most_body) }
 {
     fitting_law();
     let bytes = encode(alloc, entry)?;
     let mut batch = Batch::new(alloc)?;
     match batch.add(bytes.as_slice()) {
         Ok(()) => Ok(batch),
-        Err(BatchStop::Full) => unreachable!(),
-        Err(BatchStop::Memory) => Err(AllocError),
+        Err(_) => Err(AllocError),
     }
 }
 

@@ -10,7 +10,7 @@ pub returns-in-None : goal.returns-in-None
 returns-in-None c =
     let columns = columns_at c.args.schema.now c.args.relation in
     let ws = widths_at c.args.schema.now c.args.relation in
-    let own = ap (λ (us : List ℕ). number_named us columns c.set-item.result.column) (sym c.widths.ensures) in
+    let own = ap (λ (us : List ℕ). number_named us columns c.set-item.result.column) (sym c.widths-widths.ensures) in
     let stop = found_stop ws columns c.as_slice-sets.result.now _ c.loop-set.all c.loop-set.set-index c.set-item.result _ c.loop-set-test.true (sym c.set-item.is) (own ∙ sym c.number_named.ensures ∙ c.in-None.is) c.loop-set.invariant.0 in
     sym stop ∙ ap (resolved ws columns) c.as_slice-sets.ensures.values
 
@@ -18,7 +18,7 @@ pub loop-set-preserved : goal.loop-set-preserved
 loop-set-preserved c =
     let columns = columns_at c.args.schema.now c.args.relation in
     let ws = widths_at c.args.schema.now c.args.relation in
-    let own = ap (λ (us : List ℕ). number_named us columns c.set-item.result.column) (sym c.widths.ensures) in
+    let own = ap (λ (us : List ℕ). number_named us columns c.set-item.result.column) (sym c.widths-widths.ensures) in
     let step = found_step ws columns c.as_slice-sets.result.now _ c.loop-set.all c.loop-set.set-index c.set-item.result _ c.in-Some.column c.loop-set-test.true (sym c.set-item.is) (own ∙ sym c.number_named.ensures ∙ c.in-Some.is) c.loop-set.invariant.0 in
     let pushed : c.push.new.self ≡ c.loop-set.all ++ set_at c.in-Some.column c.set-item.result ∷ [] = c.push.ensures ∙ ap (λ (s : Set). c.loop-set.all ++ s ∷ []) c.set_at.ensures in
     (step ∙ ap (λ (t : List Set). behind t (resolved ws columns (drop (c.loop-set.set-index + 1) c.as_slice-sets.result.now))) (sym pushed), omega (arith, ap length pushed, length-append c.loop-set.all (set_at c.in-Some.column c.set-item.result ∷ []), c.loop-set.invariant.1))
