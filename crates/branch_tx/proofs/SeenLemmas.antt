@@ -10,7 +10,7 @@ use Rattle.db_value.specs.declared.condition.Term.{Term}
 use Rattle.db_store.specs.Table.{Table, relation_at}
 use Rattle.db_store.specs.Overlay.{Overlay}
 use Rattle.db_store.specs.Rows.{rows_where}
-use Rattle.stmt_text.specs.declared.stmt.Stmt.TheVariants.{Scan, Join, Minus}
+use Rattle.stmt_text.specs.declared.stmt.Stmt.TheVariants.{Get, Scan, Join, Minus}
 use Rattle.stmt_text.specs.declared.stmt.ScanOver.{ScanOver}
 use Rattle.multi_scan.specs.Multi.{union_marked, multi}
 use Rattle.branch_tx.specs.Keeping.{over_table}
@@ -19,7 +19,7 @@ use Rattle.branch_tx.specs.Act.{Tx, rows_from, contents_from, answered, unless, 
 use Rattle.line_needs.specs.Columns.{relation_named}
 use Rattle.branch_tx.specs.Granted.{Granted, same_version, lent_table, source_in, names_or_none, tx_in, left, table_from}
 use Rattle.branch_tx.specs.TxState.{AllWide}
-use Rattle.branch_tx.proofs.Keeps.{scan_keeps, join_keeps, minus_keeps}
+use Rattle.branch_tx.proofs.Keeps.{get_keeps, scan_keeps, join_keeps, minus_keeps}
 
 -- ---- views that were lent
 
@@ -93,6 +93,10 @@ listed_seen g p r names rows tables none is e =
     ∙ sym (ap (λ (o : Option Refusal). (unless (tx_in g) o (answered (tx_in g) (Listed names (union_marked (map (λ v. rows_from (over_table g.head) p (tx_in g) r (source_in g v)) names))))).reply) none)
 
 -- ---- questions leave it
+
+pub get_left : (g : Granted) (name : List ℕ) (key : ℕ) (at : Option VersionName) → g ≡ left g (Get name key at)
+get_left g name key at = ap (λ (tx : Tx (List Overlay)). record g { overlays = tx.work })
+    (sym (get_keeps (over_table g.head) (λ tx. tx ≡ tx_in g) (source_in g) (tx_in g) name key at (relation_named g.schema name) refl))
 
 pub scan_left : (g : Granted) (name : List ℕ) (over : ScanOver) (terms : List Term) → g ≡ left g (Scan name over terms)
 scan_left g name over terms = ap (λ (tx : Tx (List Overlay)). record g { overlays = tx.work })

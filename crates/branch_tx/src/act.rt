@@ -172,7 +172,7 @@ impl<St: Store> Tx<St> {
     /// Answers a statement that it covers, by what it knows of the statement. A refused statement
     /// leaves everything as before, and so does want of memory, which only a statement has that lists
     /// rows or looks at a far record.
-    #[tactic(auto, using(crate::proofs::SeenLemmas::scan_left, crate::proofs::SeenLemmas::join_left, crate::proofs::SeenLemmas::minus_left))]
+    #[tactic(auto, using(crate::proofs::SeenLemmas::get_left, crate::proofs::SeenLemmas::scan_left, crate::proofs::SeenLemmas::join_left, crate::proofs::SeenLemmas::minus_left))]
     pub fn act(&mut self, stmt: &Stmt, known: &Known) -> Result<Reply, AllocError>
         requires known { known.now ≡ known_in self.old stmt.now }
         ensures reply { IfOk result (λ r. r ≡ (acted self.old stmt.now).reply) }

@@ -8,7 +8,6 @@ ghost use Rattle.branch_tx.specs.Keeping.{over_table};
 ghost use Rattle.branch_tx.specs.Alone.{commit_entry};
 ghost use Rattle.branch_tx.specs.Granted.{ungranted, tx_in, has_done, lent_table, views_of};
 ghost use Rattle.branch_tx.specs.Shown.{parts_by, ViewsAgree};
-ghost use Rattle.branch_tx.specs.TxState.{AreMet};
 
 use crate::lent::Lending;
 use db_store::{Store, View, Work};
@@ -86,6 +85,7 @@ impl<St: Store> Model for Tx<St> {
 impl<St: Store> Tx<St> {
     ghost use Rattle.std.specs.Prelude.{is_some, cond};
     ghost use Rattle.branch_tx.specs.Granted.{ground_in, back_at, is_current};
+    ghost use Rattle.branch_tx.specs.TxState.{AreMet};
 
     /// A transaction on the branch of this name, to which nothing is granted yet. The working table
     /// keeps the widths of the schema, and each row of it meets them.
