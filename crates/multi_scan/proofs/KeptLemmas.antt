@@ -70,7 +70,6 @@ there_at records (g ∷ fs) (suc i) f all h = there_at records fs i f all.1 (ome
 
 pub here_is : (records : List Record) (fs : List FoundRow) (i : ℕ) (f : FoundRow) → i < length fs → row_at records (get_or fs i f) ≡ marked_here (map (row_at records) fs) i
 here_is records fs i f h =
-    let long : length (map (row_at records) fs) ≡ length fs = length-map fs (row_at records) in
     sym (get_or-map (row_at records) fs i f (record { row = no_record; positions = [] }) h)
 
 pub record_is : (records : List Record) (f : FoundRow) → IsThere records f → record_at records f.place ≡ (row_at records f).row
