@@ -53,7 +53,7 @@ fn row_if(read: bool, row: &Record) -> Option<&Record>
 
 // Behind the first record from a place on, if it has a key.
 fn behind(rows: &Records, at: usize, key: u64) -> usize
-    ensures records { drop result rows.now ≡ behind key (drop at rows.now) }
+    ensures { drop result rows.now ≡ behind key (drop at rows.now) }
 {
     if at >= rows.len() {
         return at;
