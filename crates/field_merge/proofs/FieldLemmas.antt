@@ -3,9 +3,13 @@ use Rattle.std.proofs.Common.{◌≡◌, ℕ, ◌+◌, ◌<◌, List, [], ◌∷
 use Rattle.std.proofs.lemmas.List.{drop_more, take_more, take_more_set, drop-set-lt, length-set, append_assoc}
 use Rattle.std.proofs.lemmas.Grind.{drop_more_same}
 use Rattle.db_value.specs.Value.{Value, field_at}
+use Rattle.db_value.specs.declared.value.Value.TheVariants.{Number}
 use Rattle.db_value.specs.declared.condition.Prefer.{Prefer}
 use Rattle.field_merge.specs.Merge.{merge_field, merge_fields, field_then, first_field, other_fields}
 use Rattle.field_merge.specs.Rows.{field_if, AreAsLong}
+
+abbrev zero_value : Value
+zero_value = Number (pos 0)
 
 -- fields before the others
 abbrev pub fields_then : List Value → Result (List Value) ℕ → Result (List Value) ℕ
@@ -23,18 +27,18 @@ rest_of prefer base left right column = merge_fields prefer column (from_column 
 
 first_is : (base : Option (List Value)) (left : List Value) (column : ℕ) → AreAsLong base left → column < length left → first_field (from_column column base) ≡ field_if base column
 first_is None left column a h = refl
-first_is (Some fields) left column a h = ap (λ (vs : List Value). first_field (Some vs)) (drop_more fields column (pos 0) (omega (arith, a, h)))
+first_is (Some fields) left column a h = ap (λ (vs : List Value). first_field (Some vs)) (drop_more fields column zero_value (omega (arith, a, h)))
 
 others_are : (base : Option (List Value)) (left : List Value) (column : ℕ) → AreAsLong base left → column < length left → other_fields (from_column column base) ≡ from_column (column + 1) base
 others_are None left column a h = refl
-others_are (Some fields) left column a h = ap (λ (vs : List Value). other_fields (Some vs)) (drop_more fields column (pos 0) (omega (arith, a, h)))
+others_are (Some fields) left column a h = ap (λ (vs : List Value). other_fields (Some vs)) (drop_more fields column zero_value (omega (arith, a, h)))
 
 -- one column and the rest
 rest_more : (prefer : Prefer) (base : Option (List Value)) (left right : List Value) (column : ℕ) → AreAsLong base left → length right ≡ length left → column < length left
     → rest_of prefer base left right column ≡ field_then column (merge_field prefer (field_if base column) (field_at left column) (field_at right column)) (rest_of prefer base left right (column + 1))
 rest_more prefer base left right column a r h =
-    ap (λ (ls : List Value). merge_fields prefer column (from_column column base) ls (drop column right)) (drop_more left column (pos 0) h)
-    ∙ ap (λ (rs : List Value). merge_fields prefer column (from_column column base) (field_at left column ∷ drop (column + 1) left) rs) (drop_more right column (pos 0) (omega (arith, r, h)))
+    ap (λ (ls : List Value). merge_fields prefer column (from_column column base) ls (drop column right)) (drop_more left column zero_value h)
+    ∙ ap (λ (rs : List Value). merge_fields prefer column (from_column column base) (field_at left column ∷ drop (column + 1) left) rs) (drop_more right column zero_value (omega (arith, r, h)))
     ∙ (λ i. field_then column (merge_field prefer (first_is base left column a h i) (field_at left column) (field_at right column)) (merge_fields prefer (column + 1) (others_are base left column a h i) (drop (column + 1) left) (drop (column + 1) right)))
 
 then_one : (vs : List Value) (column : ℕ) (v : Value) (others : Result (List Value) ℕ) → fields_then vs (field_then column (Some v) others) ≡ fields_then (vs ++ v ∷ []) others
@@ -64,8 +68,8 @@ pub record AreSoFar (prefer : Prefer) (base : Option (List Value)) (left right :
 pub left_kept : (prefer : Prefer) (base : Option (List Value)) (left right : List Value) (column : ℕ) (fields : List Value) → AreAsLong base left → length right ≡ length left → column < length left
     → AreSoFar prefer base left right column fields → merge_field prefer (field_if base column) (field_at left column) (field_at right column) ≡ Some (field_at left column) → AreSoFar prefer base left right (column + 1) fields
 left_kept prefer base left right column fields a r h s is =
-    let one : field_at fields column ≡ field_at left column = same_head _ _ _ _ (sym (drop_more fields column (pos 0) (omega (arith, s.long, h))) ∙ s.rest ∙ drop_more left column (pos 0) h) in
-    let more : take (column + 1) fields ≡ take column fields ++ field_at left column ∷ [] = take_more fields column (pos 0) (omega (arith, s.long, h)) ∙ ap (λ (v : Value). take column fields ++ v ∷ []) one in
+    let one : field_at fields column ≡ field_at left column = same_head _ _ _ _ (sym (drop_more fields column zero_value (omega (arith, s.long, h))) ∙ s.rest ∙ drop_more left column zero_value h) in
+    let more : take (column + 1) fields ≡ take column fields ++ field_at left column ∷ [] = take_more fields column zero_value (omega (arith, s.long, h)) ∙ ap (λ (v : Value). take column fields ++ v ∷ []) one in
     record {
       long = s.long;
       rest = drop_more_same fields left column s.rest;

@@ -1,4 +1,5 @@
 pub mod FieldLemmas
+pub mod FrontLemmas
 pub mod KeyLemmas
 pub mod WalkLemmas
 pub mod TableLemmas

@@ -3,7 +3,7 @@ use Rattle.std.proofs.Common.{◌≡◌, ℕ, ◌+◌, Bool, true, false, cond, 
 use Rattle.db_value.specs.Value.{Value, value_eq}
 use Rattle.db_value.specs.declared.condition.Prefer.{Prefer}
 use Rattle.db_value.specs.declared.condition.Prefer.TheVariants.{Neither, Left, Right}
-use Rattle.field_merge.specs.Merge.{preferred, is_base, merge_field, first_field, other_fields, field_then, merge_fields, same_state, of_fields, of_records, merge_changed, merge_at}
+use Rattle.field_merge.specs.Merge.{preferred, is_base, merge_field, first_field, other_fields, field_then, merge_fields, same_state, of_fields, of_records, merge_changed, merge_at, clash_where, Clash}
 
 -- there is a result
 abbrev IsKept : {A B : Type 0} → Result A B → Type 0
@@ -60,3 +60,11 @@ pub asked : (prefer : Prefer) (base left right : Option (List Value)) (field : O
 asked Neither base left right field e = refl
 asked Left base left right field e = absurd (not_kept (merge_at Left base left right) field e (at_kept Left (λ x y. tt) (λ x y. tt) base left right))
 asked Right base left right field e = absurd (not_kept (merge_at Right base left right) field e (at_kept Right (λ x y. tt) (λ x y. tt) base left right))
+
+from_clash : (prefer : Prefer) (merged : Result (Option (List Value)) (Option ℕ)) (relation key : ℕ) (clash : Clash) → ((field : Option ℕ) → merged ≡ Err field → prefer ≡ Neither) → clash_where relation key merged ≡ clash ∷ [] → prefer ≡ Neither
+from_clash prefer (Ok state) relation key clash by e = absurd cc
+from_clash prefer (Err field) relation key clash by e = by field refl
+
+-- so was one that has a conflict at a key
+pub clash_asked : (prefer : Prefer) (base left right : Option (List Value)) (relation key : ℕ) (clash : Clash) → clash_where relation key (merge_at prefer base left right) ≡ clash ∷ [] → prefer ≡ Neither
+clash_asked prefer base left right relation key clash e = from_clash prefer (merge_at prefer base left right) relation key clash (asked prefer base left right) e

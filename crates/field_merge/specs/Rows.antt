@@ -26,11 +26,11 @@ abbrev pub field_if : Option (List Value) → ℕ → Option Value
 field_if None column = None
 field_if (Some fields) column = Some (field_at fields column)
 
--- a merge says this with these fields: no record, the record with them, or the conflict
-abbrev pub IsMerged : Merged → List Value → Result (Option (List Value)) (Option ℕ) → Type 0
-IsMerged Gone fields r = r ≡ Ok None
-IsMerged There fields r = r ≡ Ok (Some fields)
-IsMerged (Conflict field) fields r = r ≡ Err field
+-- what a merge that says this with these fields has there: no record, the record with them, or the conflict
+abbrev pub told : Merged → List Value → Result (Option (List Value)) (Option ℕ)
+told Gone fields = Ok None
+told There fields = Ok (Some fields)
+told (Conflict field) fields = Err field
 
 -- what the merge of three records of one key has there, or what is in conflict
 abbrev pub merge_records : Prefer → Option Record → Option Record → Option Record → Result (Option (List Value)) (Option ℕ)

@@ -3,7 +3,7 @@ ghost use Rattle.std.specs.Prelude.{◌≡◌, ◌<◌, Ok, length};
 ghost use Rattle.std.specs.Option.{option_copied};
 ghost use Rattle.db_value.specs.Value.{field_at};
 ghost use Rattle.field_merge.specs.Merge.{preferred, is_base, merge_field, merge_fields, merge_changed, same_state, of_fields};
-ghost use Rattle.field_merge.specs.Rows.{fields_if, field_if, merge_records, IsMerged, AreAsLong, AreVersions};
+ghost use Rattle.field_merge.specs.Rows.{fields_if, field_if, merge_records, told, AreAsLong, AreVersions};
 
 use crate::Merged;
 use db_value::{Fields, Prefer, Record};
@@ -24,7 +24,7 @@ pub(crate) fn is_same(a: Option<&Record>, b: Option<&Record>) -> bool
 
 // What a side has.
 fn keep(row: Option<&Record>, into: &mut Fields) -> Merged
-    ensures { IsMerged result into.new (Ok (fields_if (option_copied row.entry))) }
+    ensures { told result into.new ≡ Ok (fields_if (option_copied row.entry)) }
 {
     match row {
         None => Merged::Gone,
@@ -85,8 +85,8 @@ fn merge_records(
 ) -> Merged
     requires right { length right.now.fields ≡ length left.now.fields }
     requires base { AreAsLong (fields_if (option_copied base)) left.now.fields }
-    ensures { IsMerged result into.new (of_fields (merge_fields prefer 0
-        (fields_if (option_copied base.entry)) left.now.fields right.now.fields)) }
+    ensures { told result into.new ≡ of_fields (merge_fields prefer 0
+        (fields_if (option_copied base.entry)) left.now.fields right.now.fields) }
 {
     *into = left.fields;
     for column in 0..left.fields.count() as u8 {
@@ -112,9 +112,8 @@ fn merge_changed(
     into: &mut Fields,
 ) -> Merged
     requires { AreVersions (option_copied base) (option_copied left) (option_copied right) }
-    ensures { IsMerged result into.new
-        (merge_changed prefer (fields_if (option_copied base.entry))
-        (fields_if (option_copied left.entry)) (fields_if (option_copied right.entry))) }
+    ensures { told result into.new ≡ merge_changed prefer (fields_if (option_copied base.entry))
+        (fields_if (option_copied left.entry)) (fields_if (option_copied right.entry)) }
 {
     if let Some(l) = left {
         if let Some(r) = right {
@@ -139,8 +138,8 @@ pub fn merge3(
     into: &mut Fields,
 ) -> Merged
     requires { AreVersions (option_copied base) (option_copied left) (option_copied right) }
-    ensures { IsMerged result into.new (merge_records prefer (option_copied base.entry)
-        (option_copied left.entry) (option_copied right.entry)) }
+    ensures { told result into.new ≡ merge_records prefer (option_copied base.entry)
+        (option_copied left.entry) (option_copied right.entry) }
 {
     if is_same(left, right) {
         return keep(left, into);

@@ -3,7 +3,7 @@ ghost use Rattle.std.specs.Prelude.{◌≡◌, ◌++◌, [], ◌∷◌, drop, Ok
 ghost use Rattle.db_value.specs.declared.condition.Prefer.TheVariants.{Neither};
 ghost use Rattle.field_merge.specs.Merge.{change_where, clash_where, least_clash};
 ghost use Rattle.field_merge.specs.Results.{IfConflict};
-ghost use Rattle.field_merge.specs.Rows.{fields_if, row_if, HasKey, AreVersions};
+ghost use Rattle.field_merge.specs.Rows.{fields_if, row_if, told, HasKey, AreVersions};
 ghost use Rattle.field_merge.specs.Steps.{merged_at};
 ghost use Rattle.field_merge.specs.Walk.{record_changes, record_clashes, first_at, behind, first_key, lesser, least_key, AreSides};
 
@@ -53,7 +53,7 @@ fn row_if(read: bool, row: &Record) -> Option<&Record>
 
 // Behind the first record from a place on, if it has a key.
 fn behind(rows: &Records, at: usize, key: u64) -> usize
-    ensures records { drop result rows.now ≡ behind key (drop at rows.now) }
+    ensures { drop result rows.now ≡ behind key (drop at rows.now) }
 {
     if at >= rows.len() {
         return at;
@@ -120,6 +120,41 @@ fn list_change(
     }
 }
 
+// Lists what a merge has at a key, or tells its conflict. The record has the key, and the fields that
+// the merge put.
+fn list_merged(
+    relation: u8,
+    widths: &Widths,
+    key: u64,
+    left: Option<&Record>,
+    merged: Merged,
+    row: &Record,
+    all: &mut Changes,
+) -> Result<(), MergeStop>
+    requires { row.now.key ≡ key }
+    ensures changes { OnOk result (all.new ≡ all.old ++ change_where widths.now relation key
+        (fields_if (option_copied left.entry)) (told merged row.now.fields)) }
+    ensures free { OnOk result (clash_where relation key (told merged row.now.fields) ≡ []) }
+    ensures conflict { IfConflict result (λ clash.
+        clash_where relation key (told merged row.now.fields) ≡ clash ∷ []) }
+{
+    match merged {
+        Merged::Conflict { field } => Err(MergeStop::Conflict {
+            relation,
+            key,
+            field,
+        }),
+        Merged::Gone => match list_change(relation, widths, key, left, None, all) {
+            Ok(()) => Ok(()),
+            Err(AllocError) => Err(MergeStop::Memory),
+        },
+        Merged::There => match list_change(relation, widths, key, left, Some(row), all) {
+            Ok(()) => Ok(()),
+            Err(AllocError) => Err(MergeStop::Memory),
+        },
+    }
+}
+
 // Merges what three versions have at a key.
 fn merge_key(
     relation: u8,
@@ -151,21 +186,7 @@ fn merge_key(
     let right = row_if(in_right, &spare.right);
     let merged = merge3(base, left, right, prefer, &mut spare.merged.fields);
     spare.merged.key = key;
-    let row = match merged {
-        Merged::Conflict { field } => {
-            return Err(MergeStop::Conflict {
-                relation,
-                key,
-                field,
-            });
-        }
-        Merged::Gone => None,
-        Merged::There => Some(&spare.merged),
-    };
-    match list_change(relation, widths, key, left, row, all) {
-        Ok(()) => Ok(()),
-        Err(AllocError) => Err(MergeStop::Memory),
-    }
+    list_merged(relation, widths, key, left, merged, &spare.merged, all)
 }
 
 // Behind the records with a key.

@@ -6,7 +6,7 @@ use Rattle.db_value.specs.declared.entry.Entry.{Entry}
 use Rattle.db_value.specs.declared.entry.Entry.TheVariants.{Commit, Branch}
 use Rattle.db_store.specs.Fits.{ascends, makes_version}
 use Rattle.entry_codec.specs.Spelling.{second_size, entry_size}
-use Rattle.entry_codec.specs.Grammar.{u32_in, place_in, second_in, commit_of, counted_in, commit_in, branch_in, entry_in, onto_entries, entries_from, entries_in}
+use Rattle.entry_codec.specs.Grammar.{u32_in, place_in, second_in, are_of_kind, commit_of, counted_in, commit_in, branch_in, entry_in, onto_entries, entries_from, entries_in}
 use Rattle.db_image.specs.Imaged.{IsNamed}
 
 -- so it is of all of them
@@ -30,12 +30,12 @@ chained : {A B : Type 0} (f : A → Option B) (o : Option A) (y : B) → option_
 chained f None y is = absurd (cc is)
 chained f (Some x) y is = (x, refl, is)
 
-commit_named : (b : List ℕ) (e : Entry) → commit_in b ≡ Some e → IsNamed e
-commit_named b e is =
-    let branch = chained (λ branch. option_and_then (λ second. option_and_then (commit_of branch second) (counted_in (drop (4 + second_size second) b))) (second_in (drop 4 b))) (u32_in b) e is in
-    let second = chained (λ second. option_and_then (commit_of branch.0 second) (counted_in (drop (4 + second_size second) b))) (second_in (drop 4 b)) e branch.2 in
-    let changes = chained (commit_of branch.0 second.0) (counted_in (drop (4 + second_size second.0) b)) e second.2 in
-    let made = tested (makes_version second.0 changes.0 && ascends changes.0) (Some (Commit branch.0 second.0 changes.0)) e changes.2 in
+commit_named : (wide : Bool) (b : List ℕ) (e : Entry) → commit_in wide b ≡ Some e → IsNamed e
+commit_named wide b e is =
+    let branch = chained (λ branch. option_and_then (λ second. option_and_then (commit_of wide branch second) (counted_in wide (drop (4 + second_size second) b))) (second_in (drop 4 b))) (u32_in b) e is in
+    let second = chained (λ second. option_and_then (commit_of wide branch.0 second) (counted_in wide (drop (4 + second_size second) b))) (second_in (drop 4 b)) e branch.2 in
+    let changes = chained (commit_of wide branch.0 second.0) (counted_in wide (drop (4 + second_size second.0) b)) e second.2 in
+    let made = tested (makes_version second.0 changes.0 && (ascends changes.0 && are_of_kind wide changes.0)) (Some (Commit branch.0 second.0 changes.0)) e changes.2 in
     subst IsNamed (some_is (Commit branch.0 second.0 changes.0) e made.1) tt
 
 branch_named : (b : List ℕ) (e : Entry) → branch_in b ≡ Some e → IsNamed e
@@ -47,12 +47,13 @@ branch_named (n ∷ b) e is =
 
 entry_named : (b : List ℕ) (e : Entry) → entry_in b ≡ Some e → IsNamed e
 entry_named [] e is = absurd (cc is)
-entry_named (tag ∷ b) e is = by (tag == 1) (tag == 2) is
+entry_named (tag ∷ b) e is = by (tag == 1) (tag == 3) (tag == 2) is
   where
-    by : (p q : Bool) → cond p (commit_in b) (cond q (branch_in b) None) ≡ Some e → IsNamed e
-    by true q read = commit_named b e read
-    by false true read = branch_named b e read
-    by false false read = absurd (cc read)
+    by : (p q r : Bool) → cond p (commit_in false b) (cond q (commit_in true b) (cond r (branch_in b) None)) ≡ Some e → IsNamed e
+    by true q r read = commit_named false b e read
+    by false true r read = commit_named true b e read
+    by false false true read = branch_named b e read
+    by false false false read = absurd (cc read)
 
 from_named : (n : ℕ) (b : List ℕ) (es : List Entry) → entries_from n b ≡ Some es → AreNamed es
 from_named n [] es is = subst AreNamed (some_is [] es is) tt

@@ -1,10 +1,12 @@
 -- Rows whose records stand in a list: one more, the row at a place, and rows in order.
-use Rattle.std.proofs.Common.{◌≡◌, ℕ, zero, suc, ◌+◌, ◌-◌, ◌<◌, ◌≤◌, Bool, cond, List, [], ◌∷◌, ◌++◌, length, map, get_or, ap, ap₂, sym, ◌∙◌, refl, arith, Ordering, Equal, length-append}
+use Rattle.std.proofs.Common.{◌≡◌, ℕ, zero, suc, ◌+◌, ◌-◌, ◌<◌, ◌≤◌, Bool, cond, List, [], ◌∷◌, ◌++◌, length, map, get_or, ap, ap₂, sym, ◌∙◌, refl, arith, Some, Ordering, Equal, length-append}
+use Rattle.std.specs.Prelude.{slice_get}
 use Rattle.std.specs.Ordering.{is_lt}
 use Rattle.std.specs.List.{AllByRecursion}
 use Rattle.std.specs.List.Sorted.{IsSorted, IsPermutation}
 use Rattle.std.proofs.lemmas.Bool.{lt-ltb}
 use Rattle.std.proofs.lemmas.List.{length-map, get_or-map, get_or_default, get_or_append_left, get_or-append-add, map-append, nil_from_length}
+use Rattle.std.proofs.lemmas.Option.{slice_get-get_or}
 use Rattle.std.proofs.lemmas.List.Elements.{recursion_from_All, All-from_recursion}
 use Rattle.std.proofs.lemmas.List.Sorted.{All-permutation}
 use Rattle.db_value.specs.Marks.{marked_here}
@@ -21,6 +23,10 @@ no_record = record { key = 0; fields = [] }
 
 pub place_there : (place len : ℕ) → place < len → place_in place len ≡ place
 place_there place len h = ap (λ (b : Bool). cond b place (len - 1)) (lt-ltb place len h)
+
+-- what is read at a place is the record there
+pub record_read : (records : List Record) (i : ℕ) → i < length records → slice_get records i ≡ Some (record_at records i)
+record_read records i h = slice_get-get_or records i no_record h
 
 -- a record more leaves the rows before it
 row_stays : (records : List Record) (r : Record) (f : FoundRow) → IsThere records f → row_at (records ++ r ∷ []) f ≡ row_at records f
@@ -70,7 +76,6 @@ there_at records (g ∷ fs) (suc i) f all h = there_at records fs i f all.1 (ome
 
 pub here_is : (records : List Record) (fs : List FoundRow) (i : ℕ) (f : FoundRow) → i < length fs → row_at records (get_or fs i f) ≡ marked_here (map (row_at records) fs) i
 here_is records fs i f h =
-    let long : length (map (row_at records) fs) ≡ length fs = length-map fs (row_at records) in
     sym (get_or-map (row_at records) fs i f (record { row = no_record; positions = [] }) h)
 
 pub record_is : (records : List Record) (f : FoundRow) → IsThere records f → record_at records f.place ≡ (row_at records f).row

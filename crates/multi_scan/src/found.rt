@@ -52,6 +52,7 @@ fn place_in(place: usize, len: usize) -> usize
 }
 
 // By key, and then by fields.
+#[tactic(auto, using(crate::proofs::KeptLemmas::record_read))]
 fn compare_there(records: &Records, a: usize, b: usize) -> Ordering
     requires a { a < length records.now }
     requires b { b < length records.now }

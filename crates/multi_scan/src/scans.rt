@@ -25,13 +25,15 @@ fn run_end(found: &FoundRows, from: usize, row: &Record, other: &mut Record) -> 
     ensures from { from ≤ result }
     ensures within { result ≤ length found.now }
 {
-    for at in from..found.len() {
+    let len = found.len();
+    for at in from..len {
         found.read(at, other);
-        if *other != *row {
+        let same = *other == *row;
+        if !same {
             return at;
         }
     }
-    found.len()
+    len
 }
 
 fn push_positions(all: &mut Vec<u32>, positions: &Positions) -> Result<(), AllocError>
@@ -46,7 +48,8 @@ fn push_positions(all: &mut Vec<u32>, positions: &Positions) -> Result<(), Alloc
 
 // The positions of the rows from a place up to another one.
 fn collect(all: &mut Vec<u32>, found: &FoundRows, from: usize, to: usize) -> Result<(), AllocError>
-    requires { to ≤ length found.now }
+    requires from { from ≤ to }
+    requires within { to ≤ length found.now }
     ensures { OnOk result
         (all.new.items ≡ positions_of (take (to - from) (drop from found.now))) }
 {
@@ -105,7 +108,8 @@ fn join(alloc: Global, found: &FoundRows) -> Result<Rows, AllocError>
         marks.push(positions)?;
         at = to;
     }
-    Rows::marked(alloc, rows, marks)
+    let joined = Rows::marked(alloc, rows, marks)?;
+    Ok(joined)
 }
 
 /// The records of a relation for which a condition holds, by key, as rows of the one view.
@@ -122,7 +126,8 @@ pub fn list<V: View, L: Ledger>(
     ensures cost { steps.new ≤ steps.old + slots_of (V.parts_of view.now relation) }
 {
     let rows = list_rows(alloc, view, relation, pred, steps)?;
-    Rows::alone(alloc, rows)
+    let all = Rows::alone(alloc, rows)?;
+    Ok(all)
 }
 
 /// The records of a relation in several views for which a condition holds: each pair of key and
@@ -145,5 +150,6 @@ pub fn scan<V: View, L: Ledger>(
     let places = by_id(list_places(alloc, views, relation)?);
     let mut found = gather(alloc, views, relation, pred, &places, steps)?;
     found.sort();
-    join(alloc, &found)
+    let rows = join(alloc, &found)?;
+    Ok(rows)
 }

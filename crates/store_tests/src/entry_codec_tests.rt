@@ -1,7 +1,10 @@
 //! Entries and their bytes. The expected bytes are written by hand.
-use crate::asserts::same;
+use crate::asserts::{holds, same};
 use crate::made::{Made, entry_of};
+use db_store::Store;
+use db_value::{Entry, Schema};
 use entry_codec::{EntryStop, decode, encode};
+use plain_store::PlainStore;
 use std::alloc::Global;
 use std::test::Fail;
 
@@ -26,11 +29,26 @@ const WIDE: [u8; 38] = [
 
 const BRANCH: &[u8] = b"\x02\x03dev\x00\x00\x00\x00\x01\x00\x00\x00";
 
+// Has an entry that fits a store these bytes?
+fn has_bytes<St: Store>(
+    alloc: Global,
+    store: &St,
+    entry: &Entry,
+    bytes: &[u8],
+) -> Result<bool, Fail> {
+    if !store.fits(entry) {
+        return Err("doesn't fit".into());
+    }
+    Ok(encode(alloc, entry)?.as_slice() == bytes)
+}
+
 #[test]
 fn spells_a_commit(rt: HostRuntime) -> Result<(), Fail> {
     let alloc = rt.alloc();
+    let (schema, _) = Schema::read(alloc, b"relation items a b\nend\n")?;
+    let store = PlainStore::new(alloc, schema)?;
     let entry = entry_of(alloc, &Made::Commit(0, None, &[(0, 1, &[1, 1])]))?;
-    assert!(rt; encode(alloc, &entry)?.as_slice() == ONE.as_slice());
+    holds(&rt, "its bytes", has_bytes(alloc, &store, &entry, &ONE)?);
     Ok(())
 }
 

@@ -80,8 +80,11 @@ fn keeps_changes(rt: HostRuntime) -> Result<(), Fail> {
 fn marks_rows_and_pairs_them(rt: HostRuntime) -> Result<(), Fail> {
     let alloc = rt.alloc();
     let alone = Rows::alone(alloc, three(alloc)?)?;
-    let (first, others) = alone.positions(2);
-    same(&rt, "the one version", (first, others.len()), (0, 0));
+    same(&rt, "three rows", alone.len(), 3);
+    if alone.len() == 3 {
+        let (first, others) = alone.positions(2);
+        same(&rt, "the one version", (first, others.len()), (0, 0));
+    }
 
     let left = three(alloc)?;
     let right = three(alloc)?;

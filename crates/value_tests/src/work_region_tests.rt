@@ -1,4 +1,6 @@
 //! Frames placed, set and given back.
+ghost use Rattle.std.specs.Prelude.{◌≡◌};
+
 use crate::asserts::{holds, same};
 use crate::rows::{row, text};
 use db_value::Record;
@@ -34,38 +36,55 @@ fn hands_out_65536_frames(rt: HostRuntime) -> Result<(), Fail> {
     Ok(())
 }
 
+// The frame that a row is placed on, if one is left and the row is short enough.
+fn placed(region: &mut RowRegion, relation: u8, row: &Record) -> Option<u32>
+    requires { region.old.most ≡ 12 }
+    ensures { region.new.most ≡ 12 }
+{
+    if row.fields.packed().len() > 12 {
+        return None;
+    }
+    match region.place(relation, row, true) {
+        Ok(frame) => Some(frame),
+        Err(RegionFull) => None,
+    }
+}
+
+// Sets the first frame, if it is there and the row is short enough.
+fn set_first(region: &mut RowRegion, relation: u8, row: &Record) -> bool
+    requires { region.old.most ≡ 12 }
+{
+    if region.len() == 0 || row.fields.packed().len() > 12 {
+        return false;
+    }
+    region.set(0, relation, row, false);
+    true
+}
+
+// Is this row on a frame, and all that was told of it?
+fn is_on(region: &RowRegion, frame: u32, relation: u8, row: &Record, live: bool) -> bool {
+    if frame >= region.len() {
+        return false;
+    }
+    let mut read = Record::blank();
+    region.row(frame, &mut read);
+    read == *row
+        && region.key(frame) == row.key
+        && region.relation(frame) == relation
+        && region.is_live(frame) == live
+}
+
 #[test]
 fn rows_keep_to_their_frames(rt: HostRuntime) -> Result<(), Fail> {
     let long = row(1, &[text(b"0123456789")]);
     let short = row(2, &[text(b"")]);
     let mut region = RowRegion::take(rt.alloc(), 2, 12)?;
-    let first = region.place(3, &long, true).expect(&rt, "a first frame");
-    let second = region.place(4, &long, true).expect(&rt, "a second frame");
-    same(&rt, "frames by number", (first, second), (0, 1));
-    same(
-        &rt,
-        "a third",
-        region.place(3, &short, true).err(),
-        Some(RegionFull),
-    );
+    same(&rt, "a frame", placed(&mut region, 3, &long), Some(0));
+    same(&rt, "another one", placed(&mut region, 4, &long), Some(1));
+    same(&rt, "a third", placed(&mut region, 3, &short), None);
 
-    region.set(0, 5, &short, false);
-    let mut read = Record::blank();
-    region.row(0, &mut read);
-    holds(&rt, "the frame that was set", read == short);
-    same(
-        &rt,
-        "what it is",
-        (region.relation(0), region.is_live(0), region.key(0)),
-        (5, false, 2),
-    );
-    region.row(1, &mut read);
-    holds(&rt, "the other frame", read == long);
-    same(
-        &rt,
-        "what that is",
-        (region.relation(1), region.is_live(1)),
-        (4, true),
-    );
+    holds(&rt, "a frame is set", set_first(&mut region, 5, &short));
+    holds(&rt, "its row", is_on(&region, 0, 5, &short, false));
+    holds(&rt, "the other row", is_on(&region, 1, 4, &long, true));
     Ok(())
 }

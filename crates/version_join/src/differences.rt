@@ -55,7 +55,7 @@ fn all_unlike<V: View, L: Ledger>(
         rows.read(at, &mut row);
         keep_unlike(&mut kept, &row, right, relation, &mut other, steps)?;
     }
-    Rows::alone(alloc, kept)
+    Ok(Rows::alone(alloc, kept)?)
 }
 
 /// The records of a relation of the left view whose record in the right one is absent or different,

@@ -66,7 +66,7 @@ fn pair_rows<V: View, L: Ledger>(
             steps,
         )?;
     }
-    Pairs::of(alloc, lefts, rights)
+    Ok(Pairs::of(alloc, lefts, rights)?)
 }
 
 /// The records of relation `r` of the left view for which a condition holds, each beside the record

@@ -30,4 +30,6 @@ runs-preserved c =
     }
 
 pub returns : goal.returns
-returns c = run_all c.args.found.now (mark c.runs.rows c.runs.marks.items) c.runs.at (omega (arith, c.runs-test.false, c.len.ensures)) c.runs.invariant.runs
+returns c =
+    subst (λ (ms : List Marked). AreInOrder (joined c.args.found.now) ms) (sym c.in_ok-joined.ensures)
+    (run_all c.args.found.now (mark c.runs.rows c.runs.marks.items) c.runs.at (omega (arith, c.runs-test.false, c.len.ensures)) c.runs.invariant.runs)

@@ -1,9 +1,11 @@
 use Rattle.std.proofs.Common.{◌≤◌, List, map, sym, subst, arith}
 use Rattle.std.specs.List.{All}
 use Rattle.std.specs.List.Sorted.{IsPermutation, IsSorted}
+use Rattle.std.proofs.lemmas.List.Elements.{recursion_from_All, All-from_recursion}
+use Rattle.std.proofs.lemmas.List.Sorted.{All-permutation}
 use Rattle.db_value.specs.Pred.{pred_holds}
 use Rattle.multi_scan.specs.declared.places.Place.{Place}
-use Rattle.multi_scan.specs.Found.{AreSame, AreInOrder, joined, spread}
+use Rattle.multi_scan.specs.Found.{AreSame, HasPositions, spread}
 use Rattle.multi_scan.specs.Places.{shown, part_of, place_cmp, places_in, IsPlace, found_at_places}
 use Rattle.multi_scan.specs.Cost.{slots_of_distinct}
 use Rattle.multi_scan.proofs.Distinct.{distinct_slots}
@@ -33,13 +35,16 @@ returns-in_err-rows-clause-cost g c =
     let cost : distinct_slots (map (part_of views) c.deref.result.now) ≤ slots_of_distinct views = subst (λ (t : List Place). distinct_slots (map (part_of views) t) ≤ slots_of_distinct views) (sym c.deref.ensures.value) (scan_cost views c.requires.agree c.by_id-places.result.items moved) in
     omega (arith, cost, c.gather.ensures.cost)
 
+pub join-requires : goal.join-requires
+join-requires g c = recursion_from_All HasPositions c.sort.new.self (All-permutation HasPositions c.in_ok-found.found c.sort.new.self c.sort.ensures.permutation (All-from_recursion HasPositions c.in_ok-found.found c.in_ok-found.ensures.positions))
+
 pub returns-clause-rows : goal.returns-clause-rows
 returns-clause-rows g c =
     let views = shown g.V.View.parts_of c.args.relation c.args.views.now in
     let p = pred_holds c.args.pred.now in
     let moved : IsPermutation (places_in 0 views) c.by_id-places.result.items = subst (λ (t : List Place). IsPermutation t c.by_id-places.result.items) c.in_ok-list_places.ensures c.by_id-places.ensures.permutation in
     let same : AreSame (spread c.in_ok-found.found) (found_at_places p views c.by_id-places.result.items) = subst (λ (t : List Place). AreSame (spread c.in_ok-found.found) (found_at_places p views t)) c.deref.ensures.value c.in_ok-found.ensures.found in
-    scanned g.V.View.table g.V.View.parts_of c.args.relation p g.met.V.View.rows_are c.args.views.now c.by_id-places.result.items c.in_ok-found.found c.sort.new.found _ c.requires.relation moved same c.sort.ensures.permutation c.sort.ensures.sorted c.join.ensures
+    scanned g.V.View.table g.V.View.parts_of c.args.relation p g.met.V.View.rows_are c.args.views.now c.by_id-places.result.items c.in_ok-found.found c.sort.new.self c.in_ok-rows.rows c.requires.relation moved same c.sort.ensures.permutation c.sort.ensures.sorted c.in_ok-rows.ensures
 
 pub returns-clause-cost : goal.returns-clause-cost
 returns-clause-cost g c =

@@ -1,0 +1,24 @@
+use Rattle.std.proofs.Common.{◌≡◌, ◌∙◌, ◌++◌, ◌-◌, ℕ, List, take, drop, ap, ap₂, sym, arith}
+use Rattle.multi_scan.specs.Found.{positions_of}
+use Rattle.multi_scan.proofs.Runs.{positions_more}
+use Rattle.multi_scan.proofs.scans.collect.Goals as goal
+
+pub loop-at-init : goal.loop-at-init
+loop-at-init c = record {
+  items = c.clear.ensures.items ∙ ap (λ n. positions_of (take n (drop c.args.from c.args.found.now))) (omega arith);
+  from = omega arith;
+}
+
+pub loop-at-preserved : goal.loop-at-preserved
+loop-at-preserved c =
+    let found = c.args.found.now in
+    let from = c.loop-at.invariant.from in
+    record {
+      items = c.in_ok-push_positions.ensures.items
+          ∙ ap₂ (λ (some others : List ℕ). some ++ others) c.loop-at.invariant.items c.positions.ensures
+          ∙ sym (positions_more found c.args.from c.loop-at.at from (omega (arith, c.loop-at-test.true, c.requires.within)));
+      from = omega (arith, from);
+    }
+
+pub returns : goal.returns
+returns c = c.loop-at.invariant.items ∙ ap (λ n. positions_of (take n (drop c.args.from c.args.found.now))) (omega (arith, c.loop-at.invariant.from, c.loop-at-test.false, c.requires.from))
