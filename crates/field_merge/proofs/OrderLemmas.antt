@@ -198,7 +198,8 @@ at_meets : (ws : List ℕ) (prefer : Prefer) (base left right : Option (List Val
 at_meets ws prefer base left right l r =
     if_meets ws (same_state left right) left _ l (if_meets ws (same_state left base) right _ r (if_meets ws (same_state right base) left _ l (changed_meets ws prefer base left right l r)))
 
-own_told : (ws : List ℕ) (state : Option (List Value)) → has_widths ws state (widths_if ws state) ≡ true
+-- widths beside a state are those that a change tells
+pub own_told : (ws : List ℕ) (state : Option (List Value)) → has_widths ws state (widths_if ws state) ≡ true
 own_told ws None = refl
 own_told ws (Some fields) = bytes_same ws
 
