@@ -17,5 +17,6 @@ mod early;
 mod known;
 mod needs;
 
+pub use columns::{SetColumns, sets_of};
 pub use known::{Known, know};
 pub use needs::needs_of;
