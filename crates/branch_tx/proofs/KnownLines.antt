@@ -18,7 +18,7 @@ use Rattle.stmt_text.specs.declared.stmt.NamedSet.{NamedSet}
 use Rattle.stmt_text.specs.declared.stmt.ScanOver.{ScanOver}
 use Rattle.line_needs.specs.declared.known.Known.{Known}
 use Rattle.line_needs.specs.declared.known.Known.TheVariants.{Refused as KnownRefused, Of, With, Both}
-use Rattle.line_needs.specs.Columns.{relation_named}
+use Rattle.line_needs.specs.Columns.{relation_named, sets_at}
 use Rattle.line_needs.specs.Early.{column_refusal}
 use Rattle.line_needs.proofs.SetLemmas.{AreNumbers, resolved_numbers}
 use Rattle.line_needs.proofs.Knowing.{Stops, relation_is, known_insert, known_update, known_scan, known_join, relation_stops, insert_stops, update_stops, scan_stops, join_stops}
@@ -41,8 +41,8 @@ module _ (g : Granted) (k : Known) where
   pub insert_stopped : (name : List ℕ) (key : ℕ) (fields : List Value) → k ≡ known_in g (Insert name key fields) → ((r : ℕ) → k ≡ Of r → ⊥) → IsStopped g (Insert name key fields) k
   insert_stopped name key fields e n = stopped g (Insert name key fields) k e (insert_stops g.schema true (has_done g) name key fields (λ r f. n r (e ∙ f)))
 
-  pub update_stopped : (name : List ℕ) (key : ℕ) (named : List NamedSet) → k ≡ known_in g (Update name key named) → ((r : ℕ) (sets : List Set) → k ≡ With r sets → ⊥) → IsStopped g (Update name key named) k
-  update_stopped name key named e n = stopped g (Update name key named) k e (update_stops g.schema true (has_done g) name key named (λ r sets f. n r sets (e ∙ f)))
+  pub update_stopped : (name : List ℕ) (key : ℕ) (named : List NamedSet) → k ≡ known_in g (Update name key named) → ((r : ℕ) (columns : List ℕ) → k ≡ With r columns → ⊥) → IsStopped g (Update name key named) k
+  update_stopped name key named e n = stopped g (Update name key named) k e (update_stops g.schema true (has_done g) name key named (λ r columns f. n r columns (e ∙ f)))
 
   pub delete_stopped : (name : List ℕ) (key : ℕ) → k ≡ known_in g (Delete name key) → ((r : ℕ) → k ≡ Of r → ⊥) → IsStopped g (Delete name key) k
   delete_stopped name key e n = stopped g (Delete name key) k e (relation_stops name (relation_named g.schema name) (λ r f. n r (e ∙ f)))
@@ -83,14 +83,15 @@ module _ (g : Granted) where
         is.1,
       )
 
-  pub update_is : (name : List ℕ) (key : ℕ) (named : List NamedSet) (r : ℕ) (sets : List Set) → known_in g (Update name key named) ≡ With r sets
-      → (r < length g.schema) × (acted g (Update name key named) ≡ updated r name key sets) × AreNumbers (widths_at g.schema r) sets
-  update_is name key named r sets e =
-      let is = known_update g.schema true (has_done g) name key named r sets e in (
+  pub update_is : (name : List ℕ) (key : ℕ) (named : List NamedSet) (r : ℕ) (columns : List ℕ) → known_in g (Update name key named) ≡ With r columns
+      → (r < length g.schema) × (length columns ≡ length named) × (acted g (Update name key named) ≡ updated r name key (sets_at columns named)) × AreNumbers (widths_at g.schema r) (sets_at columns named)
+  update_is name key named r columns e =
+      let is = known_update g.schema true (has_done g) name key named r columns e in (
         named_within g.schema name r is.0,
+        is.1.0,
         ap (update_of (over_table g.head) (ground_in g) (tx_in g) name key named) is.0
-            ∙ ap (λ (s : Result (List Set) (List ℕ)). update_in (over_table g.head) (ground_in g) (tx_in g) r name key s) is.1,
-        resolved_numbers (widths_at g.schema r) (columns_at g.schema r) named sets is.1,
+            ∙ ap (λ (s : Result (List Set) (List ℕ)). update_in (over_table g.head) (ground_in g) (tx_in g) r name key s) is.1.1,
+        resolved_numbers (widths_at g.schema r) (columns_at g.schema r) named (sets_at columns named) is.1.1,
       )
 
   pub delete_is : (name : List ℕ) (key r : ℕ) → known_in g (Delete name key) ≡ Of r → (r < length g.schema) × (acted g (Delete name key) ≡ deleted r name key)

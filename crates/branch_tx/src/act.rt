@@ -10,9 +10,9 @@ use crate::look::find_row;
 use crate::refuse::{refusal_of, refused, refused_by, versions_full};
 use db_store::Store;
 use db_value::{KeptFields, Name, Record, Refusal, Reply, VersionName};
-use line_needs::Known;
+use line_needs::{Known, sets_of};
 use std::alloc::AllocError;
-use stmt_text::Stmt;
+use stmt_text::{NamedSets, Stmt};
 
 // Reads a record that is kept as a key and fields.
 fn read_row(key: u64, kept: &KeptFields, into: &mut Record)
@@ -23,8 +23,6 @@ fn read_row(key: u64, kept: &KeptFields, into: &mut Record)
 }
 
 impl<St: Store> Tx<St> {
-    ghost use Rattle.stmt_text.specs.declared.stmt.NamedSet.{NamedSet};
-
     // Inserts a record, whose fields meet the widths of the relation if it is known.
     fn insert(&mut self, known: &Known, name: Name, key: u64, kept: &KeptFields) -> Reply
         requires { known.now ≡ known_in self.old (Stmt.Insert name key kept.now) }
@@ -48,24 +46,20 @@ impl<St: Store> Tx<St> {
         }
     }
 
-    // Gives a record new values, of which contracts speak by the columns' names.
-    fn update(&mut self, known: &Known, name: Name, key: u64) -> Reply
-        requires { (named : List NamedSet)
-            × (known.now ≡ known_in self.old (Stmt.Update name key named)) }
-        ensures reply { (named : List NamedSet)
-            → known.now ≡ known_in self.old (Stmt.Update name key named)
-            → result ≡ (acted self.old (Stmt.Update name key named)).reply }
-        ensures left { (named : List NamedSet)
-            → known.now ≡ known_in self.old (Stmt.Update name key named)
-            → self.new ≡ left self.old (Stmt.Update name key named) }
+    // Gives a record new values.
+    fn update(&mut self, known: &Known, name: Name, key: u64, named: &NamedSets) -> Reply
+        requires { known.now ≡ known_in self.old (Stmt.Update name key named.now) }
+        ensures reply { result ≡ (acted self.old (Stmt.Update name key named.now)).reply }
+        ensures left { self.new ≡ left self.old (Stmt.Update name key named.now) }
     {
-        let Known::With { relation, sets } = known else {
+        let Known::With { relation, columns } = known else {
             return refused_by(known);
         };
         if self.is_full() {
             return versions_full(self.current);
         }
-        match self.work.update(*relation, key, sets) {
+        let sets = sets_of(columns, named);
+        match self.work.update(*relation, key, &sets) {
             Ok(()) => Reply::Done,
             Err(stop) => {
                 let why = refusal_of(stop, name, key, self.work.room());
@@ -186,7 +180,11 @@ impl<St: Store> Tx<St> {
                 key,
                 fields,
             } => Ok(self.insert(known, *relation, *key, fields)),
-            Stmt::Update { relation, key, .. } => Ok(self.update(known, *relation, *key)),
+            Stmt::Update {
+                relation,
+                key,
+                sets,
+            } => Ok(self.update(known, *relation, *key, sets)),
             Stmt::Delete { relation, key } => Ok(self.delete(known, *relation, *key)),
             Stmt::Get { key, at, .. } => self.get(known, *key, at),
             Stmt::Scan { over, terms, .. } => self.scan(known, over, terms),

@@ -1,5 +1,5 @@
 -- What is known of a line: it is refused exactly if it is refused early, and for the same; otherwise its names stand for what is known.
-use Rattle.std.proofs.Common.{◌≡◌, ℕ, is_some, Bool, true, false, cond, List, [], length, refl, ap, sym, ◌∙◌, Option, Some, None}
+use Rattle.std.proofs.Common.{◌≡◌, ℕ, is_some, Bool, true, false, cond, List, [], length, map, refl, ap, sym, ◌∙◌, Option, Some, None}
 use Rattle.std.specs.Prelude.{Result, Ok, Err}
 use Rattle.db_value.specs.Value.{Value}
 use Rattle.db_value.specs.Relations.{columns_at, widths_at}
@@ -16,12 +16,13 @@ use Rattle.stmt_text.specs.declared.stmt.Stmt.{Stmt}
 use Rattle.stmt_text.specs.declared.stmt.Stmt.TheVariants.{Insert, Update, Delete, Get, Scan, Join, Minus}
 use Rattle.stmt_text.specs.declared.stmt.NamedSet.{NamedSet}
 use Rattle.stmt_text.specs.declared.stmt.ScanOver.{ScanOver}
-use Rattle.line_needs.specs.Columns.{relation_named, resolved}
+use Rattle.line_needs.specs.Columns.{relation_named, resolved, resolved_columns, sets_at}
 use Rattle.line_needs.specs.Early.{relation_refusal, row_refusal, unresolved_refusal, set_refusal, column_refusal, ask_refusal, join_refusal, early_refusal, is_early}
 use Rattle.line_needs.specs.Needs.{stmt_needs, needs}
 use Rattle.line_needs.specs.declared.known.Known.{Known}
 use Rattle.line_needs.specs.declared.known.Known.TheVariants.{Refused, Of, With, Both}
-use Rattle.line_needs.specs.Known.{of_named, with_resolved, with_named, both_named, named_in, refused_or, known_of, refusal_in, is_refusal}
+use Rattle.line_needs.proofs.SetLemmas.{sets_back}
+use Rattle.line_needs.specs.Known.{of_named, with_columns, with_named, both_named, named_in, refused_or, known_of, refusal_in, is_refusal}
 
 -- ---- why it is refused
 
@@ -33,13 +34,13 @@ of_free : (o : Option ℕ) → refusal_in (of_named o) ≡ None
 of_free None = refl
 of_free (Some r) = refl
 
-resolved_free : (r : ℕ) (sets : Result (List Set) (List ℕ)) → refusal_in (with_resolved r sets) ≡ None
-resolved_free r (Err column) = refl
-resolved_free r (Ok sets) = refl
+columns_free : (r : ℕ) (columns : Result (List ℕ) (List ℕ)) → refusal_in (with_columns r columns) ≡ None
+columns_free r (Err column) = refl
+columns_free r (Ok columns) = refl
 
 with_free : (schema : List Relation) (sets : List NamedSet) (o : Option ℕ) → refusal_in (with_named schema sets o) ≡ None
 with_free schema sets None = refl
-with_free schema sets (Some r) = resolved_free r (resolved (widths_at schema r) (columns_at schema r) sets)
+with_free schema sets (Some r) = columns_free r (resolved_columns (resolved (widths_at schema r) (columns_at schema r) sets))
 
 both_free : (o p : Option ℕ) → refusal_in (both_named o p) ≡ None
 both_free None p = refl
@@ -115,20 +116,28 @@ pub known_insert : (schema : List Relation) (begun changed : Bool) (name : List 
 known_insert schema begun changed name key fields r e = row_is schema name fields (relation_named schema name) r e
 
 -- of an update
-resolved_is : (q : ℕ) (o : Result (List Set) (List ℕ)) (r : ℕ) (sets : List Set) → refused_or (unresolved_refusal o) (with_resolved q o) ≡ With r sets → (q ≡ r) × (o ≡ Ok sets)
-resolved_is q (Err column) r sets e = absurd cc
-resolved_is q (Ok own) r sets e = (cc, cc)
+resolved_is : (q : ℕ) (o : Result (List Set) (List ℕ)) (r : ℕ) (columns : List ℕ) → refused_or (unresolved_refusal o) (with_columns q (resolved_columns o)) ≡ With r columns
+    → (q ≡ r) × ((sets : List Set) × (o ≡ Ok sets) × (columns ≡ map (λ (s : Set). s.column) sets))
+resolved_is q (Err column) r columns e = absurd cc
+resolved_is q (Ok sets) r columns e = (cc, (sets, refl, cc))
 
-sets_are : (schema : List Relation) (name : List ℕ) (named : List NamedSet) (o : Option ℕ) (r : ℕ) (sets : List Set) → refused_or (set_refusal schema name named o) (with_named schema named o) ≡ With r sets
-    → (o ≡ Some r) × (resolved (widths_at schema r) (columns_at schema r) named ≡ Ok sets)
-sets_are schema name named None r sets e = absurd cc
-sets_are schema name named (Some q) r sets e =
-    let is = resolved_is q (resolved (widths_at schema q) (columns_at schema q) named) r sets e in
-    (ap Some is.0, ap (λ (n : ℕ). resolved (widths_at schema n) (columns_at schema n) named) (sym is.0) ∙ is.1)
+-- its columns are as many as its new values, which are of them
+abbrev pub AreSets : List Relation → ℕ → List NamedSet → List ℕ → Type 0
+AreSets schema r named columns = (length columns ≡ length named) × (resolved (widths_at schema r) (columns_at schema r) named ≡ Ok (sets_at columns named))
 
-pub known_update : (schema : List Relation) (begun changed : Bool) (name : List ℕ) (key : ℕ) (named : List NamedSet) (r : ℕ) (sets : List Set) → known_of schema begun changed (Update name key named) ≡ With r sets
-    → (relation_named schema name ≡ Some r) × (resolved (widths_at schema r) (columns_at schema r) named ≡ Ok sets)
-known_update schema begun changed name key named r sets e = sets_are schema name named (relation_named schema name) r sets e
+sets_are : (schema : List Relation) (name : List ℕ) (named : List NamedSet) (o : Option ℕ) (r : ℕ) (columns : List ℕ) → refused_or (set_refusal schema name named o) (with_named schema named o) ≡ With r columns
+    → (o ≡ Some r) × AreSets schema r named columns
+sets_are schema name named None r columns e = absurd cc
+sets_are schema name named (Some q) r columns e =
+    let is = resolved_is q (resolved (widths_at schema q) (columns_at schema q) named) r columns e in
+    let back = sets_back (widths_at schema q) (columns_at schema q) named is.1.0 is.1.1 in (
+      ap Some is.0,
+      (ap length is.1.2 ∙ back.0, ap (λ (n : ℕ). resolved (widths_at schema n) (columns_at schema n) named) (sym is.0) ∙ is.1.1 ∙ ap Ok (sym (ap (λ (cs : List ℕ). sets_at cs named) is.1.2 ∙ back.1))),
+    )
+
+pub known_update : (schema : List Relation) (begun changed : Bool) (name : List ℕ) (key : ℕ) (named : List NamedSet) (r : ℕ) (columns : List ℕ) → known_of schema begun changed (Update name key named) ≡ With r columns
+    → (relation_named schema name ≡ Some r) × AreSets schema r named columns
+known_update schema begun changed name key named r columns e = sets_are schema name named (relation_named schema name) r columns e
 
 -- of a statement with a condition
 column_is : (u : Option (List ℕ)) (q r : ℕ) → refused_or (column_refusal u) (Of q) ≡ Of r → (q ≡ r) × (u ≡ None)
@@ -184,16 +193,17 @@ row_stops schema name fields (Some q) n = counted_stops (meets (widths_at schema
 pub insert_stops : (schema : List Relation) (begun changed : Bool) (name : List ℕ) (key : ℕ) (fields : List Value) → ((r : ℕ) → known_of schema begun changed (Insert name key fields) ≡ Of r → ⊥) → Stops (known_of schema begun changed (Insert name key fields))
 insert_stops schema begun changed name key fields n = row_stops schema name fields (relation_named schema name) n
 
-resolved_stops : (q : ℕ) (o : Result (List Set) (List ℕ)) → ((r : ℕ) (sets : List Set) → refused_or (unresolved_refusal o) (with_resolved q o) ≡ With r sets → ⊥) → Stops (refused_or (unresolved_refusal o) (with_resolved q o))
+resolved_stops : (q : ℕ) (o : Result (List Set) (List ℕ)) → ((r : ℕ) (columns : List ℕ) → refused_or (unresolved_refusal o) (with_columns q (resolved_columns o)) ≡ With r columns → ⊥)
+    → Stops (refused_or (unresolved_refusal o) (with_columns q (resolved_columns o)))
 resolved_stops q (Err column) n = (NoColumn column, refl)
-resolved_stops q (Ok sets) n = absurd (n q sets refl)
+resolved_stops q (Ok sets) n = absurd (n q (map (λ (s : Set). s.column) sets) refl)
 
-sets_stop : (schema : List Relation) (name : List ℕ) (named : List NamedSet) (o : Option ℕ) → ((r : ℕ) (sets : List Set) → refused_or (set_refusal schema name named o) (with_named schema named o) ≡ With r sets → ⊥)
+sets_stop : (schema : List Relation) (name : List ℕ) (named : List NamedSet) (o : Option ℕ) → ((r : ℕ) (columns : List ℕ) → refused_or (set_refusal schema name named o) (with_named schema named o) ≡ With r columns → ⊥)
     → Stops (refused_or (set_refusal schema name named o) (with_named schema named o))
 sets_stop schema name named None n = (NoRelation name, refl)
 sets_stop schema name named (Some q) n = resolved_stops q (resolved (widths_at schema q) (columns_at schema q) named) n
 
-pub update_stops : (schema : List Relation) (begun changed : Bool) (name : List ℕ) (key : ℕ) (named : List NamedSet) → ((r : ℕ) (sets : List Set) → known_of schema begun changed (Update name key named) ≡ With r sets → ⊥)
+pub update_stops : (schema : List Relation) (begun changed : Bool) (name : List ℕ) (key : ℕ) (named : List NamedSet) → ((r : ℕ) (columns : List ℕ) → known_of schema begun changed (Update name key named) ≡ With r columns → ⊥)
     → Stops (known_of schema begun changed (Update name key named))
 update_stops schema begun changed name key named n = sets_stop schema name named (relation_named schema name) n
 

@@ -1,5 +1,5 @@
 -- Relations and columns by name, and new values by the numbers of their columns.
-use Rattle.std.specs.Prelude.{ℕ, ◌==◌, cond, Bool, List, [], ◌∷◌, position, Option, Some, None, Result, Ok, Err}
+use Rattle.std.specs.Prelude.{ℕ, ◌==◌, cond, Bool, List, [], ◌∷◌, map, position, Option, Some, None, Result, Ok, Err}
 use Rattle.std.proofs.Common.{get_or}
 use Rattle.db_value.specs.Text.{same}
 use Rattle.db_value.specs.Relations.{no_relation}
@@ -47,3 +47,14 @@ set_onto s (Some c) (Ok sets) = Ok (set_at c s ∷ sets)
 abbrev pub resolved : List ℕ → List (List ℕ) → List NamedSet → Result (List Set) (List ℕ)
 resolved ws columns [] = Ok []
 resolved ws columns (s ∷ ss) = set_onto s (number_named ws columns s.column) (resolved ws columns ss)
+
+-- the numbers of the columns alone
+abbrev pub resolved_columns : Result (List Set) (List ℕ) → Result (List ℕ) (List ℕ)
+resolved_columns (Err column) = Err column
+resolved_columns (Ok sets) = Ok (map (λ (s : Set). s.column) sets)
+
+-- new values of the columns with these numbers
+abbrev pub sets_at : List ℕ → List NamedSet → List Set
+sets_at [] sets = []
+sets_at (c ∷ cs) [] = []
+sets_at (c ∷ cs) (s ∷ ss) = set_at c s ∷ sets_at cs ss

@@ -2,14 +2,13 @@
 use Rattle.std.specs.Prelude.{ℕ, is_some, Bool, List, Option, Some, None, Result, Ok, Err}
 use Rattle.db_value.specs.Relations.{columns_at, widths_at}
 use Rattle.db_value.specs.declared.schema.Relation.{Relation}
-use Rattle.db_value.specs.declared.condition.Set.{Set}
 use Rattle.db_value.specs.declared.reply.Refusal.{Refusal}
 use Rattle.stmt_text.specs.declared.stmt.NamedSet.{NamedSet}
 use Rattle.stmt_text.specs.declared.stmt.Stmt.{Stmt}
 use Rattle.stmt_text.specs.declared.stmt.Stmt.TheVariants.{Insert, Update, Delete, Get, Scan, Join, Minus}
 use Rattle.line_needs.specs.declared.known.Known.{Known}
 use Rattle.line_needs.specs.declared.known.Known.TheVariants.{Refused, Plain, Of, With, Both}
-use Rattle.line_needs.specs.Columns.{relation_named, resolved}
+use Rattle.line_needs.specs.Columns.{relation_named, resolved, resolved_columns}
 use Rattle.line_needs.specs.Early.{early_refusal}
 
 -- the relation with a name, if there is one
@@ -17,15 +16,15 @@ abbrev pub of_named : Option ℕ → Known
 of_named None = Plain
 of_named (Some r) = Of r
 
--- a relation with new values by column, if each column is there
-abbrev pub with_resolved : ℕ → Result (List Set) (List ℕ) → Known
-with_resolved r (Err column) = Plain
-with_resolved r (Ok sets) = With r sets
+-- a relation with columns of it by number, if each is there
+abbrev pub with_columns : ℕ → Result (List ℕ) (List ℕ) → Known
+with_columns r (Err column) = Plain
+with_columns r (Ok columns) = With r columns
 
--- the relation with a name, and new values of its columns
+-- the relation with a name, and the columns of it that get new values
 abbrev pub with_named : List Relation → List NamedSet → Option ℕ → Known
 with_named schema sets None = Plain
-with_named schema sets (Some r) = with_resolved r (resolved (widths_at schema r) (columns_at schema r) sets)
+with_named schema sets (Some r) = with_columns r (resolved_columns (resolved (widths_at schema r) (columns_at schema r) sets))
 
 -- two relations, if both are there
 abbrev pub both_named : Option ℕ → Option ℕ → Known

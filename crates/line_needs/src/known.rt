@@ -6,9 +6,9 @@ ghost use Rattle.line_needs.specs.Columns.{relation_named};
 ghost use Rattle.line_needs.specs.Early.{relation_refusal, row_refusal, set_refusal, ask_refusal, join_refusal};
 ghost use Rattle.line_needs.specs.Known.{of_named, with_named, both_named, refused_or, known_of, is_refusal};
 
-use crate::columns::{column_count, resolve};
+use crate::columns::{SetColumns, column_count, resolve};
 use crate::early::{column_refusal, first_refusal, inside_refusal, outside_refusal};
-use db_value::{Fields, KeptFields, Name, Refusal, Schema, Sets, Term};
+use db_value::{Fields, KeptFields, Name, Refusal, Schema, Term};
 use stmt_text::{NamedSets, Stmt};
 
 /// What the schema says of a statement: why it is refused before any lock is looked at, or what its
@@ -21,8 +21,8 @@ pub enum Known {
     Plain,
     /// Its relation, which has the columns that it names.
     Of { relation: u8 },
-    /// The relation of an update, and its new values by column.
-    With { relation: u8, sets: Sets },
+    /// The relation of an update, and the columns that get new values.
+    With { relation: u8, columns: SetColumns },
     /// The relations of a join, of which the first has the columns that it names.
     Both { left: u8, right: u8 },
 }
@@ -114,7 +114,7 @@ fn know_sets(schema: &Schema, name: &Name, sets: &NamedSets) -> Known
             Err(column) => Known::Refused {
                 why: Refusal::NoColumn { column },
             },
-            Ok(sets) => Known::With { relation, sets },
+            Ok(columns) => Known::With { relation, columns },
         },
     }
 }

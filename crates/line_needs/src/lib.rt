@@ -17,6 +17,6 @@ mod early;
 mod known;
 mod needs;
 
-pub use columns::columns_of;
+pub use columns::{SetColumns, columns_of, sets_of};
 pub use known::{Known, know};
 pub use needs::needs_of;

@@ -1,5 +1,5 @@
 -- Sections, their numbers, their jobs, and lists that are interleavings of them.
-use Rattle.std.specs.Prelude.{◌≡◌, ◌⊎◌, ℕ, ◌+◌, ◌==◌, Bool, true, false, List, [], ◌∷◌, ◌++◌, cond, Option, Some, None, IfSome, slice_get}
+use Rattle.std.specs.Prelude.{◌≡◌, ◌⊎◌, ℕ, ◌+◌, ◌==◌, Bool, true, false, List, [], ◌∷◌, ◌++◌, cond, Option, Some, None, IfSome}
 use Rattle.atomic_table.specs.Seated.{TableId}
 use Rattle.db_value.specs.declared.step.Step.{Step}
 use Rattle.db_store.specs.State.{State}
@@ -12,7 +12,6 @@ use Rattle.db_core.specs.Kept.{Kept, Stands, said_step}
 use Rattle.db_core.specs.Heard.{Marked, marked_steps}
 use Rattle.db_core.specs.Accounts.{StoresGroups}
 use Rattle.db_hub.specs.Entered.{is_open_after}
-use Rattle.db_hub.specs.Rooms.{AtRoom}
 use Rattle.db_hub.specs.Seats.{AtSeat}
 use Rattle.session_run.specs.declared.run.Unfinished.{Unfinished}
 use Rattle.session_run.specs.declared.run.Unfinished.TheVariants.{Memory, PassLost}
@@ -108,14 +107,6 @@ pub record Ends {L S V P Q : Type 0} (g : Ghosts L S V P Q) (o : State) (first :
   pub steps_are : kept.steps ≡ steps
   pub stores : (groups : List (List Marked)) × StoresGroups g (opening o) (marked_steps steps) groups first last
 
--- nothing was run on the board of the room, and no seat was given
-pub record IsUnused {J : Type 0} (r : AtRoom J) : Type 0 where
-  pub issued : r.issued ≡ 0
-  pub out : r.out ≡ []
-  pub desks : r.desks ≡ []
-  pub lines : r.pen.lines ≡ []
-  pub steps : r.board.kept.steps ≡ []
-
 -- ---- numbers and jobs
 
 -- the sections' numbers, from k on, each with its session
@@ -132,14 +123,16 @@ pub record IsNamed (note : TableId) (opened : State) (first : ℕ) (numbers : Li
   pub since_none : (k : ℕ) → since k ≡ 0
   pub all_stay : stays ≡ true
 
--- a job: its seat, its last pass, and whether its section was said to the end
+-- a job: its section, its seat, its last pass, and whether the section was said to the end
 pub record AtJob : Type 0 where
+  pub section : Option Section
   pub seat : Option AtSeat
   pub last : Option AtPass
   pub whole : Bool
 
--- it has the seat of number k, ready for the section
+-- it has the section, and the seat of number k, ready for it
 pub record JobReady (k : ℕ) (section : Section) (job : AtJob) : Type 0 where
+  pub section_is : job.section ≡ Some section
   pub seat : AtSeat
   pub seat_is : job.seat ≡ Some seat
   pub number_is : seat.number ≡ k
@@ -159,13 +152,13 @@ pub record PassRan (note : TableId) (o : State) (k : ℕ) (section : Section) (w
 abbrev pub JobRan : TableId → State → ℕ → Section → AtJob → Type 0
 JobRan note o k section job = IfSome job.last (PassRan note o k section job.whole)
 
--- a job that is ready for the section at a place, whose number that is
-abbrev pub JobAt : List Section → ℕ → AtJob → Type 0
-JobAt sections k job = (s : Section) × (slice_get sections k ≡ Some s) × JobReady k s job
+-- a job may be run: it is ready for a section
+abbrev pub IsReadyJob : AtJob → Type 0
+IsReadyJob job = (k : ℕ) × (s : Section) × JobReady k s job
 
--- a job that was run, with the section at a place, whose number that is
-abbrev pub RanAt : TableId → State → List Section → ℕ → AtJob → Type 0
-RanAt note o sections k job = (s : Section) × (slice_get sections k ≡ Some s) × JobRan note o k s job
+-- it was run, whatever section it was ready for
+abbrev pub RunsJob : TableId → State → AtJob → AtJob → Type 0
+RunsJob note o old new = (k : ℕ) (s : Section) → JobReady k s old → JobRan note o k s new
 
 -- each section has a job that is ready for it, from number k on
 abbrev pub AreReady : ℕ → List Section → List AtJob → Type 0
@@ -173,6 +166,11 @@ AreReady k [] [] = Unit {0}
 AreReady k [] (j ∷ js) = ⊥
 AreReady k (s ∷ ss) [] = ⊥
 AreReady k (s ∷ ss) (j ∷ js) = JobReady k s j × AreReady (k + 1) ss js
+
+-- jobs are ready, each for a section
+pub record HaveSections (jobs : List AtJob) : Type 0 where
+  pub sections : List Section
+  pub ready : AreReady 0 sections jobs
 
 -- each section has a job that was run, from number k on
 abbrev pub AreRun : TableId → State → ℕ → List Section → List AtJob → Type 0

@@ -5,9 +5,9 @@ ghost use Rattle.history_note.specs.Shown.{new_pen};
 ghost use Rattle.db_outside.specs.Count.{counted};
 ghost use Rattle.db_core.specs.Kept.{Stands, new_kept};
 ghost use Rattle.db_core.specs.Runs.{StoresSteps};
-ghost use Rattle.session_run.specs.Runs.{HasRun, IsNew, IsInterleaving, IsBeginning, IsNamed, EndsWith, Ends};
+ghost use Rattle.session_run.specs.Runs.{HasRun, IsNew, IsInterleaving, IsBeginning, IsNamed, AreReady, EndsWith, Ends};
 
-use crate::jobs::{run_jobs, seated};
+use crate::jobs::{Jobs, run_jobs, seated};
 use crate::tie::tie_all;
 use db_core::Board;
 use db_hub::{Hub, LineBatch, LogTag, Patience, Room, Shell, Whole};
@@ -31,6 +31,48 @@ pub enum Unfinished {
     PassLost,
 }
 
+// A hub at a board, and a job for each section with its seat; or the board, where there is no memory for these.
+fn opened<St: Store, J: Log<St>, T: LogTag<J>>(
+    alloc: Global,
+    sections: Vec<Section>,
+    board: Board<St, J, T>,
+    note: Note<St>,
+    pen: Pen<St>,
+) -> Result<(Hub<St, J, T>, Jobs<St, T>), Board<St, J, T>>
+    requires sections { (length sections.items ≤ 65) × AllOwn sections.items
+        × Above 0 sections.items }
+    requires board { IsNew board.kept }
+    requires named { (note.opening ≡ board.kept.opening) × (pen ≡ new_pen note)
+        × IsNamed T.note T.opened T.first T.numbers T.since T.stays note board.kept
+        sections.items
+        × (T.log ≡ Some board.log) }
+    ensures jobs { IfOk result (λ made. AreReady 0 sections.items made.1) }
+    ensures board { IfErr result (λ b. b ≡ board) }
+{
+    let Ok(batch) = LineBatch::<St>::new(alloc) else {
+        return Err(board);
+    };
+    let mut room = Room::<St, J, T>::new(alloc, board, note, pen);
+    match seated(alloc, &mut room, sections) {
+        Err(AllocError) => {
+            let Room { board, .. } = room;
+            Err(board)
+        }
+        Ok(jobs) => {
+            let whole = Whole {
+                room: Shell { inner: room },
+                batch,
+                patience: Patience::new(),
+            };
+            let hub = Hub {
+                lock: Mutex::new(whole),
+            };
+            Ok((hub, jobs))
+        }
+    }
+}
+
+// Runs sections on a new board. It gives the board back, and tells why not all were run to their ends, if so.
 fn run_named<
     St: Store + Send + Sync,
     J: Log<St> + Send,
@@ -40,7 +82,7 @@ fn run_named<
 >(
     rt: &R,
     alloc: Global,
-    sections: &[Section],
+    sections: Vec<Section>,
     board: Board<St, J, T>,
     note: Note<St>,
     pen: Pen<St>,
@@ -50,38 +92,24 @@ where
     St::View: Send + Sync,
     St::Prepared: Send + Sync,
     St::PreparedBranch: Send + Sync,
-    requires sections { (length sections.now ≤ 65) × AllOwn sections.now × Above 0 sections.now }
+    requires sections { (length sections.items ≤ 65) × AllOwn sections.items
+        × Above 0 sections.items }
     requires board { IsNew board.kept }
     requires named { (note.opening ≡ board.kept.opening) × (pen ≡ new_pen note)
         × IsNamed T.note T.opened T.first T.numbers T.since T.stays note board.kept
-        sections.now
+        sections.items
         × (T.log ≡ Some board.log) }
     ensures ok { IfOk result (λ b. HasRun board.kept b.kept
-        × IsInterleaving board.kept.opening sections.now b.kept.steps) }
+        × IsInterleaving board.kept.opening sections.items b.kept.steps) }
     ensures err { IfErr result (λ e. HasRun board.kept e.1.kept
-        × IsBeginning e.0 board.kept.opening sections.now e.1.kept.steps) }
+        × IsBeginning e.0 board.kept.opening sections.items e.1.kept.steps) }
     ensures stored { MatchResult result
         (λ b. StoresSteps J.Log board.log b) (λ e. StoresSteps J.Log board.log e.1) }
 {
-    let Ok(batch) = LineBatch::<St>::new(alloc) else {
-        return Err((Unfinished::Memory, board));
-    };
-    let mut room = Room::<St, J, T>::new(alloc, board, note, pen);
-    match seated(alloc, &mut room, sections) {
-        Err(AllocError) => {
-            let Room { board, .. } = room;
-            Err((Unfinished::Memory, board))
-        }
-        Ok(mut jobs) => {
-            let whole = Whole {
-                room: Shell { inner: room },
-                batch,
-                patience: Patience::new(),
-            };
-            let hub = Hub {
-                lock: Mutex::new(whole),
-            };
-            run_jobs(rt, alloc, &hub, sections, &mut jobs, gate);
+    match opened(alloc, sections, board, note, pen) {
+        Err(board) => Err((Unfinished::Memory, board)),
+        Ok((hub, jobs)) => {
+            let run = run_jobs(rt, alloc, &hub, jobs, gate);
             let Hub { lock } = hub;
             let whole = lock.into_inner();
             let Whole { room: shell, .. } = whole;
@@ -92,7 +120,7 @@ where
                 mut pen,
                 ..
             } = left;
-            match tie_all(&note, &mut pen, jobs) {
+            match tie_all(&note, &mut pen, run) {
                 Err(why) => Err((why, board)),
                 Ok(()) => Ok(board),
             }
@@ -110,7 +138,7 @@ fn run_to_end<
 >(
     rt: &R,
     alloc: Global,
-    sections: &[Section],
+    sections: Vec<Section>,
     board: Board<St, J, T>,
     note: Note<St>,
     pen: Pen<St>,
@@ -120,13 +148,14 @@ where
     St::View: Send + Sync,
     St::Prepared: Send + Sync,
     St::PreparedBranch: Send + Sync,
-    requires sections { (length sections.now ≤ 65) × AllOwn sections.now × Above 0 sections.now }
+    requires sections { (length sections.items ≤ 65) × AllOwn sections.items
+        × Above 0 sections.items }
     requires board { IsNew board.kept }
     requires named { (note.opening ≡ board.kept.opening) × (pen ≡ new_pen note)
         × IsNamed T.note T.opened T.first T.numbers T.since T.stays note board.kept
-        sections.now
+        sections.items
         × (T.log ≡ Some board.log) }
-    ensures list { EndsWith result.0 board.kept.opening sections.now result.1.kept.steps }
+    ensures list { EndsWith result.0 board.kept.opening sections.items result.1.kept.steps }
     ensures ran { HasRun board.kept result.1.kept }
     ensures stored { StoresSteps J.Log board.log result.1 }
 {
@@ -151,7 +180,7 @@ fn run_new<
 >(
     rt: &R,
     alloc: Global,
-    sections: &[Section],
+    sections: Vec<Section>,
     lines: u32,
     store: St,
     log: J,
@@ -163,12 +192,14 @@ where
     St::View: Send + Sync,
     St::Prepared: Send + Sync,
     St::PreparedBranch: Send + Sync,
-    requires sections { (length sections.now ≤ 65) × AllOwn sections.now × Above 0 sections.now }
+    requires sections { (length sections.items ≤ 65) × AllOwn sections.items
+        × Above 0 sections.items }
     requires named { (note.opening ≡ St.state store) × (pen ≡ new_pen note)
         × IsNamed T.note T.opened T.first T.numbers T.since T.stays note
-        (new_kept (St.state store) (counted (J.faults log))) sections.now
+        (new_kept (St.state store) (counted (J.faults log))) sections.items
         × (T.log ≡ Some log) }
-    ensures { Ends J.Log (St.state store) log sections.now result.0 result.1 result.2.items }
+    ensures { Ends J.Log (St.state store) log sections.items result.0 result.1
+        result.2.items }
 {
     new_stands(&store);
     match Board::<St, J, T>::new(alloc, store, log) {
@@ -199,7 +230,7 @@ pub fn run_sessions<
 >(
     rt: &R,
     alloc: Global,
-    sections: &Sections,
+    sections: Sections,
     lines: u32,
     store: St,
     log: J,
@@ -209,7 +240,7 @@ where
     St::View: Send + Sync,
     St::Prepared: Send + Sync,
     St::PreparedBranch: Send + Sync,
-    ensures { Ends J.Log (St.state store) log sections.now result.0 result.1 result.2.items }
+    ensures { Ends J.Log (St.state store) log sections result.0 result.1 result.2.items }
 {
     new_stands(&store);
     match Note::new(alloc, &store) {
@@ -217,7 +248,7 @@ where
         Ok((note, pen)) => run_new::<St, J, Brand, R, G>(
             rt,
             alloc,
-            sections.as_slice(),
+            sections.into_vec(),
             lines,
             store,
             log,

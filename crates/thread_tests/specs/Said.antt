@@ -1,16 +1,8 @@
--- What a new room is, and what one line makes of a room and a seat.
+-- What one line makes of a room and a seat.
 use Rattle.std.specs.Prelude.{◌≡◌, ◌+◌, [], ◌∷◌, ℕ, length}
 use Rattle.db_core.specs.Desk.{AtDesk}
 use Rattle.db_hub.specs.Rooms.{AtRoom}
 use Rattle.db_hub.specs.Seats.{AtSeat}
-
--- nothing was run on the board of the room, and no seat was given
-pub record IsUnused {J : Type 0} (r : AtRoom J) : Type 0 where
-  pub issued : r.issued ≡ 0
-  pub out : r.out ≡ []
-  pub desks : r.desks ≡ []
-  pub lines : r.pen.lines ≡ []
-  pub steps : r.board.kept.steps ≡ []
 
 -- the room has so many steps more, and the seat of session 1 is out as before, with no line that waits
 pub record HasSaid {J : Type 0} (count : ℕ) (old new : AtRoom J) (s t : AtSeat) : Type 0 where

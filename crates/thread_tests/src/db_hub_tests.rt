@@ -4,8 +4,8 @@ ghost use Rattle.plain_store.specs.PlainStore.{state_of};
 ghost use Rattle.history_note.specs.Shown.{new_pen};
 ghost use Rattle.db_core.specs.Order.{said_of};
 ghost use Rattle.db_core.specs.Sits.{heard};
-ghost use Rattle.db_hub.specs.Rooms.{IsOut};
-ghost use Rattle.thread_tests.specs.Said.{IsUnused, HasSaid, MayLeave, HasLeft};
+ghost use Rattle.db_hub.specs.Rooms.{IsOut, IsUnused};
+ghost use Rattle.thread_tests.specs.Said.{HasSaid, MayLeave, HasLeft};
 
 use crate::asserts::holds;
 use crate::boards::{new_board, new_store};

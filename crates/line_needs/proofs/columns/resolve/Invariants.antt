@@ -1,9 +1,12 @@
 use Rattle.std.proofs.Common.{◌≡◌, ◌≤◌, drop, length}
 use Rattle.db_value.specs.Relations.{columns_at, widths_at}
-use Rattle.line_needs.specs.Columns.{resolved}
+use Rattle.line_needs.specs.Columns.{resolved, resolved_columns}
 use Rattle.line_needs.proofs.SetLemmas.{behind}
 use Rattle.line_needs.proofs.columns.resolve.Given as goal
 
--- the new values so far, no more than were read, and what the others give, are what all give
+-- the columns so far, no more than were read, and those of the others, are all
 abbrev pub invariant-loop-set : goal.invariant-loop-set
-invariant-loop-set l = (resolved (widths_at l.schema l.relation) (columns_at l.schema l.relation) l.sets ≡ behind l.all (resolved (widths_at l.schema l.relation) (columns_at l.schema l.relation) (drop l.set-index l.sets))) × (length l.all ≤ l.set-index)
+invariant-loop-set l =
+    (resolved_columns (resolved (widths_at l.schema l.relation) (columns_at l.schema l.relation) l.sets)
+        ≡ behind l.columns (resolved (widths_at l.schema l.relation) (columns_at l.schema l.relation) (drop l.set-index l.sets)))
+    × (length l.columns ≤ l.set-index)

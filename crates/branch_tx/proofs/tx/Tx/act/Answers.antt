@@ -3,9 +3,6 @@ use Rattle.std.proofs.lemmas.Result.{on_err_weaker}
 use Rattle.branch_tx.specs.Granted.{known_in, takes_memory}
 use Rattle.branch_tx.proofs.tx.Tx.act.Goals as goal
 
-pub update-requires : goal.update-requires
-update-requires g c = (c.in-Update.sets, c.requires.known ∙ ap (known_in c.args.self.now) c.in-Update.is)
-
 pub get-requires : goal.get-requires
 get-requires g c = (c.in-Get.relation, c.requires.known ∙ ap (known_in c.args.self.now) c.in-Get.is)
 

@@ -16,51 +16,60 @@ use Rattle.branch_tx.proofs.tx.Tx.update.Goals as goal
 pub returns-in_default : goal.returns-in_default
 returns-in_default g c =
     let old : Granted = c.args.self.now in
+    let s = update_stopped old c.args.known.now c.args.name c.args.key c.args.named.now c.requires c.in_default.not-With in
     record {
-      reply = λ named e.
-          let s = update_stopped old c.args.known.now c.args.name c.args.key named e c.in_default.not-With in
-          c.refused_by.ensures s.0 s.1 ∙ ap (λ (o : Outcome (List Overlay)). o.reply) (sym s.2);
-      left = λ named e. ap (with_work old) (sym (update_stopped old c.args.known.now c.args.name c.args.key named e c.in_default.not-With).2);
+      reply = c.refused_by.ensures s.0 s.1 ∙ ap (λ (o : Outcome (List Overlay)). o.reply) (sym s.2);
+      left = ap (with_work old) (sym s.2);
     }
+
+pub sets_of-sets-requires : goal.sets_of-sets-requires
+sets_of-sets-requires g c = (update_is c.args.self.now c.args.name c.args.key c.args.named.now c.in-With.relation c.in-With.columns (sym c.requires ∙ c.in-With.is)).1
 
 pub update-requires-clause-relation : goal.update-requires-clause-relation
 update-requires-clause-relation g c =
-    let there = (update_is c.args.self.now c.args.name c.args.key c.requires.0 c.in-With.relation c.in-With.sets (sym c.requires.1 ∙ c.in-With.is)).0 in
+    let there = (update_is c.args.self.now c.args.name c.args.key c.args.named.now c.in-With.relation c.in-With.columns (sym c.requires ∙ c.in-With.is)).0 in
     let wide = ap (λ (x : Granted). length x.schema) c.self.view_is in
     omega (arith, there, wide, c.self.invariant.0)
 
 pub update-requires-clause-meets : goal.update-requires-clause-meets
 update-requires-clause-meets g c =
-    let is = update_is c.args.self.now c.args.name c.args.key c.requires.0 c.in-With.relation c.in-With.sets (sym c.requires.1 ∙ c.in-With.is) in
+    let is = update_is c.args.self.now c.args.name c.args.key c.args.named.now c.in-With.relation c.in-With.columns (sym c.requires ∙ c.in-With.is) in
     let r = c.in-With.relation in
     let schema = c.self.inside.schema in
     let work = c.self.inside.work in
     let there = subst (λ (x : Granted). r < length x.schema) (sym c.self.view_is) is.0 in
-    let numbers = subst (λ (x : Granted). AreNumbers (widths_at x.schema r) c.in-With.sets) (sym c.self.view_is) is.2 in
-    let new = updated_at_meets schema work c.self.invariant.0 c.self.invariant.4 r c.args.key c.in-With.sets there numbers in
-    subst (λ (ws : List ℕ). IfSome (updated c.in-With.sets (fields_at (working_of work) r c.args.key)) (λ fields. meets ws fields ≡ true)) (sym (own_are schema work r c.self.invariant.3 c.self.invariant.0 there))
-    (fields_meet (widths_at schema r) (updated c.in-With.sets (fields_at (working_of work) r c.args.key)) new)
+    let sets = c.sets_of-sets.result in
+    let named = subst (AreNumbers (widths_at c.args.self.now.schema r)) (sym c.sets_of-sets.ensures) is.3 in
+    let numbers = subst (λ (x : Granted). AreNumbers (widths_at x.schema r) sets) (sym c.self.view_is) named in
+    let new = updated_at_meets schema work c.self.invariant.0 c.self.invariant.4 r c.args.key sets there numbers in
+    subst (λ (ws : List ℕ). IfSome (updated sets (fields_at (working_of work) r c.args.key)) (λ fields. meets ws fields ≡ true)) (sym (own_are schema work r c.self.invariant.3 c.self.invariant.0 there))
+    (fields_meet (widths_at schema r) (updated sets (fields_at (working_of work) r c.args.key)) new)
 
 pub invariant_of-self : goal.invariant_of-self
 invariant_of-self g c =
-    let is = update_is c.args.self.now c.args.name c.args.key c.requires.0 c.in-With.relation c.in-With.sets (sym c.requires.1 ∙ c.in-With.is) in
+    let is = update_is c.args.self.now c.args.name c.args.key c.args.named.now c.in-With.relation c.in-With.columns (sym c.requires ∙ c.in-With.is) in
     let r = c.in-With.relation in
     let schema = c.self.inside.schema in
     let work = c.self.inside.work in
     let there = subst (λ (x : Granted). r < length x.schema) (sym c.self.view_is) is.0 in
-    let numbers = subst (λ (x : Granted). AreNumbers (widths_at x.schema r) c.in-With.sets) (sym c.self.view_is) is.2 in
-    let new = updated_at_meets schema work c.self.invariant.0 c.self.invariant.4 r c.args.key c.in-With.sets there numbers in
-    holds_put schema c.update.result _ c.self.inside.lent.1 work c.update.new.self r c.args.key (updated c.in-With.sets (fields_at (working_of work) r c.args.key))
+    let sets = c.sets_of-sets.result in
+    let named = subst (AreNumbers (widths_at c.args.self.now.schema r)) (sym c.sets_of-sets.ensures) is.3 in
+    let numbers = subst (λ (x : Granted). AreNumbers (widths_at x.schema r) sets) (sym c.self.view_is) named in
+    let new = updated_at_meets schema work c.self.invariant.0 c.self.invariant.4 r c.args.key sets there numbers in
+    holds_put schema c.update.result _ c.self.inside.lent.1 work c.update.new.self r c.args.key (updated sets (fields_at (working_of work) r c.args.key))
     c.update.ensures.stays c.update.ensures.changed c.update.ensures.err there new c.self.invariant
 
 pub returns-then-is_full : goal.returns-then-is_full
-returns-then-is_full g c = record {
-  reply = λ named e. rw (update_is c.args.self.now c.args.name c.args.key named c.in-With.relation c.in-With.sets (sym e ∙ c.in-With.is)).1 (search rules);
-  left = λ named e. rw (update_is c.args.self.now c.args.name c.args.key named c.in-With.relation c.in-With.sets (sym e ∙ c.in-With.is)).1 (search rules);
-}
+returns-then-is_full g c =
+    let is = (update_is c.args.self.now c.args.name c.args.key c.args.named.now c.in-With.relation c.in-With.columns (sym c.requires ∙ c.in-With.is)).2 in
+    record { reply = rw is (search rules); left = rw is (search rules) }
 
 pub returns-clause-reply : goal.returns-clause-reply
-returns-clause-reply g c = λ named e. rw (update_is c.args.self.now c.args.name c.args.key named c.in-With.relation c.in-With.sets (sym e ∙ c.in-With.is)).1 (search rules)
+returns-clause-reply g c =
+    let is = (update_is c.args.self.now c.args.name c.args.key c.args.named.now c.in-With.relation c.in-With.columns (sym c.requires ∙ c.in-With.is)).2 in
+    rw is (search rules)
 
 pub returns-clause-left : goal.returns-clause-left
-returns-clause-left g c = λ named e. rw (update_is c.args.self.now c.args.name c.args.key named c.in-With.relation c.in-With.sets (sym e ∙ c.in-With.is)).1 (search rules)
+returns-clause-left g c =
+    let is = (update_is c.args.self.now c.args.name c.args.key c.args.named.now c.in-With.relation c.in-With.columns (sym c.requires ∙ c.in-With.is)).2 in
+    rw is (search rules)
