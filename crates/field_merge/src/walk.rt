@@ -1,6 +1,7 @@
 //! Three lists of records by key, walked side by side.
 ghost use Rattle.std.specs.Prelude.{◌≡◌, ◌++◌, [], ◌∷◌, drop, Ok, Some, OnOk, option_copied};
 ghost use Rattle.db_value.specs.declared.condition.Prefer.TheVariants.{Neither};
+ghost use Rattle.db_store.specs.Overlay.{change_of};
 ghost use Rattle.field_merge.specs.Merge.{change_where, clash_where, least_clash};
 ghost use Rattle.field_merge.specs.Results.{IfConflict};
 ghost use Rattle.field_merge.specs.Rows.{fields_if, row_if, told, HasKey, AreVersions};
@@ -98,6 +99,24 @@ fn least_key(sides: &Sides, at: &Places) -> Option<u64>
     )
 }
 
+// Lists a key with the record that it gets, or none.
+fn put_change(
+    relation: u8,
+    widths: &Widths,
+    key: u64,
+    row: Option<&Record>,
+    all: &mut Changes,
+) -> Result<(), AllocError>
+    requires { HasKey key (option_copied row) }
+    ensures { OnOk result (all.new ≡ all.old
+        ++ change_of widths.now relation (key, fields_if (option_copied row.entry)) ∷ []) }
+{
+    match row {
+        None => Ok(all.remove(relation, key)?),
+        Some(row) => Ok(all.put(relation, row, widths)?),
+    }
+}
+
 // Lists a key if what the merge has there differs from what left has.
 fn list_change(
     relation: u8,
@@ -114,10 +133,8 @@ fn list_change(
     if is_same(row, left) {
         return Ok(());
     }
-    match row {
-        None => Ok(all.remove(relation, key)?),
-        Some(row) => Ok(all.put(relation, row, widths)?),
-    }
+    put_change(relation, widths, key, row, all)?;
+    Ok(())
 }
 
 // Lists what a merge has at a key, or tells its conflict. The record has the key, and the fields that
