@@ -3,12 +3,10 @@ use Rattle.std.proofs.Common.{◌≡◌, ℕ, zero, suc, ◌+◌, ◌-◌, ◌<�
 use Rattle.std.specs.Prelude.{slice_get}
 use Rattle.std.specs.Ordering.{is_lt}
 use Rattle.std.specs.List.{AllByRecursion}
-use Rattle.std.specs.List.Sorted.{IsSorted, IsPermutation}
+use Rattle.std.specs.List.Sorted.{IsSorted}
 use Rattle.std.proofs.lemmas.Bool.{lt-ltb}
-use Rattle.std.proofs.lemmas.List.{length-map, get_or-map, get_or_default, get_or_append_left, get_or-append-add, map-append, nil_from_length}
+use Rattle.std.proofs.lemmas.List.{length-map, get_or-map, get_or_append_left, get_or-append-add, map-append, nil_from_length}
 use Rattle.std.proofs.lemmas.Option.{slice_get-get_or}
-use Rattle.std.proofs.lemmas.List.Elements.{recursion_from_All, All-from_recursion}
-use Rattle.std.proofs.lemmas.List.Sorted.{All-permutation}
 use Rattle.db_value.specs.Marks.{marked_here}
 use Rattle.db_value.specs.Order.{record_cmp}
 use Rattle.db_value.specs.declared.record.Record.{Record}
@@ -85,9 +83,6 @@ record_is records f h = ap (record_at records) (sym (place_there f.place (length
 
 pub none_there : (records : List Record) (a b : FoundRow) → length records ≡ 0 → Equal ≡ kept_cmp records a b
 none_there records a b none = rw (nil_from_length records none) refl
-
-pub all_shuffled : (records : List Record) (fs gs : List FoundRow) → IsPermutation fs gs → AllByRecursion (IsThere records) fs → AllByRecursion (IsThere records) gs
-all_shuffled records fs gs p all = recursion_from_All (IsThere records) gs (All-permutation (IsThere records) fs gs p (All-from_recursion (IsThere records) fs all))
 
 abbrev no_row : FoundRow
 no_row = record { place = 0; positions = [] }

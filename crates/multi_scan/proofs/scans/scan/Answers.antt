@@ -1,8 +1,6 @@
 use Rattle.std.proofs.Common.{◌≤◌, List, map, sym, subst, arith}
 use Rattle.std.specs.List.{All}
 use Rattle.std.specs.List.Sorted.{IsPermutation, IsSorted}
-use Rattle.std.proofs.lemmas.List.Elements.{recursion_from_All, All-from_recursion}
-use Rattle.std.proofs.lemmas.List.Sorted.{All-permutation}
 use Rattle.db_value.specs.Pred.{pred_holds}
 use Rattle.multi_scan.specs.declared.places.Place.{Place}
 use Rattle.multi_scan.specs.Found.{AreSame, HasPositions, spread}
@@ -10,6 +8,7 @@ use Rattle.multi_scan.specs.Places.{shown, part_of, place_cmp, places_in, IsPlac
 use Rattle.multi_scan.specs.Cost.{slots_of_distinct}
 use Rattle.multi_scan.proofs.Distinct.{distinct_slots}
 use Rattle.multi_scan.proofs.Agreeing.{places_there, scan_cost}
+use Rattle.multi_scan.proofs.Totals.{all_moved}
 use Rattle.multi_scan.proofs.Views.{scanned}
 use Rattle.multi_scan.proofs.scans.scan.Goals as goal
 
@@ -36,7 +35,7 @@ returns-in_err-rows-clause-cost g c =
     omega (arith, cost, c.gather.ensures.cost)
 
 pub join-requires : goal.join-requires
-join-requires g c = recursion_from_All HasPositions c.sort.new.self (All-permutation HasPositions c.in_ok-found.found c.sort.new.self c.sort.ensures.permutation (All-from_recursion HasPositions c.in_ok-found.found c.in_ok-found.ensures.positions))
+join-requires g c = all_moved HasPositions c.in_ok-found.found c.sort.new.self c.sort.ensures.permutation c.in_ok-found.ensures.positions
 
 pub returns-clause-rows : goal.returns-clause-rows
 returns-clause-rows g c =
