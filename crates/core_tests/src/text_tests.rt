@@ -2,7 +2,7 @@
 //! the numbers of their lines, load scripts, and a condition that no line has. Texts and sums of load
 //! scripts were made by another program.
 use crate::asserts::holds;
-use db_value::{Fields, ListOf, Name, Op, Pred, Record, Schema, Term};
+use db_value::{Fields, ListOf, Name, Op, Pred, Record, Schema, Term, Value};
 use load_maker::script_of;
 use std::alloc::Global;
 use std::test::Fail;
@@ -167,7 +167,8 @@ fn long_scripts(rt: HostRuntime) -> Result<(), Fail> {
 // Does the condition that a column `b` has at least this value hold of the row `7 10 -3`?
 fn asks(alloc: Global, value: i128) -> Result<bool, Fail> {
     let (schema, _) = Schema::read(alloc, b"relation items a b\nend\n")?;
-    let fields = Fields::of(&[10, -3]).ok_or("fields")?;
+    let values = [Value::Number { value: 10 }, Value::Number { value: -3 }];
+    let fields = Fields::of(&values).ok_or("fields")?;
     let term = Term {
         column: Name::read(b"b"),
         op: Op::AtLeast,

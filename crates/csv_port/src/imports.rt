@@ -12,7 +12,7 @@ use crate::rows::{MOST_ROWS, read_rows};
 use crate::stop::ImportStop;
 use db_core::Core;
 use db_store::Store;
-use db_value::{Name, Record, Records, Refusal, Reply, Schema};
+use db_value::{KeptFields, Name, Record, Records, Refusal, Reply, Schema};
 use entry_codec::Log;
 use std::alloc::{AllocError, Global};
 use stmt_text::{Line, Stmt};
@@ -45,6 +45,7 @@ fn run_stmt<St: Store, J: Log<St>>(core: &mut Core<St, J>, stmt: Stmt) -> Result
 
 // Inserts a row.
 fn run_insert<St: Store, J: Log<St>>(
+    alloc: Global,
     core: &mut Core<St, J>,
     relation: &Name,
     row: &Record,
@@ -54,10 +55,11 @@ fn run_insert<St: Store, J: Log<St>>(
         (λ w. RanStmt J.Log w core.old core.new (insert_row relation.now row.now) r)) }
     ensures err { OnErr result (StaysIn core.old core.new) }
 {
+    let fields = KeptFields::of(alloc, &row.fields)?;
     let stmt = Stmt::Insert {
         relation: *relation,
         key: row.key,
-        fields: row.fields,
+        fields,
     };
     let reply = run_stmt(core, stmt)?;
     Ok(reply)
@@ -99,6 +101,7 @@ fn told_by(rows: u32, reply: &Reply) -> Result<Imported, ImportStop>
 
 // Inserts rows, of which there is one at least. They are let go before the commit, which takes the most memory.
 fn import_rows<St: Store, J: Log<St>>(
+    alloc: Global,
     core: &mut Core<St, J>,
     relation: &Name,
     rows: Records,
@@ -114,18 +117,19 @@ fn import_rows<St: Store, J: Log<St>>(
 {
     let room = MOST_ROWS as u32;
     run_stmt(core, Stmt::Begin { room: Some(room) })?;
-    let mut number: u64 = 0;
-    for row in rows.as_slice() {
-        number += 1;
-        let reply = run_insert(core, relation, row)?;
-        match stop_by(number, &reply) {
+    let mut row = Record::blank();
+    let count = rows.len();
+    for at in 0..count {
+        rows.read(at, &mut row);
+        let reply = run_insert(alloc, core, relation, &row)?;
+        match stop_by(at as u64 + 1, &reply) {
             Some(stop) => return Err(stop),
             None => {}
         }
     }
     drop(rows);
     let reply = run_stmt(core, Stmt::Commit)?;
-    told_by(number as u32, &reply)
+    told_by(count as u32, &reply)
 }
 
 // The number of a relation's columns.
@@ -163,13 +167,13 @@ pub fn import<St: Store, J: Log<St>>(
     match read_rows(alloc, columns, text) {
         Err(stop) => Err(stop),
         Ok(rows) => {
-            if rows.as_slice().is_empty() {
+            if rows.len() == 0 {
                 return Ok(Imported {
                     rows: 0,
                     position: None,
                 });
             }
-            import_rows(core, relation, rows)
+            import_rows(alloc, core, relation, rows)
         }
     }
 }
