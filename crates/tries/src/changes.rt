@@ -1,14 +1,16 @@
 //! Changes of working tables, each with its answer.
-ghost use Rattle.std.specs.Prelude.{◌≡◌, ◌<◌, ℕ, length, IfOk};
+ghost use Rattle.std.specs.Prelude.{◌≡◌, ◌<◌, ◌∷◌, [], true, length, IfOk};
+ghost use Rattle.db_value.specs.Relations.{widths_at};
+ghost use Rattle.db_value.specs.declared.value.Value.TheVariants.{Number};
 ghost use Rattle.db_store.specs.State.{dataset_of};
 ghost use Rattle.db_store.specs.Dataset.{IsMade};
 ghost use Rattle.db_store.specs.Overlay.{untouched};
-ghost use Rattle.db_store.specs.Adopt.{AreAdoptable};
-ghost use Rattle.db_store.specs.WorkState.{under_of, overlays_of};
+ghost use Rattle.db_store.specs.WorkState.{overlays_of};
+ghost use Rattle.tries.specs.Changes.{HasTwoNumbers, IsOver, first_set, two_changes};
 
 use anyhow::Result;
 use db_store::{Store, View, Work, WorkStop};
-use db_value::{Change, Changes, Fields, ListOf, Record, Schema, Set, Sets, VersionPlace};
+use db_value::{Changes, Fields, Record, Schema, Set, Sets, Value, VersionPlace, Widths};
 use plain_store::PlainStore;
 use std::alloc::{AllocError, Global};
 
@@ -20,11 +22,25 @@ enum Step {
     Delete(u64),
 }
 
-// Fields of two columns.
-fn two_fields(first: i64, second: i64) -> Fields {
-    match Fields::of(&[first, second]) {
-        Some(fields) => fields,
-        None => unreachable!(),
+// Fields of two columns of numbers.
+fn two_fields(first: i64, second: i64) -> Fields
+    ensures { result ≡ Number first ∷ (Number second ∷ []) }
+{
+    let mut fields = Fields::one(&Value::Number { value: first });
+    fields.push(&Value::Number { value: second });
+    fields
+}
+
+// Has the first relation two columns of numbers?
+fn has_two_numbers(schema: &Schema) -> bool
+    ensures { result ≡ true → HasTwoNumbers schema.now }
+{
+    if schema.relations().is_empty() {
+        return false;
+    }
+    match Widths::of(&[0, 0]) {
+        None => false,
+        Some(widths) => schema.widths(0).are_same(&widths),
     }
 }
 
@@ -39,36 +55,38 @@ fn head_place<St: Store>(store: &St) -> VersionPlace
     }
 }
 
-// New values of one column.
-fn one_set() -> Sets {
+// A new value of the first column.
+fn one_set() -> Sets
+    ensures { result ≡ first_set ∷ [] }
+{
     let (column, value) = (0, 5);
     let mut sets = Sets::new();
     sets.push(Set { column, value });
     sets
 }
 
-// Changes of two keys of the first relation.
-fn two_changes(alloc: Global) -> Result<Changes, AllocError>
-    ensures { IfOk result (λ cs. (n : ℕ) → 0 < n → AreAdoptable n cs) }
+// Changes of two keys of the first relation, whose columns have these widths.
+fn two_changes(alloc: Global, widths: &Widths) -> Result<Changes, AllocError>
+    ensures { IfOk result (λ cs. cs ≡ two_changes widths.now) }
 {
-    let mut changes = Vec::new(alloc);
-    changes.push(Change {
-        relation: 0,
-        key: 1,
-        fields: Some(two_fields(1, 2)),
-    })?;
-    changes.push(Change {
-        relation: 0,
-        key: 2,
-        fields: Some(two_fields(1, 2)),
-    })?;
-    Ok(ListOf::of(changes))
+    let fields = two_fields(1, 2);
+    let mut changes = Changes::new(alloc);
+    changes.put(0, &Record { key: 1, fields }, widths)?;
+    changes.put(0, &Record { key: 2, fields }, widths)?;
+    Ok(changes)
 }
 
-// The answer to a step.
-fn take_step<V: View>(work: &mut Work<V>, step: Step, sets: &Sets) -> Result<(), WorkStop>
-    requires { 0 < length (V.table (under_of work.old)) }
-    ensures { under_of work.new ≡ under_of work.old }
+// The answer to a step of a working table over this schema.
+fn take_step<V: View>(
+    _schema: &Schema,
+    work: &mut Work<V>,
+    step: Step,
+    sets: &Sets,
+) -> Result<(), WorkStop>
+    requires schema { HasTwoNumbers _schema.now }
+    requires work { IsOver V.View _schema.now work.old }
+    requires sets { sets.now ≡ first_set ∷ [] }
+    ensures { IsOver V.View _schema.now work.new }
 {
     match step {
         Step::Insert(key) => {
@@ -82,30 +100,32 @@ fn take_step<V: View>(work: &mut Work<V>, step: Step, sets: &Sets) -> Result<(),
 
 // The answers to all steps, and to the changes of a merge in a second and a third working table.
 fn answers_of<V: View>(
+    schema: &Schema,
     work: &mut Work<V>,
     merged: &mut Work<V>,
     crowded: &mut Work<V>,
     sets: &Sets,
     changes: &Changes,
 ) -> [Result<(), WorkStop>; 12]
-    requires work { 0 < length (V.table (under_of work.old)) }
-    requires merged { (overlays_of merged.old ≡ untouched)
-        × (0 < length (V.table (under_of merged.old))) }
-    requires crowded { (overlays_of crowded.old ≡ untouched)
-        × (0 < length (V.table (under_of crowded.old))) }
-    requires changes { (n : ℕ) → 0 < n → AreAdoptable n changes.now }
+    requires schema { HasTwoNumbers schema.now }
+    requires work { IsOver V.View schema.now work.old }
+    requires merged { IsOver V.View schema.now merged.old × (overlays_of merged.old ≡ untouched) }
+    requires crowded { IsOver V.View schema.now crowded.old
+        × (overlays_of crowded.old ≡ untouched) }
+    requires sets { sets.now ≡ first_set ∷ [] }
+    requires changes { changes.now ≡ two_changes (widths_at schema.now 0) }
 {
     [
-        take_step(work, Step::Insert(1), sets),
-        take_step(work, Step::Insert(1), sets),
-        take_step(work, Step::Update(1), sets),
-        take_step(work, Step::Update(9), sets),
-        take_step(work, Step::Insert(2), sets),
-        take_step(work, Step::Delete(2), sets),
-        take_step(work, Step::Delete(2), sets),
-        take_step(work, Step::Insert(3), sets),
-        take_step(work, Step::Insert(4), sets),
-        take_step(work, Step::Insert(2), sets),
+        take_step(schema, work, Step::Insert(1), sets),
+        take_step(schema, work, Step::Insert(1), sets),
+        take_step(schema, work, Step::Update(1), sets),
+        take_step(schema, work, Step::Update(9), sets),
+        take_step(schema, work, Step::Insert(2), sets),
+        take_step(schema, work, Step::Delete(2), sets),
+        take_step(schema, work, Step::Delete(2), sets),
+        take_step(schema, work, Step::Insert(3), sets),
+        take_step(schema, work, Step::Insert(4), sets),
+        take_step(schema, work, Step::Insert(2), sets),
         merged.adopt(changes),
         crowded.adopt(changes),
     ]
@@ -130,17 +150,26 @@ fn tell_answers<R: Print>(rt: &R, answers: &[Result<(), WorkStop>; 12]) -> Resul
 }
 
 fn tell_changes<St: Store, R: Print + AllocGlobal>(rt: &R, store: &St) -> Result<()> {
-    if store.branches() == 0 || store.schema().relations().is_empty() {
+    let schema = store.schema();
+    if store.branches() == 0 || !has_two_numbers(schema) {
         return Ok(());
     }
     let alloc = rt.alloc();
-    let (sets, changes) = (one_set(), two_changes(alloc)?);
+    let sets = one_set();
+    let changes = two_changes(alloc, &schema.widths(0))?;
     let at = head_place(store);
-    let mut work = Work::over(alloc, store.view(at)?, 3)?;
-    let mut merged = Work::over(alloc, store.view(at)?, 2)?;
-    let mut crowded = Work::over(alloc, store.view(at)?, 1)?;
+    let mut work = Work::over(alloc, store.view(at)?, 3, schema)?;
+    let mut merged = Work::over(alloc, store.view(at)?, 2, schema)?;
+    let mut crowded = Work::over(alloc, store.view(at)?, 1, schema)?;
     println!(rt; "begun")?;
-    let answers = answers_of(&mut work, &mut merged, &mut crowded, &sets, &changes);
+    let answers = answers_of(
+        schema,
+        &mut work,
+        &mut merged,
+        &mut crowded,
+        &sets,
+        &changes,
+    );
     tell_answers(rt, &answers)
 }
 

@@ -3,13 +3,14 @@
 use anyhow::Result;
 use db_image::decode;
 use image_parts::ImageStop;
+use image_text::Format;
 use std::alloc::{AllocError, Global};
 use std::fs::{self, File};
 use std::rt::Files;
 
 // The place of the fault, or the greatest number of 32 bits for an image.
 fn answer(alloc: Global, bytes: &[u8]) -> Result<u32, AllocError> {
-    match decode(alloc, bytes) {
+    match decode(alloc, bytes, Format::Two) {
         Ok(_) => Ok(u32::MAX),
         Err(ImageStop::NotAnImage { at }) => Ok(u32::try_from(at).unwrap_or(u32::MAX)),
         Err(ImageStop::Memory) => Err(AllocError),
