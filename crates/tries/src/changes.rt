@@ -149,6 +149,22 @@ fn tell_answers<R: Print>(rt: &R, answers: &[Result<(), WorkStop>; 12]) -> Resul
     Ok(())
 }
 
+// A working table over the table of a place.
+fn work_over<St: Store>(
+    alloc: Global,
+    store: &St,
+    at: VersionPlace,
+    room: u32,
+) -> Result<Work<St::View>, AllocError>
+    requires { IsMade (dataset_of (St.state store.now)) at }
+    ensures over { IfOk result (λ w.
+        IsOver St.View.View (dataset_of (St.state store.now)).schema w) }
+    ensures untouched { IfOk result (λ w. overlays_of w ≡ untouched) }
+{
+    let view = store.view(at)?;
+    Work::over(alloc, view, room, store.schema())
+}
+
 fn tell_changes<St: Store, R: Print + AllocGlobal>(rt: &R, store: &St) -> Result<()> {
     let schema = store.schema();
     if store.branches() == 0 || !has_two_numbers(schema) {
@@ -158,9 +174,9 @@ fn tell_changes<St: Store, R: Print + AllocGlobal>(rt: &R, store: &St) -> Result
     let sets = one_set();
     let changes = two_changes(alloc, &schema.widths(0))?;
     let at = head_place(store);
-    let mut work = Work::over(alloc, store.view(at)?, 3, schema)?;
-    let mut merged = Work::over(alloc, store.view(at)?, 2, schema)?;
-    let mut crowded = Work::over(alloc, store.view(at)?, 1, schema)?;
+    let mut work = work_over(alloc, store, at, 3)?;
+    let mut merged = work_over(alloc, store, at, 2)?;
+    let mut crowded = work_over(alloc, store, at, 1)?;
     println!(rt; "begun")?;
     let answers = answers_of(
         schema,
