@@ -1,5 +1,5 @@
 //! The rows of a text, inserted in one transaction of session 1.
-ghost use Rattle.std.specs.Prelude.{◌≡◌, ◌≤◌, ◌<◌, [], true, Ok, IfOk, IfErr, IfSome, OnOk, OnErr, length};
+ghost use Rattle.std.specs.Prelude.{◌≡◌, ◌≤◌, ◌<◌, true, Ok, IfOk, IfErr, IfSome, OnOk, OnErr, length};
 ghost use Rattle.db_value.specs.Text.{is_name};
 ghost use Rattle.db_core.specs.Order.{opening};
 ghost use Rattle.db_core.specs.Cores.{StandsIn, InEach, StaysIn};

@@ -1,5 +1,5 @@
 -- Working tables whose rows meet their widths, after a change.
-use Rattle.std.proofs.Common.{◌≡◌, ◌∙◌, ◌<◌, ◌&&◌, ℕ, pos, true, Bool, List, [], ◌∷◌, length, Option, Some, None, sym, ap, refl, subst, arith}
+use Rattle.std.proofs.Common.{◌≡◌, ◌∙◌, ◌<◌, ◌&&◌, ℕ, pos, true, Bool, List, [], ◌∷◌, length, Option, Some, sym, ap, refl, subst, arith}
 use Rattle.std.specs.Prelude.{Result, Ok, Err, OnOk, OnErr, IfOk, IfSome}
 use Rattle.std.specs.List.{list_all}
 use Rattle.std.proofs.lemmas.Bool.{lt-ltb}
@@ -9,7 +9,6 @@ use Rattle.db_value.specs.Relations.{widths_at}
 use Rattle.db_value.specs.declared.value.Value.TheVariants.{Number}
 use Rattle.db_value.specs.declared.schema.Relation.{Relation}
 use Rattle.db_value.specs.declared.condition.Set.{Set}
-use Rattle.db_value.specs.declared.entry.Change.{Change}
 use Rattle.db_store.specs.declared.view.View.{Ghosts}
 use Rattle.db_store.specs.declared.work.Work.{Work}
 use Rattle.db_store.specs.Overlay.{Overlay, own_widths, laid, touch, untouched}

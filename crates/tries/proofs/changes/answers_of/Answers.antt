@@ -1,4 +1,4 @@
-use Rattle.std.proofs.Common.{◌≡◌, ◌<◌, List, length, sym, subst, true, arith}
+use Rattle.std.proofs.Common.{◌≡◌, List, length, sym, subst, true, arith}
 use Rattle.std.specs.List.{list_all}
 use Rattle.db_value.specs.Relations.{widths_at}
 use Rattle.db_value.specs.declared.entry.Change.{Change}
