@@ -9,8 +9,8 @@ use Rattle.csv_port.proofs.written.push_rows.Goals as goal
 pub loop-at-preserved : goal.loop-at-preserved
 loop-at-preserved c =
     let rows = c.args.rows.now in
-    let here = item_here rows c.loop-at.at c.read.new.row c.read.ensures in
-    next_part row_text c.loop-at.out.items _ _ c.read.new.row (drop c.loop-at.at rows) _ here c.in_ok-push_row.ensures c.loop-at.invariant
+    let here = item_here rows c.loop-at.at c.read.new.into c.read.ensures in
+    next_part row_text c.loop-at.out.items _ _ c.read.new.into (drop c.loop-at.at rows) _ here c.in_ok-push_row.ensures c.loop-at.invariant
 
 pub returns : goal.returns
 returns c =

@@ -12,7 +12,7 @@ insert-requires-clause-meets g c = row_meets c.args._schema.now c.requires.schem
 
 pub returns-in-Insert : goal.returns-in-Insert
 returns-in-Insert g c =
-    over_put c.args._schema.now c.requires.schema c.insert.result c.args.work.now c.insert.new.work c.in-Insert.key (Some c.two_fields-fields.result) c.insert.ensures.stays c.insert.ensures.changed c.insert.ensures.err
+    over_put c.args._schema.now c.requires.schema c.insert.result c.args.work.now c.insert.new.self c.in-Insert.key (Some c.two_fields-fields.result) c.insert.ensures.stays c.insert.ensures.changed c.insert.ensures.err
     (row_fits c.args._schema.now c.requires.schema c.two_fields-fields.result c.two_fields-fields.ensures) c.requires.work
 
 pub update-requires-clause-relation : goal.update-requires-clause-relation
@@ -23,11 +23,11 @@ update-requires-clause-meets g c = set_meets c.args._schema.now c.requires.schem
 
 pub returns-in-Update : goal.returns-in-Update
 returns-in-Update g c =
-    over_put c.args._schema.now c.requires.schema c.update.result c.args.work.now c.update.new.work c.in-Update.key (updated c.args.sets.now (fields_at (working_of c.args.work.now) 0 c.in-Update.key)) c.update.ensures.stays c.update.ensures.changed c.update.ensures.err
+    over_put c.args._schema.now c.requires.schema c.update.result c.args.work.now c.update.new.self c.in-Update.key (updated c.args.sets.now (fields_at (working_of c.args.work.now) 0 c.in-Update.key)) c.update.ensures.stays c.update.ensures.changed c.update.ensures.err
     (set_fits c.args._schema.now c.requires.schema c.args.work.now c.in-Update.key c.args.sets.now c.requires.work c.requires.sets) c.requires.work
 
 pub delete-requires : goal.delete-requires
 delete-requires g c = omega (arith, c.requires.schema.0, c.requires.work.wide)
 
 pub returns : goal.returns
-returns g c = over_put c.args._schema.now c.requires.schema c.delete.result c.args.work.now c.delete.new.work c.in-Delete.key None c.delete.ensures.stays c.delete.ensures.changed c.delete.ensures.err refl c.requires.work
+returns g c = over_put c.args._schema.now c.requires.schema c.delete.result c.args.work.now c.delete.new.self c.in-Delete.key None c.delete.ensures.stays c.delete.ensures.changed c.delete.ensures.err refl c.requires.work
