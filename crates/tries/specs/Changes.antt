@@ -17,7 +17,7 @@ abbrev pub HasTwoNumbers : List Relation → Type 0
 HasTwoNumbers schema = (0 < length schema) × (widths_at schema 0 ≡ 0 ∷ 0 ∷ [])
 
 -- a working table has the widths of a schema, and its rows meet them
-pub record IsOver {V : Type 0} (g : Ghosts V) (schema : List Relation) (w : Work V g) : Type 0 where
+pub record IsOver {V : Type 0} {g : Ghosts V} (schema : List Relation) (w : Work V g) : Type 0 where
   pub wide : length (g.table (under_of w)) ≡ length schema
   pub widths : widths_of w ≡ all_widths schema
   pub met : AreMet schema (laid (g.table (under_of w)) (overlays_of w))

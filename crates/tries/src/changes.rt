@@ -84,9 +84,9 @@ fn take_step<V: View>(
     sets: &Sets,
 ) -> Result<(), WorkStop>
     requires schema { HasTwoNumbers _schema.now }
-    requires work { IsOver V.View _schema.now work.old }
+    requires work { IsOver _schema.now work.old }
     requires sets { sets.now ≡ first_set ∷ [] }
-    ensures { IsOver V.View _schema.now work.new }
+    ensures { IsOver _schema.now work.new }
 {
     match step {
         Step::Insert(key) => {
@@ -108,9 +108,9 @@ fn answers_of<V: View>(
     changes: &Changes,
 ) -> [Result<(), WorkStop>; 12]
     requires schema { HasTwoNumbers schema.now }
-    requires work { IsOver V.View schema.now work.old }
-    requires merged { IsOver V.View schema.now merged.old × (overlays_of merged.old ≡ untouched) }
-    requires crowded { IsOver V.View schema.now crowded.old
+    requires work { IsOver schema.now work.old }
+    requires merged { IsOver schema.now merged.old × (overlays_of merged.old ≡ untouched) }
+    requires crowded { IsOver schema.now crowded.old
         × (overlays_of crowded.old ≡ untouched) }
     requires sets { sets.now ≡ first_set ∷ [] }
     requires changes { changes.now ≡ two_changes (widths_at schema.now 0) }
@@ -158,7 +158,7 @@ fn work_over<St: Store>(
 ) -> Result<Work<St::View>, AllocError>
     requires { IsMade (dataset_of (St.state store.now)) at }
     ensures over { IfOk result (λ w.
-        IsOver St.View.View (dataset_of (St.state store.now)).schema w) }
+        IsOver (dataset_of (St.state store.now)).schema w) }
     ensures untouched { IfOk result (λ w. overlays_of w ≡ untouched) }
 {
     let view = store.view(at)?;
