@@ -18,7 +18,7 @@ use Rattle.db_store.specs.Sound.{IsSound}
 use Rattle.db_store.specs.Counted.{IsCounted}
 use Rattle.db_store.specs.Fits.{fits, ascends, change_fits, has_fields, has_widths, changes_fit, second_fits, most_branches, most_versions}
 use Rattle.db_store.specs.Growth.{CommitFits, commit_parts, made_from}
-use Rattle.entry_codec.specs.Spelling.{are_met, is_met, HasMetChanges}
+use Rattle.entry_codec.specs.Spelling.{are_met, is_met, HasFewChanges, HasMetChanges}
 use Rattle.entry_codec.specs.Laws.{IsPlace, IsPlaceIfAny, AreValuesIfAny, AreFields, IsChange, AreChanges, AreRanged, HasRanges, IsNamed, IsEntry, FittingLaw}
 
 -- the widths of a change are those of its relation
@@ -59,6 +59,13 @@ changes_met schema (c ∷ cs) all =
 pub met_fit : (d : Dataset) (e : Entry) → fits d e ≡ true → HasMetChanges e
 met_fit d (Commit b second changes) fit = changes_met d.schema changes (and_parts (nat_le (length changes) 65536 && ascends changes) (list_all (change_fits d.schema) changes) (commit_parts d b second changes fit).changes).1
 met_fit d (Branch name origin) fit = tt
+
+-- and an entry that fits has few changes
+pub few_fit : (d : Dataset) (e : Entry) → fits d e ≡ true → HasFewChanges e
+few_fit d (Commit b second changes) fit =
+    let p = commit_parts d b second changes fit in
+    leb-true _ _ (and_parts _ _ (and_parts _ _ p.changes).0).0
+few_fit d (Branch name origin) fit = tt
 
 place_is : (d : Dataset) (at : VersionPlace) → IsSound d → IsMade d at → IsPlace at
 place_is d at s m = (omega (arith, m.0, s.few_branches), omega (arith, m.1, s.few_versions at.branch m.0))
