@@ -67,13 +67,6 @@ follows_all s es b is = record { some = is.some; few = is.few; entries = es; rea
 pub not_full : {T : Type 0} (r : Result T BatchStop) (x : T) → r ≡ Ok x → (n : ℕ) → (IsErrOf r Full ↔ (most_body < n)) → n ≤ most_body
 not_full r x e n full = ⊎_elim (λ lt. absurd (cc (sym e ∙ full.1 lt))) (λ le. le) (cases_lt most_body n)
 
--- an entry that fits has few changes
-pub few_fit : (d : Dataset) (e : Entry) → fits d e ≡ true → HasFewChanges e
-few_fit d (Commit b second changes) fit =
-    let p = commit_parts d b second changes fit in
-    leb-true _ _ (and_parts _ _ (and_parts _ _ p.changes).0).0
-few_fit d (Branch name origin) fit = tt
-
 -- ---- what a log does for a batch
 
 module _

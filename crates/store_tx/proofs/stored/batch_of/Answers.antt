@@ -1,8 +1,8 @@
 use Rattle.std.proofs.Common.{◌+◌, ap, length, arith}
 use Rattle.std.proofs.lemmas.List.{length-append}
 use Rattle.db_store.specs.State.{dataset_of}
-use Rattle.entry_codec.proofs.Fitting.{met_fit}
-use Rattle.store_tx.proofs.Storing.{few_fit, not_full}
+use Rattle.entry_codec.proofs.Fitting.{few_fit, met_fit}
+use Rattle.store_tx.proofs.Storing.{not_full}
 use Rattle.store_tx.proofs.stored.batch_of.Goals as goal
 
 pub encode-requires-clause-few : goal.encode-requires-clause-few
