@@ -1,8 +1,8 @@
-use Rattle.std.proofs.Common.{◌≡◌, ◌∙◌, ◌+◌, ◌-◌, ◌++◌, ◌∷◌, [], ℕ, List, length, drop, refl, ap, ap₂, sym, subst, arith, length-append}
-use Rattle.db_value.specs.Marks.{mark, marked_here}
+use Rattle.std.proofs.Common.{◌≡◌, ◌∙◌, ◌++◌, ◌∷◌, [], ℕ, List, length, refl, ap, ap₂, sym, subst, arith, length-append}
+use Rattle.db_value.specs.Marks.{mark}
 use Rattle.db_value.specs.declared.record.Record.{Record}
 use Rattle.db_value.specs.declared.record.Marked.{Marked}
-use Rattle.multi_scan.specs.Found.{run_length, joined, AreInOrder}
+use Rattle.multi_scan.specs.Found.{joined, AreInOrder}
 use Rattle.multi_scan.proofs.Runs.{run_at, run_all, mark_more}
 use Rattle.multi_scan.proofs.scans.join.Goals as goal
 
