@@ -48,9 +48,9 @@ both_taken us vs ws us2 vs2 ws2 a b c f k = λ xs ys zs s.
     let h : IsSplit ((xs ++ us) ++ us2) ((ys ++ vs) ++ vs2) ((zs ++ ws) ++ ws2) c = k (xs ++ us) (ys ++ vs) (zs ++ ws) (f xs ys zs s) in
     record {
       common = h.common;
-      of_base = subst (λ (l : List Record). IsPermutation l (c.base.items ++ h.common)) (append_assoc xs us us2) h.of_base;
-      of_left = subst (λ (l : List Record). IsPermutation l (c.left.items ++ h.common)) (append_assoc ys vs vs2) h.of_left;
-      of_right = subst (λ (l : List Record). IsPermutation l (c.right.items ++ h.common)) (append_assoc zs ws ws2) h.of_right;
+      of_base = subst (λ (l : List Record). IsPermutation l (c.base ++ h.common)) (append_assoc xs us us2) h.of_base;
+      of_left = subst (λ (l : List Record). IsPermutation l (c.left ++ h.common)) (append_assoc ys vs vs2) h.of_left;
+      of_right = subst (λ (l : List Record). IsPermutation l (c.right ++ h.common)) (append_assoc zs ws ws2) h.of_right;
     }
 
 pub taken_as : {A E : Type 0} (result : Result A E) (us vs ws us2 vs2 ws2 : List Record) (a b : Sides) → us ≡ us2 → vs ≡ vs2 → ws ≡ ws2 → OnOk result (Takes us vs ws a b) → OnOk result (Takes us2 vs2 ws2 a b)
@@ -86,9 +86,9 @@ split_more xs ys zs us vs ws xs2 ys2 zs2 a b e d f t s =
     let h : IsSplit (xs ++ us) (ys ++ vs) (zs ++ ws) b = t xs ys zs s in
     record {
       common = h.common;
-      of_base = subst (λ (l : List Record). IsPermutation l (b.base.items ++ h.common)) e h.of_base;
-      of_left = subst (λ (l : List Record). IsPermutation l (b.left.items ++ h.common)) d h.of_left;
-      of_right = subst (λ (l : List Record). IsPermutation l (b.right.items ++ h.common)) f h.of_right;
+      of_base = subst (λ (l : List Record). IsPermutation l (b.base ++ h.common)) e h.of_base;
+      of_left = subst (λ (l : List Record). IsPermutation l (b.left ++ h.common)) d h.of_left;
+      of_right = subst (λ (l : List Record). IsPermutation l (b.right ++ h.common)) f h.of_right;
     }
 
 -- the same in another order
@@ -141,9 +141,9 @@ slots_more ss ts us n a b c h k l f e = λ xs ys zs s.
     let one = both_taken _ _ _ _ _ _ a b c f e xs ys zs s in
     record {
       common = one.common;
-      of_base = subst (λ (rows : List Record). IsPermutation (xs ++ rows) (c.base.items ++ one.common)) (slot_more ss n h) one.of_base;
-      of_left = subst (λ (rows : List Record). IsPermutation (ys ++ rows) (c.left.items ++ one.common)) (slot_more ts n k) one.of_left;
-      of_right = subst (λ (rows : List Record). IsPermutation (zs ++ rows) (c.right.items ++ one.common)) (slot_more us n l) one.of_right;
+      of_base = subst (λ (rows : List Record). IsPermutation (xs ++ rows) (c.base ++ one.common)) (slot_more ss n h) one.of_base;
+      of_left = subst (λ (rows : List Record). IsPermutation (ys ++ rows) (c.left ++ one.common)) (slot_more ts n k) one.of_left;
+      of_right = subst (λ (rows : List Record). IsPermutation (zs ++ rows) (c.right ++ one.common)) (slot_more us n l) one.of_right;
     }
 
 pub all_slots : (ss ts us : List (Record × Bool)) (n : ℕ) (a b : Sides) → length ss ≤ n → length ts ≤ n → length us ≤ n
@@ -166,20 +166,20 @@ module _ (bs ls rs : List Part) (t : Taken) (a b : Sides) (so_far : IsSplitAt bs
   abbrev zs : List Record
   zs = rows_in (take t.right rs)
 
-  pub base_part : t.base < length bs → b.base.items ≡ a.base.items ++ live_rows (part_at bs t.base).slots → b.left.items ≡ a.left.items → b.right.items ≡ a.right.items
+  pub base_part : t.base < length bs → b.base ≡ a.base ++ live_rows (part_at bs t.base).slots → b.left ≡ a.left → b.right ≡ a.right
       → IsSplit (rows_in (take (t.base + 1) bs)) (rows_in (take t.left ls)) (rows_in (take t.right rs)) b
   base_part h e d f = split_more xs ys zs (live_rows (part_at bs t.base).slots) [] [] _ _ _ a b (part_more bs t.base h) (append-nil ys) (append-nil zs)
-      (grown (live_rows (part_at bs t.base).slots) [] [] a b e (d ∙ same_rows a.left.items) (f ∙ same_rows a.right.items)) so_far
+      (grown (live_rows (part_at bs t.base).slots) [] [] a b e (d ∙ same_rows a.left) (f ∙ same_rows a.right)) so_far
 
-  pub left_part : t.left < length ls → b.base.items ≡ a.base.items → b.left.items ≡ a.left.items ++ live_rows (part_at ls t.left).slots → b.right.items ≡ a.right.items
+  pub left_part : t.left < length ls → b.base ≡ a.base → b.left ≡ a.left ++ live_rows (part_at ls t.left).slots → b.right ≡ a.right
       → IsSplit (rows_in (take t.base bs)) (rows_in (take (t.left + 1) ls)) (rows_in (take t.right rs)) b
   left_part h e d f = split_more xs ys zs [] (live_rows (part_at ls t.left).slots) [] _ _ _ a b (append-nil xs) (part_more ls t.left h) (append-nil zs)
-      (grown [] (live_rows (part_at ls t.left).slots) [] a b (e ∙ same_rows a.base.items) d (f ∙ same_rows a.right.items)) so_far
+      (grown [] (live_rows (part_at ls t.left).slots) [] a b (e ∙ same_rows a.base) d (f ∙ same_rows a.right)) so_far
 
-  pub right_part : t.right < length rs → b.base.items ≡ a.base.items → b.left.items ≡ a.left.items → b.right.items ≡ a.right.items ++ live_rows (part_at rs t.right).slots
+  pub right_part : t.right < length rs → b.base ≡ a.base → b.left ≡ a.left → b.right ≡ a.right ++ live_rows (part_at rs t.right).slots
       → IsSplit (rows_in (take t.base bs)) (rows_in (take t.left ls)) (rows_in (take (t.right + 1) rs)) b
   right_part h e d f = split_more xs ys zs [] [] (live_rows (part_at rs t.right).slots) _ _ _ a b (append-nil xs) (append-nil ys) (part_more rs t.right h)
-      (grown [] [] (live_rows (part_at rs t.right).slots) a b (e ∙ same_rows a.base.items) (d ∙ same_rows a.left.items) f) so_far
+      (grown [] [] (live_rows (part_at rs t.right).slots) a b (e ∙ same_rows a.base) (d ∙ same_rows a.left) f) so_far
 
   pub shared_part : t.base < length bs → t.left < length ls → t.right < length rs
       → Takes (live_rows (part_at bs t.base).slots) (live_rows (part_at ls t.left).slots) (live_rows (part_at rs t.right).slots) a b

@@ -47,7 +47,7 @@ fn read_first(rows: &Records, at: usize, key: u64, into: &mut Record) -> bool
 
 // The record, if it was read.
 fn row_if(read: bool, row: &Record) -> Option<&Record>
-    ensures { option_copied result.entry ≡ row_if read row.now }
+    ensures { option_copied result ≡ row_if read row.now }
 {
     if read { Some(row) } else { None }
 }

@@ -1,12 +1,10 @@
-use Rattle.std.proofs.Common.{◌≡◌, ◌++◌, ap, sym, ◌∙◌, subst, List, ℕ, [], OnOk, arith}
-use Rattle.db_value.specs.Relations.{widths_at}
+use Rattle.std.proofs.Common.{◌≡◌, ◌++◌, ap, sym, ◌∙◌, subst, List, ℕ, [], OnOk}
 use Rattle.db_value.specs.declared.entry.Change.{Change}
 use Rattle.db_store.specs.Table.{relation_at}
 use Rattle.db_store.specs.Overlay.{own_widths}
 use Rattle.db_store.specs.RowWidths.{all_widths}
 use Rattle.db_store.proofs.WidthLemmas.{widths_here}
 use Rattle.field_merge.specs.Merge.{Clash, least_clash, relation_changes}
-use Rattle.field_merge.specs.Walk.{record_changes}
 use Rattle.field_merge.proofs.UnsharedLemmas.{unshared_sides, changes_same, clashes_same}
 use Rattle.field_merge.proofs.tables.merge_relation.Goals as goal
 

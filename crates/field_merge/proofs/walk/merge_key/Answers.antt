@@ -12,8 +12,8 @@ use Rattle.field_merge.proofs.PreferLemmas.{clash_asked}
 use Rattle.field_merge.proofs.walk.merge_key.Goals as goal
 
 -- what was read is what stands in front
-pub merge3-requires : goal.merge3-requires
-merge3-requires c =
+pub merge3-merged-requires : goal.merge3-merged-requires
+merge3-merged-requires c =
     let key = c.args.key in
     let sides = c.args.sides.now in
     let at = c.args.at.now in

@@ -4,10 +4,12 @@ use Rattle.multi_scan.proofs.Runs.{positions_more}
 use Rattle.multi_scan.proofs.scans.collect.Goals as goal
 
 pub loop-at-init : goal.loop-at-init
-loop-at-init c = record {
-  items = c.clear.ensures.items ∙ ap (λ n. positions_of (take n (drop c.args.from c.args.found.now))) (omega arith);
-  from = omega arith;
-}
+loop-at-init c =
+    let none : 0 ≡ c.args.from - c.args.from = omega arith in
+    record {
+      items = c.clear.ensures.items ∙ ap (λ n. positions_of (take n (drop c.args.from c.args.found.now))) none;
+      from = omega arith;
+    }
 
 pub loop-at-preserved : goal.loop-at-preserved
 loop-at-preserved c =
@@ -21,4 +23,6 @@ loop-at-preserved c =
     }
 
 pub returns : goal.returns
-returns c = c.loop-at.invariant.items ∙ ap (λ n. positions_of (take n (drop c.args.from c.args.found.now))) (omega (arith, c.loop-at.invariant.from, c.loop-at-test.false, c.requires.from))
+returns c =
+    let all : c.loop-at.at - c.args.from ≡ c.args.to - c.args.from = omega (arith, c.loop-at.invariant.from, c.loop-at-test.false, c.requires.from) in
+    c.loop-at.invariant.items ∙ ap (λ n. positions_of (take n (drop c.args.from c.args.found.now))) all

@@ -1,8 +1,7 @@
-use Rattle.std.proofs.Common.{◌≡◌, ◌∙◌, ◌+◌, ◌-◌, true, false, drop, ap, sym, arith}
+use Rattle.std.proofs.Common.{◌≡◌, ◌∙◌, true, false, ap, sym, arith}
 use Rattle.db_value.specs.Marks.{marked_here}
 use Rattle.db_value.specs.Order.{record_eq}
 use Rattle.db_value.specs.declared.record.Record.{Record}
-use Rattle.multi_scan.specs.Found.{run_length}
 use Rattle.multi_scan.proofs.Runs.{same_more, other_here, none_left}
 use Rattle.multi_scan.proofs.scans.run_end.Goals as goal
 

@@ -1,4 +1,4 @@
-use Rattle.std.proofs.Common.{◌≡◌, ◌∙◌, ◌++◌, ◌∷◌, [], List, ap, sym, append-nil}
+use Rattle.std.proofs.Common.{◌∙◌, ◌++◌, List, ap, sym, append-nil}
 use Rattle.db_value.specs.declared.record.Record.{Record}
 use Rattle.db_store.specs.Table.{Contents, relation_at}
 use Rattle.version_join.proofs.JoinLemmas.{unlike_absent, unlike_same, unlike_other}

@@ -1,4 +1,4 @@
-use Rattle.std.proofs.Common.{◌≡◌, ◌+◌, ◌∙◌, ◌++◌, ◌∷◌, [], List, ap, ap₂, sym, arith, length, append-nil, length-append}
+use Rattle.std.proofs.Common.{◌∙◌, ◌++◌, List, ap, ap₂, sym, append-nil}
 use Rattle.std.specs.FinMap as finite
 use Rattle.db_value.specs.Pairs.{paired}
 use Rattle.db_value.specs.declared.record.Record.{Record}

@@ -1,4 +1,4 @@
-use Rattle.std.proofs.Common.{◌≡◌, ◌∙◌, ◌<◌, List, length, ap, arith}
+use Rattle.std.proofs.Common.{◌∙◌, ◌<◌, List, length, ap, arith}
 use Rattle.std.proofs.lemmas.List.{length-map}
 use Rattle.db_value.specs.Marks.{marked_here}
 use Rattle.db_value.specs.declared.record.Marked.{Marked}

@@ -1,9 +1,8 @@
-use Rattle.std.proofs.Common.{◌≡◌, ◌∙◌, ◌<◌, List, length, ap, sym, subst, arith}
+use Rattle.std.proofs.Common.{◌∙◌, ◌<◌, List, length, ap, sym, subst, arith}
 use Rattle.std.proofs.lemmas.List.{length-map}
 use Rattle.std.proofs.lemmas.Option.{get_or_from_slice_get}
 use Rattle.db_value.specs.Marks.{marked_here}
 use Rattle.db_value.specs.declared.record.Marked.{Marked}
-use Rattle.multi_scan.specs.declared.found.FoundRow.{FoundRow}
 use Rattle.multi_scan.specs.Kept.{row_at, IsThere}
 use Rattle.multi_scan.proofs.KeptLemmas.{there_at, here_is, record_is, no_record}
 use Rattle.multi_scan.proofs.found.FoundRows.read.Goals as goal
