@@ -67,6 +67,10 @@ columns_wide format (suc k) s b x all e =
     let o = one_column format s b a.0 a.1 in
     columns_wide format k a.0.0 a.0.1 x (subst (λ (cs : List Column). list_all (λ c. is_width c.width) cs ≡ true) (sym o.1) (wide_more s o.0 all o.2)) a.2
 
+-- columns of these widths, as many as were counted, are a relation's
+pub columns_are : (name : List ℕ) (columns : List Column) (n : ℕ) → length columns ≡ n → nat_lt 0 n ≡ true → nat_le n 15 ≡ true → list_all (λ c. is_width c.width) columns ≡ true → has_columns (record { name = name; columns = columns }) ≡ true
+columns_are name columns n count some few wide = rw (count, some, few, wide) refl
+
 -- one relation more, of one to 15 columns
 pub one_relation : (format : Format) (s : List Relation) (b : List ℕ) (x : List Relation × List ℕ) → next_relation format s b ≡ Ok x → (r : Relation) × (x.0 ≡ s ++ r ∷ []) × (has_columns r ≡ true)
 unfolding next_relation
@@ -81,7 +85,7 @@ one_relation format s b x e =
     let fits : (nat_lt 0 n.0.0 && nat_le n.0.0 15) ≡ true = tested _ m.0.1 g.0 g.1 in
     let parts = both_true (nat_lt 0 n.0.0) (nat_le n.0.0 15) fits in
     let wide : list_all (λ c. is_width c.width) c.0.0 ≡ true = columns_wide format n.0.0 [] n.0.1 c.0 refl c.1 in
-    (record { name = m.0.0; columns = c.0.0 }, sym (ap (λ p. p.0) h), rw (count, parts.0, parts.1, wide) refl)
+    (record { name = m.0.0; columns = c.0.0 }, sym (ap (λ p. p.0) h), columns_are m.0.0 c.0.0 n.0.0 count parts.0 parts.1 wide)
 
 all_more : (s : List Relation) (r : Relation) → list_all has_columns s ≡ true → has_columns r ≡ true → list_all has_columns (s ++ r ∷ []) ≡ true
 all_more [] r a e = rw e refl

@@ -37,8 +37,8 @@ tested_as ws more seen bytes b long e =
 -- the bytes in front are no page of so many records
 pub failed_here : (ws : List ℕ) (more count left : ℕ) (seen : List Record) (bytes page : List ℕ) → count ≡ on_page ws more → page ≡ take 4096 bytes → left ≡ length bytes → 4096 ≤ left → is_page_of ws count page ≡ false
     → next_page ws (more, seen) bytes ≡ Err left
-failed_here ws more count left seen bytes page here front all long no =
-    let fails : is_page_of ws (on_page ws more) (take 4096 bytes) ≡ false = ap (λ (n : ℕ). is_page_of ws n (take 4096 bytes)) (sym here) ∙ ap (is_page_of ws count) (sym front) ∙ no in
+failed_here ws more count left seen bytes page here front all long bad =
+    let fails : is_page_of ws (on_page ws more) (take 4096 bytes) ≡ false = ap (λ (n : ℕ). is_page_of ws n (take 4096 bytes)) (sym here) ∙ ap (is_page_of ws count) (sym front) ∙ bad in
     tested_as ws more seen bytes false (omega (arith, all, long)) fails ∙ ap (λ (n : ℕ). let r : Read (ℕ × List Record) = Err n in r) (sym all)
 
 -- they are one

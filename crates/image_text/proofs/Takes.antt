@@ -25,7 +25,7 @@ use Rattle.image_text.specs.Reading.{◌>>=◌, Read, test, enough, repeat, byte
 use Rattle.image_text.specs.Spelling.{FitsRelation, FitsRow, counted, name_bytes, width_bytes, column_bytes, relation_bytes, relations_bytes, word_bytes, delta_bytes, branch_bytes, second_bytes, version_bytes, row_bytes}
 use Rattle.image_text.specs.Laws.{IsBytes}
 use Rattle.image_text.proofs.Loop.{bind_ok, ok_is}
-use Rattle.image_text.proofs.Counted.{tested, both_true, columns_wide}
+use Rattle.image_text.proofs.Counted.{tested, both_true, columns_wide, columns_are}
 
 -- a text is taken from the front
 pub record Takes (bytes text rest : List ℕ) : Type 0 where
@@ -210,7 +210,7 @@ next_relation_takes format s b x fits e =
     let whole = Takes-then b (name_bytes m.0.0) m.0.1 (length c.0.0 ∷ flat_map (column_bytes format) c.0.0) c.0.1 t0 counted12 in
     let counts = both_true (nat_lt 0 n.0.0) (nat_le n.0.0 15) (tested _ m.0.1 g.0 g.1) in
     let wide : list_all (λ c. is_width c.width) c.0.0 ≡ true = columns_wide format n.0.0 [] n.0.1 c.0 refl c.1 in
-    let has : has_columns (record { name = m.0.0; columns = c.0.0 }) ≡ true = rw (t2.0, counts.0, counts.1, wide) refl in
+    let has : has_columns (record { name = m.0.0; columns = c.0.0 }) ≡ true = columns_are m.0.0 c.0.0 n.0.0 t2.0 counts.0 counts.1 wide in
     subst (λ y. TakesOne FitsRelation (relation_bytes format) s b y) (ok_is (s ++ record { name = m.0.0; columns = c.0.0 } ∷ [], c.0.1) x c.2)
     (record { name = m.0.0; columns = c.0.0 }, refl, whole, record { name = named.1; has = has; columns = t2.2 })
 

@@ -8,5 +8,5 @@ use Rattle.line_needs.proofs.columns.resolve.Given as goal
 abbrev pub invariant-loop-set : goal.invariant-loop-set
 invariant-loop-set l =
     (resolved_columns (resolved (widths_at l.schema l.relation) (columns_at l.schema l.relation) l.sets)
-        ≡ behind l.columns (resolved (widths_at l.schema l.relation) (columns_at l.schema l.relation) (drop l.set-index l.sets)))
+    ≡ behind l.columns (resolved (widths_at l.schema l.relation) (columns_at l.schema l.relation) (drop l.set-index l.sets)))
     × (length l.columns ≤ l.set-index)
