@@ -2,9 +2,10 @@
 ghost use Rattle.std.specs.Prelude.{◌≡◌, ◌<◌, ◌≤◌, ◌↔◌, ◌+◌, true, length, IsSome, IfSome, slice_get, Some};
 ghost use Rattle.std.specs.List.{list_all};
 ghost use Rattle.db_value.specs.Widths.{are_widths, is_width, meets, fits_width};
+ghost use Rattle.db_value.specs.Spelling.{first_in};
 
 use crate::fields::{Fields, MOST_FIELDS};
-use crate::value::Value;
+use crate::packing::{after_first, body_of, first_text};
 use std::marker::Model;
 
 /// The most bytes of a text column.
@@ -72,13 +73,13 @@ fn padded_widths(widths: &[u8]) -> Widths
     }
 }
 
-// Does a value fit a column?
-fn fits_width(width: u8, value: &Value) -> bool
-    ensures { result ≡ fits_width width value.now }
+// Does the first packed value fit a column?
+fn first_fits(width: u8, values: &[u8]) -> bool
+    ensures { result ≡ fits_width width (first_in values.now) }
 {
-    match value {
-        Value::Number { .. } => width == 0,
-        Value::Text { text } => width > 0 && text.as_bytes().len() <= width as usize,
+    match first_text(values) {
+        None => width == 0,
+        Some(text) => width > 0 && text.len() <= width as usize,
     }
 }
 
@@ -121,10 +122,12 @@ impl Widths {
         if fields.count() != widths.len() {
             return false;
         }
+        let mut rest = body_of(fields.packed());
         for at in 0..widths.len() {
-            if !fits_width(widths[at], &fields.get(at as u8)) {
+            if !first_fits(widths[at], rest) {
                 return false;
             }
+            rest = after_first(rest);
         }
         true
     }

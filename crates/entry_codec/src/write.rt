@@ -64,7 +64,12 @@ fn is_of_texts(width: u8) -> bool
 fn any_of_texts(widths: &[u8]) -> bool
     ensures { result ≡ list_any is_of_texts widths.now }
 {
-    widths.iter().any(|width| is_of_texts(*width))
+    for at in 0..widths.len() {
+        if is_of_texts(widths[at]) {
+            return true;
+        }
+    }
+    false
 }
 
 // The same of a change, which may have none.

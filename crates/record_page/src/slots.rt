@@ -24,7 +24,7 @@ pub(crate) fn blank(alloc: Global, widths: &[u8]) -> Result<Vec<u8>, AllocError>
 {
     let mut bytes = Vec::with_capacity(alloc, PAGE_BYTES)?;
     bytes.extend_from_slice(&[0, 0, widths.len() as u8])?;
-    bytes.resize(PAGE_BYTES, 0)?;
+    bytes.extend_from_slice(&[0u8; PAGE_BYTES - 3])?;
     Ok(bytes)
 }
 

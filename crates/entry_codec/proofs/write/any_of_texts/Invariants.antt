@@ -1,0 +1,8 @@
+use Rattle.std.proofs.Common.{◌≡◌, drop}
+use Rattle.std.specs.List.{list_any}
+use Rattle.entry_codec.specs.Spelling.{is_of_texts}
+use Rattle.entry_codec.proofs.write.any_of_texts.Given as goal
+
+-- the columns that are left decide
+abbrev pub invariant-loop-at : goal.invariant-loop-at
+invariant-loop-at l = list_any is_of_texts (drop l.at l.widths) ≡ list_any is_of_texts l.widths
