@@ -1,5 +1,7 @@
-use Rattle.std.proofs.Common.{rules, arith, ap, sym, ◌∙◌, length, length-append}
-use Rattle.std.specs.List.{list_any}
+use Rattle.std.proofs.Common.{arith, ap, sym, ◌∙◌, refl, ◌∷◌, [], length, length-append}
+use Rattle.std.specs.List.{list_any, list_all}
+use Rattle.std.proofs.lemmas.List.Folds.{list_all-append}
+use Rattle.db_value.specs.Width.{is_width}
 use Rattle.db_value.specs.Text.{same}
 use Rattle.db_value.specs.declared.schema.Column.{Column}
 use Rattle.db_value.proofs.SchemaLemmas.{columns_step, columns_again}
@@ -15,5 +17,5 @@ loop-word-preserved c =
     record {
       same = rw (c.in_ok-push.ensures.items, ← step) c.loop-word.invariant.same;
       count = omega (arith, simp length-append at (ap length c.in_ok-push.ensures.items), c.loop-word.invariant.count);
-      bound = search rules;
+      bound = ap (list_all (λ (d : Column). is_width d.width)) c.in_ok-push.ensures.items ∙ list_all-append (λ (d : Column). is_width d.width) c.loop-word.items.items (c.in-Some.column ∷ []) ∙ rw (c.loop-word.invariant.bound, c.in-Some.ensures.bound) refl;
     }
