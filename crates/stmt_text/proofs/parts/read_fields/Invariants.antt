@@ -1,6 +1,6 @@
 use Rattle.std.proofs.Common.{◌≡◌, ◌+◌, drop, map, length}
 use Rattle.stmt_text.specs.Steps.{each_of}
-use Rattle.stmt_text.specs.Number.{field_of}
+use Rattle.stmt_text.specs.Field.{field_of}
 use Rattle.stmt_text.proofs.ReadLemmas.{with_front}
 use Rattle.stmt_text.proofs.parts.read_fields.Given as goal
 

@@ -1,0 +1,59 @@
+-- The parts of a statement, one after another, and the statement again.
+use Rattle.std.proofs.Common.{◌≡◌, ℕ, zero, suc, ◌+◌, ◌-◌, ◌<◌, ◌≤◌, Bool, true, false, ◌&&◌, cond, List, [], ◌∷◌, ◌++◌, length, take, drop, refl, ap, sym, ◌∙◌, arith, Option, Some, None}
+use Rattle.std.specs.Prelude.{◌==◌, not}
+use Rattle.std.specs.List.{onto_first}
+use Rattle.std.proofs.lemmas.Bool.{eqb-true}
+use Rattle.std.proofs.lemmas.Option.{same_Some}
+use Rattle.stmt_text.specs.Cut.{is_cut, is_inside, parts_from, cut_from}
+use Rattle.stmt_text.specs.Spelling.{behind_spaces}
+use Rattle.stmt_text.proofs.NumberLemmas.{both}
+
+-- ---- parts behind spaces are the statement behind a space
+
+onto_spaced : (b : ℕ) (ps : List (List ℕ)) (bs : List ℕ) → behind_spaces ps ≡ 32 ∷ bs → behind_spaces (onto_first b ps) ≡ 32 ∷ b ∷ bs
+onto_spaced b [] bs e = absurd cc
+onto_spaced b (p ∷ ps) bs e = let rest : p ++ behind_spaces ps ≡ bs = cc in ap (λ (t : List ℕ). 32 ∷ b ∷ t) rest
+
+spaced_by : (t inside : Bool) (b : ℕ) (bs : List ℕ) → is_cut inside b ≡ t → behind_spaces (parts_from false bs) ≡ 32 ∷ bs → behind_spaces (parts_from (is_inside inside b) bs) ≡ 32 ∷ bs
+    → behind_spaces (cond t ([] ∷ parts_from false bs) (onto_first b (parts_from (is_inside inside b) bs))) ≡ 32 ∷ b ∷ bs
+spaced_by true inside b bs e cut more = let space : b ≡ 32 = eqb-true b 32 (both (not inside) (b == 32) e).1 in ap (λ (t : List ℕ). 32 ∷ t) cut ∙ ap (λ (c : ℕ). 32 ∷ c ∷ bs) (sym space)
+spaced_by false inside b bs e cut more = onto_spaced b (parts_from (is_inside inside b) bs) bs more
+
+pub parts_spaced : (inside : Bool) (bs : List ℕ) → behind_spaces (parts_from inside bs) ≡ 32 ∷ bs
+parts_spaced inside [] = refl
+parts_spaced inside (b ∷ bs) = spaced_by (is_cut inside b) inside b bs refl (parts_spaced false bs) (parts_spaced (is_inside inside b) bs)
+
+-- ---- the first part
+
+-- where nothing cuts, there is one part
+none_by : (t inside : Bool) (k b : ℕ) (bs : List ℕ) → (cut_from (k + 1) (is_inside inside b) bs ≡ None → parts_from (is_inside inside b) bs ≡ bs ∷ []) → cond t (Some k) (cut_from (k + 1) (is_inside inside b) bs) ≡ None
+    → cond t ([] ∷ parts_from false bs) (onto_first b (parts_from (is_inside inside b) bs)) ≡ (b ∷ bs) ∷ []
+none_by true inside k b bs more e = absurd cc
+none_by false inside k b bs more e = ap (onto_first b) (more e)
+
+pub parts_none : (k : ℕ) (inside : Bool) (bs : List ℕ) → cut_from k inside bs ≡ None → parts_from inside bs ≡ bs ∷ []
+parts_none k inside [] e = refl
+parts_none k inside (b ∷ bs) e = none_by (is_cut inside b) inside k b bs (parts_none (k + 1) (is_inside inside b) bs) e
+
+-- what stands before a cut is the first part, and what stands behind it has the others
+abbrev pub IsCutAt : ℕ → ℕ → Bool → List ℕ → Type 0
+IsCutAt k i inside bs = (k ≤ i) × (parts_from inside bs ≡ take (i - k) bs ∷ parts_from false (drop (i - k + 1) bs))
+
+at_by : (t inside : Bool) (k i b : ℕ) (bs : List ℕ) → (cut_from (k + 1) (is_inside inside b) bs ≡ Some i → IsCutAt (k + 1) i (is_inside inside b) bs) → cond t (Some k) (cut_from (k + 1) (is_inside inside b) bs) ≡ Some i
+    → (k ≤ i) × (cond t ([] ∷ parts_from false bs) (onto_first b (parts_from (is_inside inside b) bs)) ≡ take (i - k) (b ∷ bs) ∷ parts_from false (drop (i - k + 1) (b ∷ bs)))
+at_by true inside k i b bs more e =
+    let same : k ≡ i = same_Some k i e in
+    let none : 0 ≡ i - k = omega (arith, same) in
+    (omega (arith, same), ap (λ (n : ℕ). take n (b ∷ bs) ∷ parts_from false (drop (n + 1) (b ∷ bs))) none)
+at_by false inside k i b bs more e =
+    let h = more e in
+    let below = h.0 in
+    let one : suc (i - (k + 1)) ≡ i - k = omega (arith, below) in
+    (omega (arith, below), ap (onto_first b) h.1 ∙ ap (λ (n : ℕ). take n (b ∷ bs) ∷ parts_from false (drop (n + 1) (b ∷ bs))) one)
+
+cut_known : (k i : ℕ) (inside : Bool) (bs : List ℕ) → cut_from k inside bs ≡ Some i → IsCutAt k i inside bs
+cut_known k i inside [] e = absurd cc
+cut_known k i inside (b ∷ bs) e = at_by (is_cut inside b) inside k i b bs (cut_known (k + 1) i (is_inside inside b) bs) e
+
+pub parts_cut : (i : ℕ) (inside : Bool) (bs : List ℕ) → cut_from 0 inside bs ≡ Some i → parts_from inside bs ≡ take i bs ∷ parts_from false (drop (i + 1) bs)
+parts_cut i inside bs e = let n : i - 0 ≡ i = omega arith in (cut_known 0 i inside bs e).1 ∙ ap (λ (n : ℕ). take n bs ∷ parts_from false (drop (n + 1) bs)) n

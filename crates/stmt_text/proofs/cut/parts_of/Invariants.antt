@@ -1,0 +1,10 @@
+use Rattle.std.proofs.Common.{◌≡◌, ◌++◌, map, length}
+use Rattle.stmt_text.specs.Cut.{parts_of}
+use Rattle.stmt_text.proofs.cut.parts_of.Given as goal
+
+-- the parts so far, and those of what is left, are all parts
+abbrev pub invariant-loop-rest : goal.invariant-loop-rest
+invariant-loop-rest l = map (λ w. w.now) l.parts.items ++ parts_of l.rest ≡ parts_of l.text
+
+abbrev pub decreases-loop-rest : goal.decreases-loop-rest
+decreases-loop-rest l = length l.rest
