@@ -1,3 +1,3 @@
+pub mod MisfitLemmas
 pub mod SetLemmas
-pub mod TermLemmas
 pub mod Knowing

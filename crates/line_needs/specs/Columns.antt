@@ -1,5 +1,5 @@
 -- Relations and columns by name, and new values by the numbers of their columns.
-use Rattle.std.specs.Prelude.{ℕ, ◌==◌, cond, Bool, List, [], ◌∷◌, map, position, Option, Some, None, Result, Ok, Err}
+use Rattle.std.specs.Prelude.{ℕ, List, [], ◌∷◌, map, position, Option, Some, None, Result, Ok, Err}
 use Rattle.std.proofs.Common.{get_or}
 use Rattle.db_value.specs.Text.{same}
 use Rattle.db_value.specs.Relations.{no_relation}
@@ -20,19 +20,6 @@ relation_named schema name = position (λ r. same r.name name) schema
 abbrev pub column_named : List (List ℕ) → List ℕ → Option ℕ
 column_named columns name = position (λ c. same c name) columns
 
--- a column is one of numbers
-abbrev pub is_number : List ℕ → ℕ → Bool
-is_number ws column = get_or ws column 0 == 0
-
--- a column, if it is one of numbers
-abbrev pub number_in : List ℕ → Option ℕ → Option ℕ
-number_in ws None = None
-number_in ws (Some column) = cond (is_number ws column) (Some column) None
-
--- the number of the column of numbers with a name, among columns of these widths
-abbrev pub number_named : List ℕ → List (List ℕ) → List ℕ → Option ℕ
-number_named ws columns name = number_in ws (column_named columns name)
-
 -- a new value of a column
 abbrev pub set_at : ℕ → NamedSet → Set
 set_at column s = record { column = column; value = s.value }
@@ -43,10 +30,10 @@ set_onto s None rest = Err s.column
 set_onto s (Some c) (Err name) = Err name
 set_onto s (Some c) (Ok sets) = Ok (set_at c s ∷ sets)
 
--- new values by the numbers of their columns, or the first name that no column of numbers has
-abbrev pub resolved : List ℕ → List (List ℕ) → List NamedSet → Result (List Set) (List ℕ)
-resolved ws columns [] = Ok []
-resolved ws columns (s ∷ ss) = set_onto s (number_named ws columns s.column) (resolved ws columns ss)
+-- new values by the numbers of their columns, or the first name that no column has
+abbrev pub resolved : List (List ℕ) → List NamedSet → Result (List Set) (List ℕ)
+resolved columns [] = Ok []
+resolved columns (s ∷ ss) = set_onto s (column_named columns s.column) (resolved columns ss)
 
 -- the numbers of the columns alone
 abbrev pub resolved_columns : Result (List Set) (List ℕ) → Result (List ℕ) (List ℕ)

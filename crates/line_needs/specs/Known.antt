@@ -1,6 +1,6 @@
 -- What the schema says of a line before any lock is looked at: why it is refused, or what its names stand for.
 use Rattle.std.specs.Prelude.{ℕ, is_some, Bool, List, Option, Some, None, Result, Ok, Err}
-use Rattle.db_value.specs.Relations.{columns_at, widths_at}
+use Rattle.db_value.specs.Relations.{columns_at}
 use Rattle.db_value.specs.declared.schema.Relation.{Relation}
 use Rattle.db_value.specs.declared.reply.Refusal.{Refusal}
 use Rattle.stmt_text.specs.declared.stmt.NamedSet.{NamedSet}
@@ -24,7 +24,7 @@ with_columns r (Ok columns) = With r columns
 -- the relation with a name, and the columns of it that get new values
 abbrev pub with_named : List Relation → List NamedSet → Option ℕ → Known
 with_named schema sets None = Plain
-with_named schema sets (Some r) = with_columns r (resolved_columns (resolved (widths_at schema r) (columns_at schema r) sets))
+with_named schema sets (Some r) = with_columns r (resolved_columns (resolved (columns_at schema r) sets))
 
 -- two relations, if both are there
 abbrev pub both_named : Option ℕ → Option ℕ → Known

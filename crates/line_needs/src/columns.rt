@@ -1,9 +1,9 @@
 //! The columns of a relation, and new values by the numbers of the columns.
 ghost use Rattle.std.specs.Prelude.{◌≡◌, ◌<◌, ◌≤◌, ◌++◌, ◌∷◌, [], length};
-ghost use Rattle.db_value.specs.Relations.{columns_at, widths_at};
-ghost use Rattle.line_needs.specs.Columns.{columns_of, is_number, number_named, set_at, sets_at, resolved, resolved_columns};
+ghost use Rattle.db_value.specs.Relations.{columns_at};
+ghost use Rattle.line_needs.specs.Columns.{columns_of, set_at, sets_at, resolved, resolved_columns};
 
-use db_value::{Column, Name, Schema, Set, Sets, Widths};
+use db_value::{Column, Name, Schema, Set, Sets};
 use std::marker::Model;
 use stmt_text::{NamedSet, NamedSets};
 
@@ -44,8 +44,8 @@ impl SetColumns {
         self.len += 1;
     }
 
-    // The columns, in order.
-    fn as_slice(&self) -> &[u8]
+    /// The columns, in order.
+    pub fn as_slice(&self) -> &[u8]
         ensures columns { result.now ≡ self.now }
         ensures few { length result.now ≤ 15 }
     {
@@ -62,40 +62,6 @@ pub fn columns_of(schema: &Schema, relation: u8) -> &[Column]
     schema.relations()[relation as usize].columns.as_slice()
 }
 
-/// How many columns a relation has.
-pub fn column_count(schema: &Schema, relation: u8) -> usize
-    requires { relation < length schema.now }
-    ensures count { result ≡ length (columns_at schema.now relation) }
-    ensures few { result ≤ 15 }
-{
-    columns_of(schema, relation).len()
-}
-
-// Is a column one of numbers?
-fn is_number(widths: &Widths, column: u8) -> bool
-    requires { column < length widths.now }
-    ensures { result ≡ is_number widths.now column }
-{
-    widths.as_slice()[column as usize] == 0
-}
-
-// The column of numbers with a name, in a relation of these widths.
-fn number_named(schema: &Schema, relation: u8, widths: &Widths, name: &Name) -> Option<u8>
-    requires relation { relation < length schema.now }
-    requires widths { widths.now ≡ widths_at schema.now relation }
-    ensures { result ≡ number_named widths.now (columns_at schema.now relation) name.now }
-{
-    match schema.column(relation, name) {
-        None => None,
-        Some(column) => {
-            if is_number(widths, column) {
-                return Some(column);
-            }
-            None
-        }
-    }
-}
-
 // A new value of a column.
 fn set_at(column: u8, set: &NamedSet) -> Set
     ensures { result ≡ set_at column set.now }
@@ -106,18 +72,16 @@ fn set_at(column: u8, set: &NamedSet) -> Set
     }
 }
 
-/// The numbers of the columns that new values are for, or the first name that no column of numbers of
-/// the relation has. It takes no memory.
+/// The numbers of the columns that new values are for, or the first name that no column of the
+/// relation has. It takes no memory.
 pub fn resolve(schema: &Schema, relation: u8, sets: &NamedSets) -> Result<SetColumns, Name>
     requires { relation < length schema.now }
-    ensures { result ≡ resolved_columns
-        (resolved (widths_at schema.now relation) (columns_at schema.now relation) sets.now) }
+    ensures { result ≡ resolved_columns (resolved (columns_at schema.now relation) sets.now) }
 {
-    let widths = schema.widths(relation);
     let sets = sets.as_slice();
     let mut columns = SetColumns::new();
     for set in sets {
-        match number_named(schema, relation, &widths, &set.column) {
+        match schema.column(relation, &set.column) {
             None => return Err(set.column),
             Some(column) => columns.push(column),
         }

@@ -1,10 +1,8 @@
 //! Refusals that look at no lock.
-ghost use Rattle.std.specs.Prelude.{◌≡◌, ◌<◌, None, length};
-ghost use Rattle.db_value.specs.Relations.{columns_at};
-ghost use Rattle.db_value.specs.Pred.{unknown_or, first_unknown};
-ghost use Rattle.line_needs.specs.Early.{outside_refusal, inside_refusal, first_refusal, column_refusal};
+ghost use Rattle.std.specs.Prelude.{◌≡◌, ◌<◌, length};
+ghost use Rattle.line_needs.specs.Early.{outside_refusal, inside_refusal, first_refusal, terms_refusal};
 
-use db_value::{Name, Refusal, Schema, Term};
+use db_value::{Refusal, Schema, Term, first_unknown, first_wrong};
 
 /// Why a statement that is at home outside a transaction is refused.
 pub fn outside_refusal(begun: bool) -> Option<Refusal>
@@ -36,30 +34,16 @@ pub fn first_refusal(changed: bool) -> Option<Refusal>
     None
 }
 
-// The column of a term, if the relation lacks it.
-fn unknown_column(schema: &Schema, relation: u8, term: &Term) -> Option<Name>
+/// Why a condition on a relation is refused, if it is. It takes no memory.
+pub fn terms_refusal(schema: &Schema, relation: u8, terms: &[Term]) -> Option<Refusal>
     requires { relation < length schema.now }
-    ensures { result ≡ unknown_or (columns_at schema.now relation) term.now.column None }
+    ensures { result ≡ terms_refusal schema.now relation terms.now }
 {
-    match term.column {
-        None => None,
-        Some(name) => match schema.column(relation, &name) {
-            None => Some(name),
-            Some(_) => None,
+    match first_unknown(schema, relation, terms) {
+        Some(column) => Some(Refusal::NoColumn { column }),
+        None => match first_wrong(schema, relation, terms) {
+            Some(column) => Some(Refusal::WrongKind { column }),
+            None => None,
         },
     }
-}
-
-/// Which of the columns of a condition the relation lacks, if one.
-pub fn column_refusal(schema: &Schema, relation: u8, terms: &[Term]) -> Option<Refusal>
-    requires { relation < length schema.now }
-    ensures { result ≡ column_refusal (first_unknown (columns_at schema.now relation) terms.now) }
-{
-    for term in terms {
-        match unknown_column(schema, relation, term) {
-            None => {}
-            Some(column) => return Some(Refusal::NoColumn { column }),
-        }
-    }
-    None
 }

@@ -1,13 +1,12 @@
 //! What the schema says of a line before any lock is looked at.
-ghost use Rattle.std.specs.Prelude.{◌≡◌, ◌<◌, length};
-ghost use Rattle.db_value.specs.Relations.{widths_at};
-ghost use Rattle.db_value.specs.Widths.{meets};
+ghost use Rattle.std.specs.Prelude.{◌≡◌, ◌<◌, Some, length};
 ghost use Rattle.line_needs.specs.Columns.{relation_named};
 ghost use Rattle.line_needs.specs.Early.{relation_refusal, row_refusal, set_refusal, ask_refusal, join_refusal};
 ghost use Rattle.line_needs.specs.Known.{of_named, with_named, both_named, refused_or, known_of, is_refusal};
 
-use crate::columns::{SetColumns, column_count, resolve};
-use crate::early::{column_refusal, first_refusal, inside_refusal, outside_refusal};
+use crate::columns::{SetColumns, resolve};
+use crate::early::{first_refusal, inside_refusal, outside_refusal, terms_refusal};
+use crate::misfits::{row_refusal, sets_misfit};
 use db_value::{Fields, KeptFields, Name, Refusal, Schema, Term};
 use stmt_text::{NamedSets, Stmt};
 
@@ -70,17 +69,17 @@ fn know_relation(schema: &Schema, name: &Name) -> Known
     }
 }
 
-// Do fields meet the widths of a relation?
-fn meet(schema: &Schema, relation: u8, kept: &KeptFields) -> bool
+// Why the row of an insertion is refused, if it is.
+fn kept_refusal(schema: &Schema, relation: u8, name: &Name, kept: &KeptFields) -> Option<Refusal>
     requires { relation < length schema.now }
-    ensures { result ≡ meets (widths_at schema.now relation) kept.now }
+    ensures { result ≡ row_refusal schema.now name.now kept.now (Some relation) }
 {
     let mut fields = Fields::blank();
     kept.read(&mut fields);
-    schema.widths(relation).meets(&fields)
+    row_refusal(schema, relation, name, &fields)
 }
 
-// Of an insertion, which has a value for each column that meets its width.
+// Of an insertion, which has a value for each column that has its place there.
 fn know_row(schema: &Schema, name: &Name, fields: &KeptFields) -> Known
     ensures { result ≡ refused_or
         (row_refusal schema.now name.now fields.now (relation_named schema.now name.now))
@@ -88,17 +87,10 @@ fn know_row(schema: &Schema, name: &Name, fields: &KeptFields) -> Known
 {
     match schema.relation(name) {
         None => no_relation(name),
-        Some(relation) => {
-            if meet(schema, relation, fields) {
-                return Known::Of { relation };
-            }
-            Known::Refused {
-                why: Refusal::ValueCount {
-                    relation: *name,
-                    columns: column_count(schema, relation) as u32,
-                },
-            }
-        }
+        Some(relation) => match kept_refusal(schema, relation, name, fields) {
+            None => Known::Of { relation },
+            Some(why) => Known::Refused { why },
+        },
     }
 }
 
@@ -114,7 +106,10 @@ fn know_sets(schema: &Schema, name: &Name, sets: &NamedSets) -> Known
             Err(column) => Known::Refused {
                 why: Refusal::NoColumn { column },
             },
-            Ok(columns) => Known::With { relation, columns },
+            Ok(columns) => match sets_misfit(schema, relation, sets.as_slice()) {
+                None => Known::With { relation, columns },
+                Some(why) => Known::Refused { why },
+            },
         },
     }
 }
@@ -127,7 +122,7 @@ fn know_asked(schema: &Schema, name: &Name, terms: &[Term]) -> Known
 {
     match schema.relation(name) {
         None => no_relation(name),
-        Some(relation) => match column_refusal(schema, relation, terms) {
+        Some(relation) => match terms_refusal(schema, relation, terms) {
             None => Known::Of { relation },
             Some(why) => Known::Refused { why },
         },
@@ -146,7 +141,7 @@ fn know_both(schema: &Schema, left: &Name, right: &Name, terms: &[Term]) -> Know
     };
     match schema.relation(right) {
         None => no_relation(right),
-        Some(second) => match column_refusal(schema, first, terms) {
+        Some(second) => match terms_refusal(schema, first, terms) {
             None => Known::Both {
                 left: first,
                 right: second,

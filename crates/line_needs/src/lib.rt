@@ -7,6 +7,7 @@
 //! | file | has |
 //! |---|---|
 //! | `specs/Columns.antt`, `src/columns.rt` | relations and columns by name, and new values by column |
+//! | `specs/Misfits.antt`, `src/misfits.rt` | values that have no place in their columns |
 //! | `specs/Early.antt`, `src/early.rt` | refusals that look at no lock |
 //! | `specs/Known.antt`, `src/known.rt` | what is known of a line: its refusal, or what its names stand for |
 //! | `specs/Needs.antt`, `src/needs.rt` | what a line needs of the lock table |
@@ -15,6 +16,7 @@
 mod columns;
 mod early;
 mod known;
+mod misfits;
 mod needs;
 
 pub use columns::{SetColumns, columns_of, sets_of};

@@ -2,7 +2,7 @@
 use Rattle.std.specs.Prelude.{ℕ, List, ◌∷◌, ◌++◌, Option, Some, None, codes}
 use Rattle.std.specs.Fmt.{decimal}
 use Rattle.db_value.specs.declared.reply.Refusal.{Refusal}
-use Rattle.db_value.specs.declared.reply.Refusal.TheVariants.{Line, NoRelation, NoColumn, NoBranch, NoVersion, KeyThere, KeyMissing, Held, Conflict, InTransaction, NoTransaction, Room, NotFirst, BranchThere, BranchesFull, VersionsFull, TableFull, Skipped, FaultDisk, ValueCount}
+use Rattle.db_value.specs.declared.reply.Refusal.TheVariants.{Line, NoRelation, NoColumn, NoBranch, NoVersion, KeyThere, KeyMissing, Held, Conflict, InTransaction, NoTransaction, Room, NotFirst, BranchThere, BranchesFull, VersionsFull, TableFull, Skipped, FaultDisk, BodyFull, ValueCount, WrongKind, TextTooLong}
 use Rattle.db_value.specs.Version.{place_text}
 use Rattle.reply_text.specs.Piece.{numbered_text}
 
@@ -32,4 +32,7 @@ refusal_text (VersionsFull branch) = codes "16 versions full " ++ branch
 refusal_text (TableFull relation) = codes "17 table full " ++ relation
 refusal_text Skipped = codes "18 skipped"
 refusal_text FaultDisk = codes "19 fault disk"
+refusal_text BodyFull = codes "20 body full"
 refusal_text (ValueCount relation columns) = codes "21 value count " ++ numbered_text relation columns
+refusal_text (WrongKind column) = codes "22 wrong kind " ++ column
+refusal_text (TextTooLong column) = codes "23 text too long " ++ column

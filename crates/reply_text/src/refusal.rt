@@ -69,6 +69,9 @@ pub fn write_refusal(out: &mut Writer, why: &Refusal) -> Result<(), AllocError>
         Refusal::TableFull { relation } => write_named(out, b"17 table full ", relation),
         Refusal::Skipped => out.text(b"18 skipped"),
         Refusal::FaultDisk => out.text(b"19 fault disk"),
+        Refusal::BodyFull => out.text(b"20 body full"),
         Refusal::ValueCount { relation, columns } => write_numbered(out, b"21 value count ", relation, u64::from(*columns)),
+        Refusal::WrongKind { column } => write_named(out, b"22 wrong kind ", column),
+        Refusal::TextTooLong { column } => write_named(out, b"23 text too long ", column),
     }
 }

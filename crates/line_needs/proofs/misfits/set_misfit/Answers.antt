@@ -2,10 +2,10 @@ use Rattle.std.proofs.Common.{arith, ap, length}
 use Rattle.std.proofs.lemmas.List.{length-map}
 use Rattle.db_value.specs.declared.schema.Column.{Column}
 use Rattle.line_needs.specs.Columns.{columns_of}
-use Rattle.line_needs.proofs.columns.number_named.Goals as goal
+use Rattle.line_needs.proofs.misfits.set_misfit.Goals as goal
 
-pub is_number-requires : goal.is_number-requires
-is_number-requires c =
+pub index_bounds : goal.index_bounds
+index_bounds c =
     let columns = columns_of c.args.schema.now c.args.relation in
     let names = length-map columns (λ (k : Column). k.name) in
     let widths = length-map columns (λ (k : Column). k.width) in
