@@ -2,13 +2,13 @@
 //! the numbers of their lines, load scripts, and a condition that no line has. Texts and sums of load
 //! scripts were made by another program.
 use crate::asserts::holds;
-use db_value::{Fields, ListOf, Name, Op, Pred, Record, Schema, Term, Value};
+use db_value::{Fields, ListOf, Name, Op, Pred, Record, Schema, Term, TermValue, Value};
 use load_maker::script_of;
 use std::alloc::Global;
 use std::test::Fail;
 use stmt_text::{LineStop, Section, read_line, sections_between, write_line};
 
-const LINES: [&str; 38] = [
+const LINES: [&str; 54] = [
     "",
     "1 begin",
     "1 begin 1",
@@ -47,6 +47,53 @@ const LINES: [&str; 38] = [
     "16 merge dev",
     "16 merge dev left",
     "16 merge dev right",
+    "1 insert tags 1 \"ab\" 5",
+    "1 insert tags 2 \"x, y\" 0",
+    "1 insert tags 2 \"\"",
+    "1 insert tags 2 \" \" \"  \" -1",
+    "1 insert tags 2 \"where a = 1 and b\" \"# 1 commit\"",
+    "1 insert tags 2 \" !#$%&'()*+,-./0123456789:;<=>?@ABCDEFGHIJKLMNOPQRSTUVWXYZ[]^_`\"",
+    "1 insert tags 2 \"abcdefghijklmnopqrstuvwxyz{|}~\\\"",
+    "1 insert tags 2 \"\" \"\" \"\" \"\" \"\" \"\" \"\" \"\" \"\" \"\" \"\" \"\" \"\" \"\" \"\"",
+    "1 update tags 1 name=\"b=c\"",
+    "1 update tags 1 name=\" = \" n=-3 other=\"\"",
+    "1 scan tags where name >= \"b\"",
+    "1 scan tags in heads where name != \"a and b\" and key < 7",
+    "1 scan tags where n = \"5\"",
+    "1 scan tags where a < \"\" and b <= \" \" and c > \"and\" and key = 0",
+    "1 join tags tags master dev where name = \"  \"",
+    "1 insert tags 1 \"0\"",
+];
+
+#[rattlefmt::skip]
+const BAD: [(&str, &str); 26] = [
+    // what                                 the line
+    ("no quote at the end",                 "7 insert tags 1 \"ab"),
+    ("no quote at the end of a first one",  "7 insert tags 1 \"ab 5"),
+    ("no quote at the beginning",           "7 insert tags 1 ab\" 5"),
+    ("a quote alone",                       "7 insert tags 1 \""),
+    ("three quotes",                        "7 insert tags 1 \"\"\""),
+    ("a quote in a text",                   "7 insert tags 1 \"a\"b\""),
+    ("two texts in one",                    "7 insert tags 1 \"a\"\"b\""),
+    ("a byte behind a text",                "7 insert tags 1 \"a\"b"),
+    ("a byte before a text",                "7 insert tags 1 b\"a\""),
+    ("two spaces before a text",            "7 insert tags 1  \"ab\""),
+    ("two spaces behind a text",            "7 insert tags 1 \"ab\"  5"),
+    ("a space at the end",                  "7 insert tags 1 \"ab\" "),
+    ("byte 31",                             "7 insert tags 1 \"\u{1f}\""),
+    ("byte 127",                            "7 insert tags 1 \"\u{7f}\""),
+    ("a letter of two bytes",               "7 insert tags 1 \"\u{e9}\""),
+    ("65 bytes",                            "7 insert tags 1 \"xxxxxxxxxxxxxxxxxxxxxxxxxxxxxxxxxxxxxxxxxxxxxxxxxxxxxxxxxxxxxxxxx\""),
+    ("a text as a key",                     "7 insert tags \"1\" 5"),
+    ("a text as a relation",                "7 insert \"tags\" 1 5"),
+    ("a text as a column",                  "7 update tags 1 \"name\"=5"),
+    ("a text as a pair",                    "7 update tags 1 \"name=5\""),
+    ("a space in a pair",                   "7 update tags 1 name= \"b\""),
+    ("a text for the key",                  "7 scan tags where key = \"1\""),
+    ("a text as a comparison",              "7 scan tags where n \"=\" 5"),
+    ("a text as `where`",                   "7 scan tags \"where\" n = 5"),
+    ("a text as a verb",                    "7 \"commit\""),
+    ("single quotes",                       "7 insert tags 1 'ab'"),
 ];
 
 // Is a line spelled as it was read? No bytes are no line.
@@ -65,6 +112,17 @@ fn reads_and_writes_each_form(rt: HostRuntime) -> Result<(), Fail> {
     for line in &LINES {
         holds(&rt, line, is_spelled_again(rt.alloc(), line)?);
     }
+    Ok(())
+}
+
+#[test]
+fn refuses_what_is_nearly_a_text(rt: HostRuntime) -> Result<(), Fail> {
+    for (name, line) in &BAD {
+        let stop = read_line(rt.alloc(), line.as_bytes()).err();
+        holds(&rt, name, stop == Some(LineStop::BadLine { session: 7 }));
+    }
+    let stop = read_line(rt.alloc(), b"\"7\" commit").err();
+    holds(&rt, "a text as a session", stop == Some(LineStop::BadLine { session: 0 }));
     Ok(())
 }
 
@@ -172,7 +230,7 @@ fn asks(alloc: Global, value: i128) -> Result<bool, Fail> {
     let term = Term {
         column: Name::read(b"b"),
         op: Op::AtLeast,
-        value,
+        value: TermValue::Number { value },
     };
     let terms = ListOf::of(Vec::from_slice(alloc, &[term])?);
     match Pred::resolve(alloc, &schema, 0, &terms) {

@@ -10,6 +10,8 @@ mod record_page_tests;
 #[cfg(test)]
 mod rows;
 #[cfg(test)]
+mod schema_tests;
+#[cfg(test)]
 mod segment_tests;
 #[cfg(test)]
 mod value_tests;
