@@ -1,7 +1,7 @@
 //! Values that have no place in their columns.
-ghost use Rattle.std.specs.Prelude.{◌≡◌, ◌<◌, Some, None, Ok, length, map};
+ghost use Rattle.std.specs.Prelude.{◌≡◌, ◌<◌, Some, length};
 ghost use Rattle.db_value.specs.Relations.{columns_at, widths_at};
-ghost use Rattle.line_needs.specs.Columns.{columns_of, column_named, resolved, resolved_columns};
+ghost use Rattle.line_needs.specs.Columns.{column_named};
 ghost use Rattle.line_needs.specs.Early.{row_refusal};
 ghost use Rattle.line_needs.specs.Misfits.{misfit, row_misfit, set_misfit, sets_misfit};
 

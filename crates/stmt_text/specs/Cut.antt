@@ -1,5 +1,5 @@
 -- The parts of a statement: what stands between single spaces, where the spaces of a text belong to it.
-use Rattle.std.specs.Prelude.{ℕ, ◌+◌, ◌==◌, ◌&&◌, not, Bool, true, false, List, [], ◌∷◌, cond, position, Option, Some, None}
+use Rattle.std.specs.Prelude.{ℕ, ◌+◌, ◌==◌, ◌&&◌, not, Bool, false, List, [], ◌∷◌, cond, position, Option, Some, None}
 use Rattle.std.specs.List.{onto_first}
 
 -- the place of the first space, whether in a text or not
