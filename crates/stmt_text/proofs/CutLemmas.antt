@@ -1,10 +1,11 @@
 -- The parts of a statement, one after another, and the statement again.
-use Rattle.std.proofs.Common.{◌≡◌, ℕ, suc, ◌+◌, ◌-◌, ◌≤◌, Bool, true, false, cond, List, [], ◌∷◌, ◌++◌, take, drop, refl, ap, sym, ◌∙◌, arith, Some, None}
+use Rattle.std.proofs.Common.{◌≡◌, ℕ, suc, ◌+◌, ◌-◌, ◌≤◌, Bool, true, false, cond, List, [], ◌∷◌, ◌++◌, map, take, drop, refl, ap, sym, ◌∙◌, arith, append_assoc, Bor, Some, None}
 use Rattle.std.specs.Prelude.{◌==◌, not}
 use Rattle.std.specs.List.{onto_first}
 use Rattle.std.proofs.lemmas.Bool.{eqb-true}
+use Rattle.std.proofs.lemmas.List.{map-append}
 use Rattle.std.proofs.lemmas.Option.{same_Some}
-use Rattle.stmt_text.specs.Cut.{is_cut, is_inside, parts_from, cut_from}
+use Rattle.stmt_text.specs.Cut.{is_cut, is_inside, parts_from, parts_of, cut_from}
 use Rattle.stmt_text.specs.Spelling.{behind_spaces}
 use Rattle.stmt_text.proofs.NumberLemmas.{both}
 
@@ -57,3 +58,18 @@ cut_known k i inside (b ∷ bs) e = at_by (is_cut inside b) inside k i b bs (cut
 
 pub parts_cut : (i : ℕ) (inside : Bool) (bs : List ℕ) → cut_from 0 inside bs ≡ Some i → parts_from inside bs ≡ take i bs ∷ parts_from false (drop (i + 1) bs)
 parts_cut i inside bs e = let n : i - 0 ≡ i = omega arith in (cut_known 0 i inside bs e).1 ∙ ap (λ (n : ℕ). take n bs ∷ parts_from false (drop (n + 1) bs)) n
+
+-- ---- parts, gathered
+
+-- one part more
+pub one_part : (done new : List (Bor (List ℕ))) (w : Bor (List ℕ)) (i : ℕ) (rest next : List ℕ) (all : List (List ℕ)) → new ≡ done ++ w ∷ [] → w.now ≡ take i rest → next ≡ drop (i + 1) rest → cut_from 0 false rest ≡ Some i → map (λ w. w.now) done ++ parts_of rest ≡ all
+    → map (λ w. w.now) new ++ parts_of next ≡ all
+one_part done new w i rest next all is front tail cut inv =
+    let one : w.now ∷ parts_of next ≡ parts_of rest = ap (λ (u : List ℕ). u ∷ parts_of next) front ∙ ap (λ (u : List ℕ). take i rest ∷ parts_of u) tail ∙ sym (parts_cut i false rest cut) in
+    rw (is, map-append, append_assoc) (ap (λ (us : List (List ℕ)). map (λ (v : Bor (List ℕ)). v.now) done ++ us) one ∙ inv)
+
+-- and the last one
+pub last_part : (done new : List (Bor (List ℕ))) (w : Bor (List ℕ)) (rest : List ℕ) (all : List (List ℕ)) → new ≡ done ++ w ∷ [] → w.now ≡ rest → cut_from 0 false rest ≡ None → map (λ w. w.now) done ++ parts_of rest ≡ all → map (λ w. w.now) new ≡ all
+last_part done new w rest all is front none inv =
+    let one : w.now ∷ [] ≡ parts_of rest = ap (λ (u : List ℕ). u ∷ []) front ∙ sym (parts_none 0 false rest none) in
+    rw (is, map-append) (ap (λ (us : List (List ℕ)). map (λ (v : Bor (List ℕ)). v.now) done ++ us) one ∙ inv)

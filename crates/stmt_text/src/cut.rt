@@ -43,6 +43,7 @@ fn cut_in(text: &[u8]) -> Option<usize>
 }
 
 /// The parts of a statement. A space in a text belongs to it.
+#[tactic(auto, using(crate::proofs::CutLemmas::one_part, crate::proofs::CutLemmas::last_part))]
 pub fn parts_of(alloc: Global, text: &[u8]) -> Result<Vec<&[u8]>, AllocError>
     ensures { IfOk result (λ v. map (λ w. w.now) v.items ≡ parts_of text.now) }
 {
