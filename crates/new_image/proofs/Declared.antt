@@ -1,25 +1,21 @@
 -- What a text declares is a schema.
-use Rattle.std.proofs.Common.{◌≡◌, ◌⊎◌, inl, inr, ⊎_elim, suc, ℕ, ◌+◌, ◌<◌, ◌≤◌, ◌&&◌, ◌||◌, ◌==◌, not, nat_lt, nat_le, cond, codes, Bool, true, false, List, [], ◌∷◌, ◌++◌, length, map, refl, sym, ◌∙◌, ap, subst, arith, length-append, Option, Some, None, Result, Ok, Err}
+use Rattle.std.proofs.Common.{◌≡◌, ◌⊎◌, inl, inr, ⊎_elim, suc, ℕ, ◌+◌, ◌*◌, ◌-◌, ◌<◌, ◌≤◌, ◌&&◌, ◌||◌, ◌==◌, not, nat_lt, nat_le, cond, codes, Bool, true, false, List, [], ◌∷◌, ◌++◌, length, map, take, drop, refl, sym, ◌∙◌, ap, subst, arith, length-append, Option, Some, None, Result, Ok, Err}
 use Rattle.std.proofs.lemmas.Bool.{and_from, and_parts, or_parts}
-use Rattle.std.proofs.lemmas.List.{length-map}
+use Rattle.std.specs.Prelude.{position}
+use Rattle.std.specs.Int.{is_in_range}
 use Rattle.std.proofs.lemmas.List.Folds.{list_all-append, list_any-append}
 use Rattle.std.specs.List.{list_all, list_any}
 use Rattle.db_value.specs.Text.{same, is_name, lines, words, is_passed_over}
 use Rattle.db_value.specs.Width.{is_width}
 use Rattle.db_value.specs.Relations.{has_columns, number_column}
-use Rattle.db_value.proofs.SchemaLemmas.{numbers_bound}
-use Rattle.db_value.specs.Schema.{names_from, with_columns, relation_of_words, relation_of as declared_by, is_declared, ended, declared_then, schema_in as schema_from, reading_of, most_relations, with_line}
+use Rattle.db_value.specs.Schema.{width_if, width_of, text_column, column_at, column_of, column_behind, columns_then, columns_from, with_columns, relation_of_words, relation_of as declared_by, is_declared, ended, declared_then, schema_in as schema_from, reading_of, most_relations, with_line}
 use Rattle.db_value.specs.declared.schema.Column.{Column}
 use Rattle.db_value.specs.declared.schema.Relation.{Relation}
 use Rattle.db_value.specs.declared.schema.SchemaFault.{SchemaFault}
 use Rattle.db_value.specs.declared.schema.SchemaFault.TheVariants.{Line, TooMany}
 use Rattle.new_image.specs.Image.{are_distinct, are_apart, names_of}
-use Rattle.new_image.specs.Schemas.{IsDeclared, AreNames, AreNamed, IsSchema, has_numbers}
+use Rattle.new_image.specs.Schemas.{IsDeclared, AreNames, AreNamed, IsSchema}
 use Rattle.new_image.proofs.Images.{same_flip}
-
--- the relation with this name and these columns
-abbrev relation_of : List ℕ → List (List ℕ) → Relation
-relation_of name columns = record { name = name; columns = map number_column columns }
 
 cond_some : {T : Type 0} (q : Bool) (o : Option T) (x : T) → cond q o None ≡ Some x → (q ≡ true) × (o ≡ Some x)
 cond_some true o x is = (refl, is)
@@ -75,16 +71,102 @@ distinct_more (x ∷ xs) w distinct new =
     (not_false (list_any (same x) (xs ++ w ∷ [])) (any_more (same x) xs w (not_true (list_any (same x) xs) parts.0) (same_flip x w ∙ others.0)))
     (distinct_more xs w parts.1 others.1)
 
--- columns that were read are distinct names, as many as there were words
-names_are : (ws seen names : List (List ℕ)) → names_from seen ws ≡ Some names → AreNames seen → are_distinct seen ≡ true → AreNames names × (are_distinct names ≡ true) × (length names ≡ length seen + length ws)
-names_are [] seen names is named distinct =
-    let all : seen ≡ names = cc is in
-    (subst AreNames all named, ap are_distinct (sym all) ∙ distinct, omega (arith, ap length all))
-names_are (w ∷ ws) seen names is named distinct =
-    let parts = cond_some (is_name w && not (list_any (same w) seen)) (names_from (seen ++ w ∷ []) ws) names is in
-    let tests = and_parts (is_name w) (not (list_any (same w) seen)) parts.0 in
-    let next = names_are ws (seen ++ w ∷ []) names parts.1 (names_more seen w named tests.0) (distinct_more seen w distinct (not_true (list_any (same w) seen) tests.1)) in
-    (next.0, next.1, omega (arith, next.2, length-append seen (w ∷ [])))
+-- ---- columns
+
+-- what a test of the other outcome gave
+cond_none : {T : Type 0} (q : Bool) (o : Option T) (x : T) → cond q None o ≡ Some x → (q ≡ false) × (o ≡ Some x)
+cond_none true o x is = absurd (cc is)
+cond_none false o x is = (refl, is)
+
+few_wide : (n m : ℕ) → width_if m ≡ Some n → is_width n ≡ true
+few_wide n m is =
+    let parts = cond_some (nat_le m 64) (Some m) n is in
+    let same_there : m ≡ n = cc (parts.1) in
+    ap is_width (sym same_there) ∙ parts.0
+
+one_digit : (c : ℕ) → is_in_range 49 57 c ≡ true → nat_le (c - 48) 64 ≡ true
+one_digit c is = search (arith, (and_parts (nat_le 49 c) (nat_le c 57) is).1)
+
+-- a width that was read is one
+width_good : (w : List ℕ) (n : ℕ) → width_of w ≡ Some n → is_width n ≡ true
+width_good [] n is = absurd (cc is)
+width_good (c ∷ []) n is =
+    let parts = cond_some (is_in_range 49 57 c) (Some (c - 48)) n is in
+    let same_there : c - 48 ≡ n = cc (parts.1) in
+    ap is_width (sym same_there) ∙ one_digit c parts.0
+width_good (c ∷ d ∷ []) n is = few_wide n ((c - 48) * 10 + (d - 48)) (cond_some (is_in_range 49 57 c && is_in_range 48 57 d) (width_if ((c - 48) * 10 + (d - 48))) n is).1
+width_good (c ∷ d ∷ e ∷ es) n is = absurd (cc is)
+
+-- a column that was read has a name and a width
+abbrev IsColumn : Column → Type 0
+IsColumn c = (is_name c.name ≡ true) × (is_width c.width ≡ true)
+
+text_good : (name w : List ℕ) (o : Option ℕ) (c : Column) → width_of w ≡ o → text_column name o ≡ Some c → IsColumn c
+text_good name w None c width is = absurd (cc is)
+text_good name w (Some n) c width is =
+    let parts = cond_some (is_name name) (Some (record { name = name; width = n })) c is in
+    let same_there : record { name = name; width = n } ≡ c = cc (parts.1) in
+    subst IsColumn same_there (parts.0, width_good w n width)
+
+place_good : (w : List ℕ) (o : Option ℕ) (c : Column) → column_at w o ≡ Some c → IsColumn c
+place_good w None c is =
+    let parts = cond_some (is_name w) (Some (number_column w)) c is in
+    let same_there : number_column w ≡ c = cc (parts.1) in
+    subst IsColumn same_there (parts.0, refl)
+place_good w (Some i) c is = text_good (take i w) (drop (i + 1) w) (width_of (drop (i + 1) w)) c refl is
+
+column_good : (w : List ℕ) (c : Column) → column_of w ≡ Some c → IsColumn c
+unfolding column_of
+column_good w c is = place_good w (position (λ b. b == 58) w) c is
+
+-- the names of columns
+abbrev names_in : List Column → List (List ℕ)
+names_in cs = map (λ c. c.name) cs
+
+names_push : (seen : List Column) (c : Column) → names_in (seen ++ c ∷ []) ≡ names_in seen ++ c.name ∷ []
+names_push [] c = refl
+names_push (d ∷ seen) c = ap (λ (ns : List (List ℕ)). d.name ∷ ns) (names_push seen c)
+
+any_flip : (w : List ℕ) (cs : List Column) → list_any (same w) (names_in cs) ≡ list_any (λ d. same d.name w) cs
+any_flip w [] = refl
+any_flip w (c ∷ cs) = ap (λ (q : Bool). q || list_any (same w) (names_in cs)) (same_flip w c.name) ∙ ap (λ (q : Bool). same c.name w || q) (any_flip w cs)
+
+-- columns that may be the first of a relation
+record AreColumns (cs : List Column) : Type 0 where
+  names : AreNames (names_in cs)
+  distinct : are_distinct (names_in cs) ≡ true
+  widths : list_all (λ c. is_width c.width) cs ≡ true
+
+column_more : (seen : List Column) (c : Column) → AreColumns seen → IsColumn c → list_any (λ d. same d.name c.name) seen ≡ false → AreColumns (seen ++ c ∷ [])
+column_more seen c are is new = record {
+  names = subst AreNames (sym (names_push seen c)) (names_more (names_in seen) c.name are.names is.0);
+  distinct = ap are_distinct (names_push seen c) ∙ distinct_more (names_in seen) c.name are.distinct (any_flip c.name seen ∙ new);
+  widths = all_more (λ (d : Column). is_width d.width) seen c are.widths is.1;
+}
+
+columns_next : (o : Option (List Column)) (go : List Column → Option (List Column)) (cs : List Column) → columns_then o go ≡ Some cs → (more : List Column) × (o ≡ Some more) × (go more ≡ Some cs)
+columns_next None go cs is = absurd (cc is)
+columns_next (Some more) go cs is = (more, refl, is)
+
+column_next : (seen : List Column) (o : Option Column) (more : List Column) → column_behind seen o ≡ Some more → (c : Column) × (o ≡ Some c) × (list_any (λ d. same d.name c.name) seen ≡ false) × (seen ++ c ∷ [] ≡ more)
+column_next seen None more is = absurd (cc is)
+column_next seen (Some c) more is =
+    let parts = cond_none (list_any (λ d. same d.name c.name) seen) (Some (seen ++ c ∷ [])) more is in
+    (c, refl, parts.0, cc (parts.1))
+
+-- columns that were read are such, as many as there were words
+columns_are : (ws : List (List ℕ)) (seen cs : List Column) → columns_from seen ws ≡ Some cs → AreColumns seen → AreColumns cs × (length cs ≡ length seen + length ws)
+columns_are [] seen cs is are = let all : seen ≡ cs = cc is in (subst AreColumns all are, omega (arith, ap length all))
+columns_are (w ∷ ws) seen cs is are =
+    let next = columns_next (column_behind seen (column_of w)) (λ more. columns_from more ws) cs is in
+    let one = column_next seen (column_of w) next.0 next.1 in
+    let c : Column = one.0 in
+    let more : AreColumns next.0 = subst AreColumns one.3 (column_more seen c are (column_good w c one.1) one.2) in
+    let rest = columns_are ws next.0 cs next.2 more in
+    let long : length next.0 ≡ length seen + 1 = ap length (sym one.3) ∙ length-append seen (c ∷ []) in
+    (rest.0, omega (arith, rest.1, long))
+
+-- ---- relations
 
 -- a relation that may stand in a schema
 record IsGood (r : Relation) : Type 0 where
@@ -92,40 +174,28 @@ record IsGood (r : Relation) : Type 0 where
   columns : AreNames (names_of r)
   counted : has_columns r ≡ true
   distinct : are_distinct (names_of r) ≡ true
-  numbers : has_numbers r ≡ true
 
--- columns of numbers have the names that they were made with, and width 0
-names_back : (names : List (List ℕ)) → map (λ c. c.name) (map number_column names) ≡ names
-names_back [] = refl
-names_back (n ∷ names) = ap (λ (ns : List (List ℕ)). n ∷ ns) (names_back names)
-
-all_numbers : (names : List (List ℕ)) → list_all (λ c. c.width == 0) (map number_column names) ≡ true
-all_numbers [] = refl
-all_numbers (n ∷ names) = all_numbers names
-
-columns_some : (name : List ℕ) (o : Option (List (List ℕ))) (r : Relation) → with_columns name o ≡ Some r → (names : List (List ℕ)) × (o ≡ Some names) × (relation_of name names ≡ r)
+columns_some : (name : List ℕ) (o : Option (List Column)) (r : Relation) → with_columns name o ≡ Some r → (cs : List Column) × (o ≡ Some cs) × (record { name = name; columns = cs } ≡ r)
 columns_some name None r is = absurd (cc is)
-columns_some name (Some names) r is = (names, refl, cc is)
+columns_some name (Some cs) r is = (cs, refl, cc is)
 
 relation_is : (ws : List (List ℕ)) (r : Relation) → relation_of_words ws ≡ Some r → IsGood r
 unfolding relation_of_words
 relation_is [] r is = absurd (cc is)
 relation_is (verb ∷ []) r is = absurd (cc is)
 relation_is (verb ∷ name ∷ columns) r is =
-    let parts = cond_some (same verb (codes "relation") && is_name name && nat_lt 0 (length columns) && nat_le (length columns) 15) (with_columns name (names_from [] columns)) r is in
+    let parts = cond_some (same verb (codes "relation") && is_name name && nat_lt 0 (length columns) && nat_le (length columns) 15) (with_columns name (columns_from [] columns)) r is in
     let tests = last_three (same verb (codes "relation")) (is_name name) (nat_lt 0 (length columns)) (nat_le (length columns) 15) parts.0 in
-    let read = columns_some name (names_from [] columns) r parts.1 in
-    let are = names_are columns [] read.0 read.1 tt refl in
-    let made : List Column = map number_column read.0 in
-    let long : length made ≡ length columns = omega (arith, are.2, length-map read.0 number_column) in
-    let back = names_back read.0 in
+    let read = columns_some name (columns_from [] columns) r parts.1 in
+    let made : List Column = read.0 in
+    let are = columns_are columns [] made read.1 (record { names = tt; distinct = refl; widths = refl }) in
+    let long : length made ≡ length columns = are.1 in
     subst IsGood read.2 (record {
       name = tests.0;
-      columns = subst AreNames (sym back) are.0;
+      columns = are.0.names;
       counted = and_from (nat_lt 0 (length made)) (nat_le (length made) 15 && list_all (λ c. is_width c.width) made) (ap (λ (n : ℕ). nat_lt 0 n) long ∙ tests.1)
-          (and_from (nat_le (length made) 15) (list_all (λ c. is_width c.width) made) (ap (λ (n : ℕ). nat_le n 15) long ∙ tests.2) (numbers_bound read.0));
-      distinct = ap are_distinct back ∙ are.1;
-      numbers = all_numbers read.0;
+          (and_from (nat_le (length made) 15) (list_all (λ c. is_width c.width) made) (ap (λ (n : ℕ). nat_le n 15) long ∙ tests.2) are.0.widths);
+      distinct = are.0.distinct;
     })
 
 -- relations that may be the first of a schema
@@ -133,7 +203,6 @@ record AreGood (rs : List Relation) : Type 0 where
   few : nat_le (length rs) 8 ≡ true
   counted : list_all has_columns rs ≡ true
   distinct : list_all (λ r. are_distinct (names_of r)) rs ≡ true
-  numbers : list_all has_numbers rs ≡ true
   apart : are_apart rs ≡ true
   named : AreNamed rs
 
@@ -157,7 +226,6 @@ one_more rs r are is room new =
       few = at_most (length (rs ++ r ∷ [])) (omega (arith, lt, length-append rs (r ∷ [])));
       counted = all_more has_columns rs r are.counted is.counted;
       distinct = all_more (λ x. are_distinct (names_of x)) rs r are.distinct is.distinct;
-      numbers = all_more has_numbers rs r are.numbers is.numbers;
       apart = apart_more rs r are.apart new;
       named = named_more rs r are.named is;
     }
@@ -178,7 +246,6 @@ ended_is n (r ∷ got) more rs left is are =
           (three (nat_lt 0 (length (r ∷ got))) (nat_le (length (r ∷ got)) 8) (list_all has_columns (r ∷ got)) (some (length got)) are.few are.counted)
           (and_from (are_apart (r ∷ got)) (list_all (λ x. are_distinct (names_of x)) (r ∷ got)) are.apart are.distinct);
       named = are.named;
-      numbers = are.numbers;
     })
   where
     three : (a b c : Bool) → a ≡ true → b ≡ true → c ≡ true → (a && b && c) ≡ true
@@ -218,4 +285,4 @@ with_line_ok (Err fault) z is = absurd (cc is)
 pub declared_is : (rs : List Relation) → IsDeclared rs → IsSchema rs
 declared_is rs is =
     schema_from_is (lines is.0) 1 [] rs is.1 (with_line_ok (reading_of is.0) (rs, is.1) is.2)
-    (record { few = refl; counted = refl; distinct = refl; numbers = refl; apart = refl; named = tt })
+    (record { few = refl; counted = refl; distinct = refl; apart = refl; named = tt })

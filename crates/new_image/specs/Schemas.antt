@@ -1,6 +1,5 @@
 -- The schemas that a text can declare.
-use Rattle.std.specs.Prelude.{◌≡◌, ◌==◌, ℕ, Bool, true, List, [], ◌∷◌, Ok}
-use Rattle.std.specs.List.{list_all}
+use Rattle.std.specs.Prelude.{◌≡◌, ℕ, true, List, [], ◌∷◌, Ok}
 use Rattle.db_value.specs.Text.{is_name}
 use Rattle.db_value.specs.Schema.{schema_of}
 use Rattle.db_value.specs.declared.schema.Relation.{Relation}
@@ -20,12 +19,7 @@ abbrev pub AreNamed : List Relation → Type 0
 AreNamed [] = Unit {0}
 AreNamed (r ∷ rs) = (is_name r.name ≡ true) × AreNames (names_of r) × AreNamed rs
 
--- columns of numbers alone
-abbrev pub has_numbers : Relation → Bool
-has_numbers r = list_all (λ c. c.width == 0) r.columns
-
--- the relations are a schema, with names that can be, and columns of numbers
+-- the relations are a schema, with names that can be
 pub record IsSchema (rs : List Relation) : Type 0 where
   pub counted : is_schema rs ≡ true
   pub named : AreNamed rs
-  pub numbers : list_all has_numbers rs ≡ true
