@@ -8,16 +8,17 @@ import bisect, re
 
 NAMED = r"(?!(?:all|and|catalogue|heads|in|key|left|of|right|where)(?![a-z0-9_]))[a-z][a-z0-9_]{0,31}(?![a-z0-9_])"
 COUNT, SIGNED = r"(?:0|[1-9][0-9]*)", r"(?:0|-?[1-9][0-9]*)"
+VALUE = r'(?:%s|"[ !#-~]{0,64}")' % SIGNED
 OF = r"%s(?:@%s)?" % (NAMED, COUNT)
-TERM = r"(?:%s|key) (?:=|!=|<=?|>=?) %s" % (NAMED, SIGNED)
+TERM = r"(?:%s (?:=|!=|<=?|>=?) %s|key (?:=|!=|<=?|>=?) %s)" % (NAMED, VALUE, COUNT)
 WHERE = r"(?: where (%s(?: and %s){0,15}))?" % (TERM, TERM)
 FORMS = [(kind, re.compile(form), stage) for kind, form, stage in (
     ("begin", r"begin(?: (%s))?" % COUNT, 0),
     ("end", r"(commit|abort)", 0),
     ("on", r"on (%s)" % NAMED, 0),
     ("log", r"log (%s)" % NAMED, 0),
-    ("insert", r"insert (%s) (%s)((?: %s){1,15})" % (NAMED, COUNT, SIGNED), 0),
-    ("update", r"update (%s) (%s)((?: %s=%s){1,15})" % (NAMED, COUNT, NAMED, SIGNED), 0),
+    ("insert", r"insert (%s) (%s)((?: %s){1,15})" % (NAMED, COUNT, VALUE), 0),
+    ("update", r"update (%s) (%s)((?: %s=%s){1,15})" % (NAMED, COUNT, NAMED, VALUE), 0),
     ("delete", r"delete (%s) (%s)" % (NAMED, COUNT), 0),
     ("get", r"get (%s) (%s)(?: in (%s))?" % (NAMED, COUNT, OF), 0),
     ("scan", r"scan (%s)" % NAMED, 0),
@@ -46,7 +47,12 @@ def small(text, least=0, most=2**64 - 1):
 
 
 def signed(text):
-    return small(text, -2**63, 2**63 - 1)
+    """A text is a str, and a number an int."""
+    return text[1:-1] if text.startswith('"') else small(text, -2**63, 2**63 - 1)
+
+
+def told(key, fields):
+    return " ".join([str(key)] + ['"%s"' % field if isinstance(field, str) else str(field) for field in fields])
 
 
 def place_name(text):
@@ -56,8 +62,8 @@ def place_name(text):
 
 def terms_of(text):
     found = []
-    for part in text.split(" and ") if text else ():
-        column, sign, number = part.split(" ")
+    for part in re.findall(TERM, text or ""):
+        column, sign, number = part.split(" ", 2)
         found.append((column, sign, small(number) if column == "key" else signed(number)))
     return found
 
@@ -69,6 +75,7 @@ class Session:
 
     def drop(self):
         self.begun, self.room, self.changes, self.second = False, 1024, {}, None
+        self.bytes = 0, 0, 0  # of the changes without a text and with one, and how many of them have texts
         self.more = {}  # by relation, how many keys it has more than the head
 
 
@@ -76,7 +83,8 @@ class Machine:
     def __init__(self, schema, built):
         self.built = built
         self.relations = [relation.decode() for relation in schema]
-        self.columns = [[column.decode() for column in columns] for columns in schema.values()]
+        self.columns = [[column.decode().split(":")[0] for column in columns] for columns in schema.values()]
+        self.widths = [[int((column.decode() + ":0").split(":")[1]) for column in columns] for columns in schema.values()]
         self.names, self.numbers = ["master"], {"master": 0}
         self.origins = [None]  # of a branch the place of which its position 0 is another name
         self.versions = [[0]]  # of a branch the numbers of its versions, from its origin's
@@ -125,10 +133,10 @@ class Machine:
         return (small(room, 1, 65536) if room else 1024,)
 
     def read_insert(self, relation, key, values):
-        return relation, small(key), tuple(signed(word) for word in values.split())
+        return relation, small(key), tuple(signed(word) for word in re.findall(VALUE, values))
 
     def read_update(self, relation, key, sets):
-        sets = [word.split("=") for word in sets.split()]
+        sets = [word.split("=", 1) for word in re.findall(r"%s=%s" % (NAMED, VALUE), sets)]
         if len(dict(sets)) < len(sets):
             raise No
         return relation, small(key), {column: signed(number) for column, number in sets}
@@ -252,6 +260,27 @@ class Machine:
         for column in terms:
             if column != "key" and column not in self.columns[relation]:
                 raise No("3 no column %s" % column)
+
+    def fits(self, given, relation, is_stored):
+        """Values by column from left to right: each has its column's kind, and one that is stored isn't too long."""
+        for column, one in given:
+            if column == "key":
+                continue
+            width = self.widths[relation][self.columns[relation].index(column)]
+            if (width == 0) == isinstance(one, str):
+                raise No("22 wrong kind %s" % column)
+            if is_stored and width and len(one) > width:
+                raise No("23 text too long %s" % column)
+
+    def weigh(self, cell, fields):
+        """The bytes of a change, in an entry without a text and in one with texts, and whether it has one."""
+        widths = self.widths[cell[0]] if fields is not None else []
+        return 10 + 8 * len(widths), 10 + sum(9 if width == 0 else 1 + width for width in widths), int(any(widths))
+
+    def heavy(self, weights, has_second):
+        narrow, wide, texts = weights
+        if 10 + 8 * has_second + (wide if texts else narrow) > 16777216:
+            raise No("20 body full")
 
     # Statements.
 
@@ -383,7 +412,7 @@ class Machine:
         return "none\n" if fields is None else self.shown("row", [(key, fields)])[0]
 
     def shown(self, word, found):
-        return ["%s %d %s\n" % (word, key, " ".join(map(str, fields))) for key, fields in found]
+        return ["%s %s\n" % (word, told(key, fields)) for key, fields in found]
 
     def listed(self, lines):
         return "%srows %d\n" % ("".join(lines), len(lines))
@@ -391,6 +420,7 @@ class Machine:
     def do_scan(self, relation, over, terms):
         r = self.relation(relation)
         self.checked([column for column, _, _ in terms], r)
+        self.fits([(column, one) for column, _, one in terms], r, False)
         if over == "":
             self.lock((self.now.branch + 1, SHARED))
             return self.listed(self.shown("row", self.records(self.working(), r, terms)))
@@ -400,15 +430,16 @@ class Machine:
         for (branch, position), place in [(of, self.place(*of)) for of in names]:
             for record in self.records(place, r, terms):
                 where.setdefault(record, []).append(branch if position is None else "%s@%d" % (branch, position))
-        return self.listed(["row %d %s in %s\n" % (key, " ".join(map(str, fields)), ",".join(where[key, fields])) for key, fields in sorted(where)])
+        return self.listed(["row %s in %s\n" % (told(key, fields), ",".join(where[key, fields])) for key, fields in sorted(where)])
 
     def do_join(self, left, right, first, second, terms):
         r, s = self.relation(left), self.relation(right)
         self.checked([column for column, _, _ in terms], r)
+        self.fits([(column, one) for column, _, one in terms], r, False)
         self.lock(*self.asks(first, second))
         one, other = self.place(*first), self.place(*second)
         both = [(key, fields, self.look(other, s, key)) for key, fields in self.records(one, r, terms)]
-        return self.listed(["pair %d %s | %s\n" % (key, " ".join(map(str, a)), " ".join(map(str, b))) for key, a, b in both if b is not None])
+        return self.listed(["pair %s | %s\n" % (told(key, a), told(key, b).partition(" ")[2]) for key, a, b in both if b is not None])
 
     def do_minus(self, relation, first, second):
         r = self.relation(relation)
@@ -434,6 +465,10 @@ class Machine:
             self.full(cell[0], self.size(cell[0]) + more)
         if cell not in self.now.changes and len(self.now.changes) >= self.now.room:
             raise No("12 room %d" % self.now.room)
+        gone = self.weigh(cell, self.now.changes[cell]) if cell in self.now.changes else (0, 0, 0)
+        weights = tuple(map(lambda all_, was, is_: all_ - was + is_, self.now.bytes, gone, self.weigh(cell, fields)))
+        self.heavy(weights, self.now.second is not None)
+        self.now.bytes = weights
         self.now.changes[cell] = fields
         self.now.more[cell[0]] = self.now.more.get(cell[0], 0) + more
         return self.changed()
@@ -442,12 +477,14 @@ class Machine:
         count = len(self.columns[self.relation(relation)])
         if len(values) != count:
             raise No("21 value count %s %d" % (relation, count))
+        self.fits(zip(self.columns[self.relation(relation)], values), self.relation(relation), True)
         self.old(relation, key, False)
         return self.put(relation, key, values, 1)
 
     def do_update(self, relation, key, sets):
         columns = self.columns[self.relation(relation)]
         self.checked(sets, self.relation(relation))
+        self.fits(sets.items(), self.relation(relation), True)
         fields = self.old(relation, key, True)
         return self.put(relation, key, tuple(sets.get(column, was) for column, was in zip(columns, fields)))
 
@@ -480,7 +517,9 @@ class Machine:
             self.full(r, self.size(r) + more[r])
         if len(changes) > now.room:
             raise No("12 room %d" % now.room)
-        now.changes, now.second, now.more = changes, heads[1], more
+        weights = tuple(map(sum, zip((0, 0, 0), *(self.weigh(cell, fields) for cell, fields in changes.items()))))
+        self.heavy(weights, True)
+        now.changes, now.second, now.more, now.bytes = changes, heads[1], more, weights
         return self.changed()
 
     def three(self, sides, prefer, conflicts, cell):

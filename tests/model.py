@@ -21,9 +21,10 @@ STAGES = {
 }
 BUILT = ("sessions", "questions", "merges", "segments")
 
-BRANCHES, VERSIONS, KEYS, TOUCHED, ROOM = 1024, 65536, 262144, 65536, 1024
+BRANCHES, VERSIONS, KEYS, TOUCHED, ROOM, BODY = 1024, 65536, 262144, 65536, 1024, 16777216
 CATALOGUE = b"catalogue"  # the lock on the list of branches; that of a branch is its name
 WORD = re.compile(rb"[a-z][a-z0-9_]{0,31}")
+TEXT = re.compile(rb'"([ !#-~]{0,64})"')
 NO_NAMES = (b"all", b"and", b"catalogue", b"heads", b"in", b"key", b"left", b"of", b"right", b"where")
 OPERATORS = {b"=": operator.eq, b"!=": operator.ne, b"<": operator.lt, b"<=": operator.le, b">": operator.gt, b">=": operator.ge}
 
@@ -55,7 +56,21 @@ def key(word):
 
 
 def value(word):
+    """A number as an int, and a text as bytes."""
+    text = TEXT.fullmatch(word)
+    if text:
+        return text.group(1)
     return -number(word[1:], 2**63, 1) if word.startswith(b"-") else number(word, 2**63 - 1)
+
+
+def parts(text):
+    """What stands between the spaces outside of texts: a double quote begins a text, or ends it."""
+    found = [b""]
+    for at, piece in enumerate(text.split(b'"')):
+        first, *more = [piece] if at % 2 else piece.split(b" ")
+        found[-1] += b'"' * (at > 0) + first
+        found += more
+    return found
 
 
 def several(words, most):
@@ -117,6 +132,11 @@ class Statement:
     def columns(self):
         return [column for column, _ in self.sets] + [column for column, _, _ in self.terms if column is not None]
 
+    def given(self, columns):
+        """The values from left to right, each with its column, and whether it is to be stored."""
+        stored = list(zip(columns, self.values or ())) + list(self.sets)
+        return [(column, v, True) for column, v in stored] + [(column, v, False) for column, _, v in self.terms if column is not None]
+
 
 def statement(words):
     match words:
@@ -157,7 +177,7 @@ def read(line):
     if not space or not re.fullmatch(rb"[1-9]|[1-5][0-9]|6[0-4]", session):
         return 0, None
     try:
-        return int(session), statement(rest.split(b" ")) if len(line) <= 4096 else None
+        return int(session), statement(parts(rest)) if len(line) <= 4096 else None
     except BadLine:
         return int(session), None
 
@@ -176,12 +196,12 @@ def stages_of(session, said):
 
 # Rows and replies.
 
-def numbers(values):
-    return b" ".join(b"%d" % v for v in values)
+def shown(values):
+    return b" ".join(b'"%s"' % v if isinstance(v, bytes) else b"%d" % v for v in values)
 
 
 def row(key, values):
-    return b"row " + numbers((key, *values))
+    return b"row " + shown((key, *values))
 
 
 def rows(lines):
@@ -212,9 +232,10 @@ class Version:
 
 class State:
     def __init__(self, schema):
-        """`schema` is a dictionary from the names of relations to lists of columns."""
+        """`schema` is a dictionary from the names of relations to lists of columns, which are names, or names with `:` and a width."""
         root = Version(b"master@0", [], {relation: {} for relation in schema})
-        self.schema = schema
+        self.schema = {relation: [column.partition(b":")[0] for column in columns] for relation, columns in schema.items()}
+        self.widths = {relation: [int(column.partition(b":")[2] or b"0") for column in columns] for relation, columns in schema.items()}
         # the versions of each branch by position, branches in the order made; at 0 stands the one from which the branch was made
         self.branches = {b"master": [root]}
         self.made = [root]  # in the order made
@@ -357,6 +378,12 @@ class Run:
                     raise Refused(b"3 no column " + column)
             if said.values and len(said.values) != len(columns):
                 raise Refused(b"21 value count %s %d" % (said.relations[0], len(columns)))
+            for column, v, is_stored in said.given(columns):
+                width = self.state.widths[said.relations[0]][columns.index(column)]
+                if isinstance(v, bytes) != (width > 0):
+                    raise Refused(b"22 wrong kind " + column)
+                if is_stored and width and len(v) > width:
+                    raise Refused(b"23 text too long " + column)
 
     # What it reads, and what it ends with.
 
@@ -459,7 +486,7 @@ class Run:
     def join(self, said):
         first, second = [self.found(of) for of in said.names]
         other = second[said.relations[1]]
-        return rows([b"pair %s | %s" % (numbers((key, *values)), numbers(other[key])) for key, values in self.rows_of(said, first) if key in other])
+        return rows([b"pair %s | %s" % (shown((key, *values)), shown(other[key])) for key, values in self.rows_of(said, first) if key in other])
 
     def minus(self, said):
         first, second = [self.found(of) for of in said.names]
@@ -487,9 +514,10 @@ class Run:
         if said.kind == "insert" and len(table) == KEYS:
             raise Refused(b"17 table full " + relation)
         touched = self.touched | {(relation, said.key)}
+        tables = with_key(self.tables, relation, said.key, final(self.state.schema[relation], table.get(said.key)))
         self.refuse_room(touched)
-        self.touched = touched
-        self.tables = with_key(self.tables, relation, said.key, final(self.state.schema[relation], table.get(said.key)))
+        self.refuse_body(tables, touched, self.second)
+        self.tables, self.touched = tables, touched
         return self.done()
 
     def merge(self, said):
@@ -503,7 +531,9 @@ class Run:
         changed = {(relation, key) for relation, table in result.items() for key in table.keys() | self.tables[relation].keys()
                    if table.get(key) != self.tables[relation].get(key)}
         self.refuse_room(changed)
-        self.tables, self.touched, self.second = result, changed, self.state.place((said.branch, None))
+        second = self.state.place((said.branch, None))
+        self.refuse_body(result, changed, second)
+        self.tables, self.touched, self.second = result, changed, second
         return self.done()
 
     def refuse_full(self):
@@ -513,6 +543,16 @@ class Run:
     def refuse_room(self, touched):
         if len(touched) > self.room:
             raise Refused(b"12 room %d" % self.room)
+
+    def refuse_body(self, tables, touched, second):
+        """By the bytes of the entry that it would have. If one of its changes has a text, a byte stands before each field."""
+        widths = self.state.widths
+        if 18 + len(touched) * max(10 + sum(1 + (w or 8) for w in ws) for ws in widths.values()) <= BODY:
+            return
+        put = [widths[relation] for relation, key in touched if key in tables[relation]]
+        extra = 1 if any(any(ws) for ws in put) else 0
+        if 10 + (8 if second else 0) + 10 * len(touched) + sum(extra + (w or 8) for ws in put for w in ws) > BODY:
+            raise Refused(b"20 body full")
 
 
 # Locks.

@@ -17,12 +17,17 @@ SCHEMAS = (
     ((b"genes", b"len", b"score"), (b"notes", b"gene", b"mark"), (b"x_9x_9x_9x_9x_9x_9x_9x_9x_9x_9x_", b"master")),
     ((b"wide",) + tuple(b"c%d" % n for n in range(15)), (b"on", b"begin", b"on")),
     tuple((b"r%d" % n, b"a", b"b") for n in range(8)),
+    ((b"tags", b"name:8", b"n"),),
+    ((b"items", b"a", b"b"), (b"notes", b"text:64", b"key_:1", b"mark")),
+    ((b"genes", b"name:3", b"other:12"), (b"wide",) + tuple(b"c%d:%d" % (n, n * n % 65) if n % 65 and n * n % 65 else b"c%d" % n for n in range(15))),
 )
 BRANCH_NAMES = (b"dev", b"ann", b"bob", b"b" * 32) + tuple(b"b%d" % n for n in range(15))  # master beside them
 OTHER_NAMES = (b"nothing", b"masters", b"r8", b"z", b"a", b"items", b"dev")
 NO_WORDS = (b"heads", b"key", b"in", b"A", b"b" * 33, b"", b"9", b"_a", b"it-s", b"a@0", b"a=1")
 ODD_NUMBERS = (b"18446744073709551615", b"18446744073709551616", b"9223372036854775807", b"9223372036854775808", b"-9223372036854775808",
                b"-9223372036854775809", b"-1", b"-0", b"01", b"+1", b"", b"1e3", b"9" * 23, b"9" * 40, b"-", b"--1")
+TEXT_PARTS = (b"a", b"b", b"ab", b" ", b"=", b", ", b" and ", b"where", b"0", b"-1", b"~", b"#", b"\\", b"'", b"name=5", b"z" * 9)
+ODD_TEXTS = (b"\"", b"\"\"\"", b"\"a", b"a\"", b"\"a\"b\"", b"\"a\"\"b\"", b"\"\x1f\"", b"\"\x7f\"", b"\"\xe9\"", b"\"" + b"x" * 65 + b"\"", b"\"" + b"x" * 64 + b"\"", b"''", b"\" \"")
 OTHER_LINES = (b"hello", b"1", b"1 ", b" 1 commit", b"1 commit ", b"1  commit", b"1 Commit", b"01 commit", b"0 begin", b"65 begin", b"2", b"64 commit",
                b"2 abort ", b"3 nothing", b"1 begin 0", b"1 begin 65537", b"2 begin 65536 1", b"1 begin -1", b"1 commit 1", b"2 abort now",
                b"1 merge", b"1 merge dev middle", b"1 merge dev@1", b"1 graph all", b"1 on", b"1 log dev ann", b"1 on master@0",
@@ -65,8 +70,21 @@ class Script:
             return self.source.choice(ODD_NUMBERS)
         return b"%d" % (self.source.choice(sorted(keys)) if keys and self.source.random() < 0.6 else self.source.randrange(6))
 
-    def value(self):
+    def value(self, column=b""):
+        """Mostly one for the column."""
+        width = int(column.partition(b":")[2] or b"0")
+        if self.source.random() < 0.03:
+            width = self.source.choice((0, 1, 64))
+        if width:
+            return self.text(width)
         return self.source.choice(ODD_NUMBERS) if self.source.random() < 0.01 else b"%d" % self.source.choice((self.source.randrange(-1, 4), self.source.randrange(-9, 99)))
+
+    def text(self, width):
+        """Mostly one that is no longer than this."""
+        if self.source.random() < 0.02:
+            return self.source.choice(ODD_TEXTS)
+        text = b"".join(self.source.choice(TEXT_PARTS) for _ in range(self.source.choice((0, 1, 1, 1, 2, 2, 3, 9))))
+        return b"\"" + text[:width if self.source.random() < 0.97 else 64] + b"\""
 
     def branch(self):
         """Mostly one that is there."""
@@ -88,13 +106,14 @@ class Script:
         chosen = self.source.sample(columns, min(count, len(columns)))
         if self.source.random() < 0.1:
             chosen.insert(self.source.randrange(len(chosen) + 1), self.one_of(columns, 0.7))
-        return [column + self.source.choice((b"=",) * 80 + (b"", b"==", b" =")) + self.value() for column in chosen]
+        return [column.partition(b":")[0] + self.source.choice((b"=",) * 80 + (b"", b"==", b" =")) + self.value(column) for column in chosen]
 
     def where(self, columns, chance):
         words = []
         while self.source.random() < chance and len(words) < 64:
             column = self.one_of([b"key", *columns], 0.05)
-            words += [b"and" if words else b"where", column, self.source.choice([*model.OPERATORS] * 9 + [b"<>"]), self.key() if column == b"key" else self.value()]
+            words += [b"and" if words else b"where", column.partition(b":")[0], self.source.choice([*model.OPERATORS] * 9 + [b"<>"]),
+                      self.key() if column == b"key" else self.value(column)]
             chance = 0.4
         return words
 
@@ -113,8 +132,8 @@ class Script:
         word, (relation, *columns) = kind.split("_")[0].encode(), self.source.choice(self.schema)
         there, named = self.model.state.branches[self.current()][-1].tables[relation], self.one_of([relation], 0.04)
         if kind == "insert":
-            count = len(columns) if self.source.random() < 0.95 else self.source.randrange(18)
-            return [word, named, self.key()] + [self.value() for _ in range(count)]
+            given = columns if self.source.random() < 0.95 else (columns * 18)[:self.source.randrange(18)]
+            return [word, named, self.key()] + [self.value(column) for column in given]
         if kind == "update":
             return [word, named, self.key(there)] + self.pairs(columns)
         if kind in ("delete", "get"):
@@ -154,7 +173,7 @@ class Script:
             self.session = 1
         line = b" ".join([b"%d" % self.session] + self.statement(built))
         if self.source.random() < 0.03:  # one byte too many, too few, or another one
-            at, byte = self.source.randrange(len(line) + 1), bytes([self.source.choice(b" -#0129azAZ_@=,<\x00\xff\r\t")])
+            at, byte = self.source.randrange(len(line) + 1), bytes([self.source.choice(b" -#0129azAZ_@=,<\"\"\x00\xff\r\t")])
             line = self.source.choice([line[:at] + byte + line[at:], line[:max(at - 1, 0)] + line[at:], line[:at] + byte + line[at + 1:]])
         return line
 
