@@ -1,12 +1,17 @@
 -- Words that are cut out of a statement again, and texts that are read again.
-use Rattle.std.proofs.Common.{◌≡◌, ℕ, ◌+◌, ◌-◌, Bool, true, false, ◌&&◌, cond, List, [], ◌∷◌, ◌++◌, length, take, get_or, refl, ap, sym, subst, ◌∙◌, arith, append-nil, length-append, Some, None}
-use Rattle.std.specs.Prelude.{◌==◌, not, nat_lt, nat_le}
+use Rattle.std.proofs.Common.{◌≡◌, ℕ, suc, ◌+◌, ◌-◌, ◌≤◌, Bool, true, false, ◌&&◌, cond, List, [], ◌∷◌, ◌++◌, length, take, drop, get_or, refl, ap, sym, subst, ◌∙◌, arith, append-nil, length-append, Option, Some}
+use Rattle.std.specs.Prelude.{◌==◌, not, nat_lt, nat_le, Ok, Err}
 use Rattle.std.specs.Int.{is_in_range}
-use Rattle.std.specs.List.{AllByRecursion, list_all, onto_first}
-use Rattle.std.proofs.lemmas.Bool.{lt-ltb}
+use Rattle.std.specs.List.{AllByRecursion, list_all, onto_first, position_from}
+use Rattle.std.proofs.lemmas.Bool.{lt-ltb, le-leb}
+use Rattle.std.proofs.lemmas.Iterator.Adapters.{position_from-zero}
 use Rattle.db_value.specs.Text.{is_text, is_text_byte}
 use Rattle.db_value.specs.declared.value.Value.TheVariants.{Text}
-use Rattle.stmt_text.specs.Cut.{is_cut, is_inside, parts_from, parts_of}
+use Rattle.stmt_text.specs.declared.stmt.Stmt.{Stmt}
+use Rattle.stmt_text.specs.Number.{key_of}
+use Rattle.stmt_text.specs.Statement.{stmt_of}
+use Rattle.stmt_text.specs.Line.{session_with, session_before, rest_behind, line_with, line_of}
+use Rattle.stmt_text.specs.Cut.{first_space, is_cut, is_inside, parts_from, parts_of}
 use Rattle.stmt_text.specs.Field.{ended_text, text_field, field_of}
 use Rattle.stmt_text.specs.Spelling.{behind_spaces}
 use Rattle.stmt_text.proofs.NumberLemmas.{both}
@@ -85,3 +90,33 @@ ended_by bs t n long last front e =
 pub text_back : (t : List ℕ) → is_text t ≡ true → field_of (34 ∷ t ++ 34 ∷ []) ≡ Some (Text t)
 unfolding field_of
 text_back t e = ap text_field (ended_by (t ++ 34 ∷ []) t (length t) (length-append t (34 ∷ [])) (last_is t 34) (front_is t (34 ∷ [])) e)
+
+-- ---- lines
+
+abbrev is_space : ℕ → Bool
+is_space b = b == 32
+
+space_behind : (k : ℕ) (w rest : List ℕ) → list_all is_plain w ≡ true → position_from is_space k (w ++ 32 ∷ rest) ≡ Some (k + length w)
+space_behind k [] rest e = let here : k ≡ k + 0 = omega arith in ap (λ (n : ℕ). Some n) here
+space_behind k (b ∷ bs) rest e =
+    let p = both (is_plain b) (list_all is_plain bs) e in
+    let space : (b == 32) ≡ false = flipped (b == 32) (both (not (b == 32)) (not (b == 34)) p.0).0 in
+    let far : k + 1 + length bs ≡ k + suc (length bs) = omega arith in
+    ap (λ (t : Bool). cond t (Some k) (position_from is_space (k + 1) (bs ++ 32 ∷ rest))) space ∙ space_behind (k + 1) bs rest p.1 ∙ ap (λ (n : ℕ). Some n) far
+
+behind_is : (w rest : List ℕ) → drop (length w + 1) (w ++ 32 ∷ rest) ≡ rest
+behind_is [] rest = refl
+behind_is (b ∷ bs) rest = behind_is bs rest
+
+-- a session, and the words of a statement behind spaces, are read as the line
+pub line_read : (n : ℕ) (w v : List ℕ) (vs : List (List ℕ)) (x : Stmt) → list_all is_plain w ≡ true → session_with (key_of w) ≡ suc n → Whole false v → AllByRecursion (Whole false) vs → stmt_of (v ∷ vs) ≡ Some x
+    → length (w ++ behind_spaces (v ∷ vs)) ≤ 4096 → line_of (w ++ behind_spaces (v ∷ vs)) ≡ Ok (record { session = suc n; stmt = x })
+line_read n w v vs x plain session whole wholes stmt short =
+    let rest : List ℕ = v ++ behind_spaces vs in
+    let text : List ℕ = w ++ 32 ∷ rest in
+    let place : first_space text ≡ Some (length w) = position_from-zero is_space text ∙ space_behind 0 w rest plain in
+    let long : nat_le (length text) 4096 ≡ true = le-leb (length text) 4096 short in
+    let number : session_with (key_of (take (length w) text)) ≡ suc n = ap (λ (u : List ℕ). session_with (key_of u)) (front_is w (32 ∷ rest)) ∙ session in
+    let said : stmt_of (parts_of (drop (length w + 1) text)) ≡ Some x = ap (λ (u : List ℕ). stmt_of (parts_of u)) (behind_is w rest) ∙ ap stmt_of (parts_behind v vs whole wholes) ∙ stmt in
+    ap (λ (o : Option ℕ). cond (nat_le (length text) 4096) (line_with (session_before text o) (stmt_of (rest_behind text o))) (Err (session_before text o))) place
+    ∙ rw (long, number, said) refl

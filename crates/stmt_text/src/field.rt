@@ -10,7 +10,10 @@ fn ended_text(bytes: &[u8]) -> Option<ShortText>
     ensures { result ≡ ended_text bytes.now }
 {
     let len = bytes.len();
-    if len == 0 || bytes[len - 1] != b'"' {
+    if len == 0 {
+        return None;
+    }
+    if bytes[len - 1] != b'"' {
         return None;
     }
     ShortText::of(&bytes[..len - 1])
