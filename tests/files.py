@@ -20,10 +20,14 @@ def named(name):
 
 
 def image_of(schema, widths=True):
-    """The image of a new dataset. `schema` has a relation's name with its columns, in order. In the first format they have no widths."""
+    """The image of a new dataset. `schema` has a relation's name with its columns, in order: names, or names with `:` and a width. In the first format
+    they have no widths."""
     out = bytes([len(schema)])
     for name, columns in schema:
-        out += named(name) + bytes([len(columns)]) + b"".join(named(c) + b"\0" * widths for c in columns)
+        out += named(name) + bytes([len(columns)])
+        for column in columns:
+            word, _, width = column.partition(b":")
+            out += named(word) + bytes([int(width or b"0")]) * widths
     return out + u32(1) + named(b"master") + u32(0, 0) + u32(0) + u32(1, 1, 0, 1, 0, 0, 0, 0) * len(schema)
 
 
@@ -39,10 +43,25 @@ def new_file(schema):
     return header(1, image_of(schema)) + b"\0"
 
 
+class Text(bytes):
+    """A text of a column of this width."""
+
+    def __new__(cls, text, width):
+        made = bytes.__new__(cls, text)
+        made.width = width
+        return made
+
+
+def field_of(value, is_wide):
+    width = getattr(value, "width", 0)
+    return bytes([width]) * is_wide + images.field_of(value, width)
+
+
 def commit(branch, changes, second=None):
-    """`changes` has relation, key and values, or no values for a deletion."""
-    out = b"\x01" + u32(branch) + (b"\0" if second is None else b"\x01" + u32(*second)) + u32(len(changes))
-    return out + b"".join(bytes([r, len(values)]) + struct.pack("<Q", key) + b"".join(struct.pack("<q", v) for v in values) for r, key, values in changes)
+    """`changes` has relation, key and values, or no values for a deletion. A text is a `Text`."""
+    is_wide = any(isinstance(value, Text) for _, _, values in changes for value in values)
+    out = (b"\x03" if is_wide else b"\x01") + u32(branch) + (b"\0" if second is None else b"\x01" + u32(*second)) + u32(len(changes))
+    return out + b"".join(bytes([r, len(values)]) + struct.pack("<Q", key) + b"".join(field_of(v, is_wide) for v in values) for r, key, values in changes)
 
 
 class Reader:
@@ -72,7 +91,7 @@ class Reader:
         text = self.take(width).rstrip(b"\0") if width <= 64 else b"\0"
         if not all(32 <= c <= 126 and c != 34 for c in text):
             raise ValueError
-        return text
+        return Text(text, width)
 
 
 def entries_in(body):
@@ -112,7 +131,7 @@ class Dataset:
     """Of each branch the tables of its positions, which an image has at first; a table has fields by relation and key."""
 
     def __init__(self, image):
-        self.schema, self.names, self.tables = image.relations, [name for name, _ in image.branches], image.tables()
+        self.widths, self.names, self.tables = image.widths, [name for name, _ in image.branches], image.tables()
 
     def is_made(self, branch, position):
         return branch < len(self.names) and position < len(self.tables[branch])
@@ -129,14 +148,14 @@ class Dataset:
         _, branch, second, changes = entry
         if not self.is_made(branch, 0) or len(self.tables[branch]) >= MOST_VERSIONS or (second and not self.is_made(*second)):
             return False
-        if any(r >= len(self.schema) or (values and len(values) != len(self.schema[r][1])) or any(isinstance(v, bytes) for v in values) for r, _, values in changes):
+        if any(r >= len(self.widths) or (values and [getattr(v, "width", 0) for v in values] != self.widths[r]) for r, _, values in changes):
             return False
         table = dict(self.tables[branch][-1])
         for r, key, values in changes:
             table.pop((r, key), None)
             if values:
                 table[r, key] = values
-        if any(sum(1 for where in table if where[0] == r) > MOST_KEYS for r in range(len(self.schema))):
+        if any(sum(1 for where in table if where[0] == r) > MOST_KEYS for r in range(len(self.widths))):
             return False
         self.tables[branch].append(table)
         return True

@@ -11,12 +11,12 @@ class Fault(Exception):
 
 
 class Image:
-    """Relations and branches are lists of names with what they have: columns, or the place of the origin. A version is a branch and the place of a second
-    parent or None. Of each relation there are segments: a head or None, records with a key and fields, and rows with a branch, a first position and deltas;
+    """Relations and branches are lists of names with what they have: columns, or the place of the origin. Beside the relations stand the widths of their
+    columns. A version is a branch and the place of a second parent or None. Of each relation there are segments: a head or None, records with a key and fields, and rows with a branch, a first position and deltas;
     a delta is a set of slots."""
 
     def __init__(self):
-        self.relations, self.branches, self.versions, self.segments = [], [], [], []
+        self.relations, self.widths, self.branches, self.versions, self.segments = [], [], [], [], []
 
     def lasts(self):
         """Of each branch the last position."""
@@ -68,14 +68,36 @@ class Reader:
         return found
 
 
-def page_in(r, columns, count):
-    """The records of a page, with so many fields."""
+def row_size(widths):
+    return 8 + sum(width or 8 for width in widths)
+
+
+def field_in(data, width):
+    """A number, or a text as bytes; None if the bytes are no text with zeros behind it."""
+    if not width:
+        return struct.unpack("<q", data)[0]
+    text = data.rstrip(b"\0")
+    return text if all(32 <= c <= 126 and c != 34 for c in text) else None
+
+
+def field_of(value, width):
+    return value.ljust(width, b"\0") if width else struct.pack("<q", value)
+
+
+def page_in(r, widths, count):
+    """The records of a page, with fields of these widths."""
     item = r.at
-    page = r.bytes(PAGE)
-    size = 8 * (columns + 1)
-    r.rule(page[:16] == struct.pack("<HB", count, columns) + bytes(13) and not any(page[16 + count * size:]), item)
-    found = [struct.unpack("<Q%dq" % columns, page[16 + n * size:16 + (n + 1) * size]) for n in range(count)]
-    return [(key, tuple(fields)) for key, *fields in found]
+    page, found, at = r.bytes(PAGE), [], 16
+    for _ in range(count):
+        key, fields = struct.unpack("<Q", page[at:at + 8])[0], []
+        at += 8
+        for width in widths:
+            fields.append(field_in(page[at:at + (width or 8)], width))
+            at += width or 8
+        found.append((key, tuple(fields)))
+    r.rule(page[:16] == struct.pack("<HB", count, len(widths)) + bytes(13) and not any(page[at:]), item)
+    r.rule(all(field is not None for _, fields in found for field in fields), item)
+    return found
 
 
 def delta_in(r, size):
@@ -99,13 +121,13 @@ def row_in(r, lasts, size, behind):
     return branch, first, deltas + [delta_in(r, size) for _ in range(lasts[branch] - first)]
 
 
-def segment_in(r, columns, lasts):
+def segment_in(r, widths, lasts):
     head = r.among(0, len(lasts)) - 1
     count = r.number()
     r.rule(head < 0 or count <= 65_536 * lasts[head])
-    full, records = 4_080 // (8 * (columns + 1)), []
+    full, records = 4_080 // row_size(widths), []
     while len(records) < count:
-        records += page_in(r, columns, min(full, count - len(records)))
+        records += page_in(r, widths, min(full, count - len(records)))
     rows = []
     for _ in range(r.among(0, len(lasts))):
         rows.append(row_in(r, lasts, count, rows[-1][0] if rows else -1))
@@ -116,12 +138,12 @@ def read(data, widths=True):
     """An image, or a fault. In the first format the columns have no widths."""
     image, r = Image(), Reader(data)
     for _ in range(r.among(1, 8, 1)):
-        name, columns = r.name([name for name, _ in image.relations]), []
+        name, columns, own = r.name([name for name, _ in image.relations]), [], []
         for _ in range(r.among(1, 15, 1)):
             columns.append(r.name(columns))
-            if widths:
-                r.among(0, 0, 1)
+            own.append(r.among(0, 64, 1) if widths else 0)
         image.relations.append((name, columns))
+        image.widths.append(own)
     begins = []  # of each branch the version at position 0
     for n in range(r.among(1, MOST_BRANCHES)):
         item = r.at
@@ -147,8 +169,8 @@ def read(data, widths=True):
             second = other, r.among(0, lasts[other])
         lasts[branch] += 1
         image.versions.append((branch, second))
-    for _, columns in image.relations:
-        image.segments.append([segment_in(r, len(columns), lasts) for _ in range(r.among(0, 2 * len(lasts) - 1))])
+    for own in image.widths:
+        image.segments.append([segment_in(r, own, lasts) for _ in range(r.among(0, 2 * len(lasts) - 1))])
     r.rule(r.at == len(data), r.at)
     r.rule(is_whole(image, lasts), len(data))
     return image
@@ -191,23 +213,24 @@ def delta_of(slots):
     return u32(first, len(words)) + struct.pack("<%dQ" % len(words), *words)
 
 
-def pages_of(columns, records):
-    full = 4_080 // (8 * (columns + 1))
+def pages_of(widths, records):
+    full = 4_080 // row_size(widths)
     for at in range(0, len(records), full):
         part = records[at:at + full]
-        yield (struct.pack("<HB13x", len(part), columns) + b"".join(struct.pack("<Q%dq" % columns, key, *fields) for key, fields in part)).ljust(PAGE, b"\0")
+        rows = b"".join(struct.pack("<Q", key) + b"".join(map(field_of, fields, widths)) for key, fields in part)
+        yield (struct.pack("<HB13x", len(part), len(widths)) + rows).ljust(PAGE, b"\0")
 
 
 def spelled(image):
     """The bytes of an image, in the format that is written."""
     out = [bytes([len(image.relations)])]
-    out += [named(name) + bytes([len(columns)]) + b"".join(named(c) + b"\0" for c in columns) for name, columns in image.relations]
+    out += [named(name) + bytes([len(columns)]) + b"".join(named(c) + bytes([width]) for c, width in zip(columns, own)) for (name, columns), own in zip(image.relations, image.widths)]
     out += [u32(len(image.branches))] + [named(name) + u32(*origin) for name, origin in image.branches]
     out += [u32(len(image.versions))] + [u32(branch) + (b"\0" if second is None else b"\1" + u32(*second)) for branch, second in image.versions]
-    for (_, columns), segments in zip(image.relations, image.segments):
+    for own, segments in zip(image.widths, image.segments):
         out.append(u32(len(segments)))
         for head, records, rows in segments:
-            out += [u32(0 if head is None else head + 1, len(records)), *pages_of(len(columns), records), u32(len(rows))]
+            out += [u32(0 if head is None else head + 1, len(records)), *pages_of(own, records), u32(len(rows))]
             out += [u32(branch, first) + b"".join(map(delta_of, deltas)) for branch, first, deltas in rows]
     return b"".join(out)
 
@@ -220,6 +243,7 @@ def of_model(state):
         return numbers[of[0]], of[1]
 
     image.relations = [(name, list(columns)) for name, columns in state.schema.items()]
+    image.widths = [list(own) for own in state.widths.values()]
     image.branches = [(name, place(origin)) for name, origin in state.layout.origins.items()]
     image.versions = [(numbers[version.name.partition(b"@")[0]], version.second and place(version.second)) for version in state.made[1:]]
     for of in state.layout.segments.values():
