@@ -1,13 +1,13 @@
 """Worked blocks: lines that a new dataset is asked, each with its reply, written by hand in the files of tests/blocks/ and in docs/.
 
 A block of tests/blocks/ stands after a line `## ` with its name. Its schema stands before its first echoed line, or is USUAL. Blocks of the
-file of a stage (`STAGES` in tests/model.py) are asked of the program if that stage is built, and those of `first` always. In a page of docs/
+file of a stage (`STAGES` in tests/model.py) are asked of the program if that stage is built, and those of `first` and `texts` always. In a page of docs/
 each fenced block with an echoed line is a block; in a story each goes on where the one before it ended, from the table that the story imports.
 """
 import os, re
 
 USUAL = b"relation items a b\nend\n"
-FIRST = "first"
+FIRST, TEXTS = "first", "texts"
 STORIES = ("TUTORIAL.md",)
 
 
