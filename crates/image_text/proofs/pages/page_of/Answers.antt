@@ -1,5 +1,4 @@
-use Rattle.std.proofs.Common.{◌≡◌, ap, sym, ◌∙◌, true, Some}
-use Rattle.record_page.specs.Page.{is_page, rows_in}
+use Rattle.std.proofs.Common.{sym, ◌∙◌}
 use Rattle.image_text.proofs.Seen.{page_read, page_here}
 use Rattle.image_text.proofs.pages.page_of.Goals as goal
 

@@ -1,4 +1,4 @@
-use Rattle.std.proofs.Common.{◌≡◌, ◌∙◌, ap, get_or, true, List, map}
+use Rattle.std.proofs.Common.{◌≡◌, ◌∙◌, ap, get_or, List, map}
 use Rattle.std.proofs.lemmas.List.{get_or_default}
 use Rattle.db_value.specs.Width.{are_widths}
 use Rattle.db_value.specs.Relations.{no_relation}

@@ -1,4 +1,4 @@
-use Rattle.std.proofs.Common.{◌≡◌, ◌++◌, map, List, ap, ◌∙◌, arith}
+use Rattle.std.proofs.Common.{◌++◌, map, List, ap, ◌∙◌, arith}
 use Rattle.std.proofs.lemmas.List.{take_all}
 use Rattle.db_value.specs.declared.record.Record.{Record}
 use Rattle.image_text.proofs.records.put_keys_of.Goals as goal

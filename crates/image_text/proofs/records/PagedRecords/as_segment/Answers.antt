@@ -1,4 +1,4 @@
-use Rattle.std.proofs.Common.{◌≡◌, ◌<◌, ◌+◌, ◌^◌, ap, ◌∙◌, length, List, arith}
+use Rattle.std.proofs.Common.{length, List, ap, arith}
 use Rattle.db_value.specs.declared.record.Record.{Record}
 use Rattle.record_page.specs.Page.{Rows}
 use Rattle.image_text.proofs.records.PagedRecords.as_segment.Goals as goal
