@@ -1,7 +1,7 @@
 -- Writing pages, and the segments of each relation.
 use Rattle.std.proofs.Common.{◌≡◌, ℕ, zero, suc, ◌+◌, ◌-◌, ◌*◌, ◌<◌, ◌≤◌, List, [], ◌∷◌, ◌++◌, length, get_or, take, drop, refl, sym, ap, ap₂, subst, ◌∙◌, append_assoc, arith, inl, inr}
 use Rattle.std.proofs.lemmas.Bool.{cases_lt, lt-ltb, le-ltb}
-use Rattle.std.proofs.lemmas.List.{length-append, length-drop, append-nil, drop_more, drop-drop, take_all, nil_from_length}
+use Rattle.std.proofs.lemmas.List.{length-drop, append-nil, drop_more, drop-drop, take_all, nil_from_length}
 use Rattle.db_value.specs.declared.record.Record.{Record}
 use Rattle.db_value.specs.declared.schema.Relation.{Relation}
 use Rattle.record_page.specs.Page.{Rows, capacity, page_bytes as page_text}
