@@ -1,5 +1,5 @@
 -- The record with a key, as the row of a reply.
-use Rattle.std.proofs.Common.{◌≡◌, ◌<◌, ℕ, Bool, true, false, is_some, length, refl, ap, sym, ◌∙◌, subst, Option, Some, None, List}
+use Rattle.std.proofs.Common.{◌≡◌, ◌<◌, ℕ, true, false, is_some, length, refl, ap, sym, ◌∙◌, Option, Some, None, List}
 use Rattle.std.specs.Prelude.{Result, Ok, Err, IfSome, IsErr, OnErr}
 use Rattle.std.proofs.lemmas.Bool.{lt-ltb}
 use Rattle.db_value.specs.Value.{Value}
