@@ -1,5 +1,5 @@
 -- A line that is refused early: its reply depends on the schema and on whether a transaction is open and has changed something, and it leaves the transaction.
-use Rattle.std.proofs.Common.{◌≡◌, ℕ, is_some, Bool, true, false, cond, List, [], ◌∷◌, length, map, refl, ap, sym, ◌∙◌, Option, Some, None}
+use Rattle.std.proofs.Common.{◌≡◌, ℕ, is_some, Bool, true, false, cond, List, [], ◌∷◌, map, refl, ap, sym, ◌∙◌, Option, Some, None}
 use Rattle.std.specs.Prelude.{Result, Ok, Err}
 use Rattle.db_value.specs.Value.{Value}
 use Rattle.db_value.specs.Relations.{columns_at, widths_at}

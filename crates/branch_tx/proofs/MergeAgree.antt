@@ -1,5 +1,5 @@
 -- A working table in which nothing is touched agrees with views that are merged into it.
-use Rattle.std.proofs.Common.{◌≡◌, ℕ, ◌<◌, ◌≤◌, Bool, List, [], ◌∷◌, length, map, ap, sym, ◌∙◌, refl, subst, arith, inl, inr, ◌⊎◌}
+use Rattle.std.proofs.Common.{◌≡◌, ℕ, ◌<◌, ◌≤◌, Bool, List, [], ◌∷◌, length, map, ap, sym, ◌∙◌, refl, subst, arith, inl, inr}
 use Rattle.db_value.specs.Schema.{most_relations}
 use Rattle.db_value.specs.declared.record.Record.{Record}
 use Rattle.db_value.specs.declared.schema.Relation.{Relation}
@@ -8,12 +8,12 @@ use Rattle.db_store.specs.declared.work.Work.{Work}
 use Rattle.work_region.specs.declared.rows.RowFrame.{RowFrame as Touch}
 use Rattle.db_store.specs.Overlay.{untouched, count_touched}
 use Rattle.db_store.specs.Parts.{Part, part_at, records_in}
-use Rattle.db_store.specs.WorkParts.{own_slot, own_part, parts_over}
+use Rattle.db_store.specs.WorkParts.{own_part, parts_over}
 use Rattle.db_store.specs.WorkState.{under_of, overlays_of}
 use Rattle.db_store.proofs.OverlayLemmas.{count_untouched}
 use Rattle.multi_scan.specs.Agree.{AgreeOn}
 use Rattle.field_merge.specs.Shared.{AgreeAsLong, PartsAgree}
-use Rattle.branch_tx.specs.Shown.{Shown, parts_by, ViewsAgree}
+use Rattle.branch_tx.specs.Shown.{parts_by, ViewsAgree}
 use Rattle.branch_tx.proofs.ShownLemmas.{shown_at}
 use Rattle.branch_tx.proofs.SeenAgree.{Which, which}
 

@@ -1,5 +1,5 @@
 -- The record with a key, as the row of a reply.
-use Rattle.std.proofs.Common.{◌≡◌, ◌<◌, ℕ, Bool, true, false, is_some, length, refl, ap, sym, ◌∙◌, subst, Option, Some, None, List}
+use Rattle.std.proofs.Common.{◌≡◌, ◌<◌, ℕ, true, false, is_some, length, refl, ap, sym, ◌∙◌, Option, Some, None, List}
 use Rattle.std.specs.Prelude.{Result, Ok, Err, IfSome, IsErr, OnErr}
 use Rattle.std.proofs.lemmas.Bool.{lt-ltb}
 use Rattle.db_value.specs.Value.{Value}
@@ -19,4 +19,4 @@ record_some key (Some fields) row e f k = λ i. Some (record { key = k i; fields
 -- it is a far one if memory was wanted for it
 pub far_if : {T E : Type 0} (r : Result T E) (o : Option Record) (row : Record) → Some row ≡ o → (IsErr r → most_near < length (fields_bytes row.fields)) → OnErr r (is_far o ≡ true)
 far_if (Ok x) o row e f = tt
-far_if (Err x) o row e f = ap is_far (sym e) ∙ lt-ltb most_near (length (fields_bytes row.fields)) (f tt)
+far_if (Err x) o row e f = ap is_far (sym e) ∙ lt-ltb most_near (length (fields_bytes row.fields)) (f refl)

@@ -1,8 +1,8 @@
 -- A change that a transaction accepts leaves a table of the schema.
-use Rattle.std.proofs.Common.{◌≡◌, ◌≢◌, ◌⊎◌, inl, inr, ℕ, suc, ◌+◌, ◌-◌, ◌<◌, ◌≤◌, nat_lt, Bool, true, false, cond, is_some, List, [], ◌∷◌, length, set, Some, None, refl, ap, sym, ◌∙◌, subst, arith}
+use Rattle.std.proofs.Common.{◌≡◌, ◌≢◌, ◌⊎◌, inl, inr, ℕ, ◌+◌, ◌-◌, ◌<◌, ◌≤◌, nat_lt, Bool, true, false, cond, is_some, List, length, set, Some, None, refl, ap, sym, ◌∙◌, subst, arith}
 use Rattle.std.specs.FinMap as finite
 use Rattle.std.proofs.lemmas.Cmp.{nat_cmp_total}
-use Rattle.std.proofs.lemmas.Bool.{and_from, ltb-true, lt-ltb, le-leb, cases_eq}
+use Rattle.std.proofs.lemmas.Bool.{and_from, ltb-true, lt-ltb, cases_eq}
 use Rattle.std.proofs.lemmas.List.{length-set, get_or-set_same, get_or-set_other}
 use Rattle.db_value.specs.Value.{Value}
 use Rattle.db_value.specs.Relations.{widths_at}
@@ -10,7 +10,7 @@ use Rattle.db_value.specs.Widths.{meets}
 use Rattle.db_value.specs.declared.schema.Relation.{Relation}
 use Rattle.db_value.specs.declared.entry.Change.{Change}
 use Rattle.db_store.specs.Table.{Contents, Table, relation_at, changed, with_change}
-use Rattle.db_store.specs.Fits.{has_fields, change_fits, is_within, most_keys}
+use Rattle.db_store.specs.Fits.{has_fields, change_fits, most_keys}
 use Rattle.db_store.specs.Counted.{IsTable}
 use Rattle.db_store.specs.Overlay.{change_of}
 use Rattle.db_store.proofs.CountedLemmas.{IsShaped, change_shaped, table_shaped}

@@ -1,5 +1,5 @@
 -- What holds of the working table of a transaction, and goes on to do so after a change.
-use Rattle.std.proofs.Common.{◌≡◌, ℕ, ◌<◌, ◌≤◌, ◌&&◌, nat_lt, true, List, [], ◌∷◌, length, Option, Some, None, refl, ap, sym, ◌∙◌, subst, arith}
+use Rattle.std.proofs.Common.{◌≡◌, ℕ, ◌<◌, ◌≤◌, ◌&&◌, nat_lt, true, List, [], ◌∷◌, length, refl, ap, sym, ◌∙◌, subst, arith}
 use Rattle.std.specs.Prelude.{Result, Ok, Err, OnOk, OnErr}
 use Rattle.std.specs.List.{list_all}
 use Rattle.std.proofs.lemmas.Bool.{and_from, and_parts, ltb-true}
@@ -9,7 +9,7 @@ use Rattle.db_value.specs.declared.entry.Change.{Change}
 use Rattle.db_value.specs.declared.condition.Set.{Set}
 use Rattle.db_store.specs.declared.view.View.{Ghosts}
 use Rattle.db_store.specs.declared.work.Work.{Work}
-use Rattle.db_store.specs.Table.{Table, with_change, with_changes}
+use Rattle.db_store.specs.Table.{Table, with_changes}
 use Rattle.db_store.specs.Overlay.{Overlay, own_widths, change_of, laid, touch, untouched}
 use Rattle.db_store.specs.RowWidths.{all_widths}
 use Rattle.db_store.specs.Fits.{has_fields, has_widths, change_fits}

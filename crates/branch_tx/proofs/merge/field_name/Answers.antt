@@ -1,4 +1,4 @@
-use Rattle.std.proofs.Common.{◌≡◌, ◌∙◌, ◌<◌, [], Some, List, ap, sym, subst, length, map, get_or, arith}
+use Rattle.std.proofs.Common.{◌∙◌, ◌<◌, [], Some, List, ap, sym, subst, length, map, get_or, arith}
 use Rattle.std.proofs.lemmas.List.{length-map}
 use Rattle.db_value.specs.Relations.{columns_at}
 use Rattle.db_value.specs.declared.schema.Column.{Column}

@@ -1,6 +1,5 @@
 use Rattle.std.proofs.Common.{◌≡◌, true, ap, sym, ◌∙◌, subst, List}
 use Rattle.std.proofs.lemmas.Result.{IfOk-weaker, on_err_weaker}
-use Rattle.db_value.specs.declared.reply.Reply.{Reply}
 use Rattle.db_store.specs.Overlay.{Overlay}
 use Rattle.branch_tx.specs.Act.{Outcome}
 use Rattle.branch_tx.specs.Granted.{tells_far}
