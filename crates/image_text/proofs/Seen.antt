@@ -1,8 +1,8 @@
 -- The next page as the reader reads it.
-use Rattle.std.proofs.Common.{◌≡◌, ℕ, ◌-◌, ◌<◌, ◌≤◌, Bool, true, false, List, ◌++◌, length, take, drop, Result, Ok, Err, refl, sym, ap, ◌∙◌, arith}
-use Rattle.std.proofs.lemmas.Bool.{lt-ltb, le-ltb, eqb-true}
+use Rattle.std.proofs.Common.{◌≡◌, ℕ, ◌-◌, ◌<◌, ◌≤◌, Bool, true, false, cond, List, ◌++◌, length, take, drop, Option, Some, None, Result, Ok, Err, refl, sym, ap, ◌∙◌, arith}
+use Rattle.std.proofs.lemmas.Bool.{lt-ltb, le-ltb, eqb-true, eq-eqb}
 use Rattle.db_value.specs.declared.record.Record.{Record}
-use Rattle.record_page.specs.Page.{Rows, is_page, rows_in}
+use Rattle.record_page.specs.Page.{Rows, is_page, rows_in, page_in}
 use Rattle.image_text.specs.Reading.{◌>>=◌, Read, test, enough, next_page, on_page, is_page_of}
 use Rattle.image_text.proofs.Counted.{both_true}
 
@@ -56,6 +56,22 @@ read_here ws more count seen all page bytes front rest here at behind long is sa
 pub counted_here : (ws : List ℕ) (count : ℕ) (page : Rows) (bytes : List ℕ) → is_page_of ws count bytes ≡ true → page ≡ rows_in ws bytes → length page.records ≡ count
 counted_here ws count page bytes is same =
     ap (λ (p : Rows). length p.records) same ∙ eqb-true (length (rows_in ws bytes).records) count (both_true (is_page ws bytes) _ is).1
+
+abbrev some : Rows → Option Rows
+some x = Some x
+
+read_if : (b : Bool) (page rows : Rows) → cond b (Some rows) None ≡ some page → (b ≡ true) × (page ≡ rows)
+read_if true page rows e = (refl, cc)
+read_if false page rows e = absurd cc
+
+-- bytes that a page is read from are a page, and it is theirs
+pub page_read : (ws bytes : List ℕ) (page : Rows) → page_in ws bytes ≡ Some page → (is_page ws bytes ≡ true) × (page ≡ rows_in ws bytes)
+page_read ws bytes page e = read_if (is_page ws bytes) page (rows_in ws bytes) e
+
+-- they are one of so many records
+pub page_here : (ws : List ℕ) (count : ℕ) (bytes : List ℕ) (page : Rows) → is_page ws bytes ≡ true → page ≡ rows_in ws bytes → length page.records ≡ count → is_page_of ws count bytes ≡ true
+page_here ws count bytes page is same len =
+    rw (is, eq-eqb (length (rows_in ws bytes).records) count (ap (λ (p : Rows). length p.records) (sym same) ∙ len)) refl
 
 pub closed_here : (total : Read (ℕ × List Record)) (more : ℕ) (rows kept : List Record) (rest : List ℕ) → total ≡ Ok ((more, rows), rest) → kept ≡ rows → total ≡ Ok ((more, kept), rest)
 closed_here total more rows kept rest e same = e ∙ ap (λ (xs : List Record). moved more xs rest) (sym same)

@@ -103,6 +103,7 @@ impl PagedRecords {
             return self.segment.duplicate();
         }
         // Records may meet other widths than those of their pages. They are put on other pages then.
+        let _count = self.len();
         let rows = self.listed(alloc)?;
         Segment::new(alloc, widths)?.extended(&rows)
     }
