@@ -19,4 +19,4 @@ record_some key (Some fields) row e f k = λ i. Some (record { key = k i; fields
 -- it is a far one if memory was wanted for it
 pub far_if : {T E : Type 0} (r : Result T E) (o : Option Record) (row : Record) → Some row ≡ o → (IsErr r → most_near < length (fields_bytes row.fields)) → OnErr r (is_far o ≡ true)
 far_if (Ok x) o row e f = tt
-far_if (Err x) o row e f = ap is_far (sym e) ∙ lt-ltb most_near (length (fields_bytes row.fields)) (f tt)
+far_if (Err x) o row e f = ap is_far (sym e) ∙ lt-ltb most_near (length (fields_bytes row.fields)) (f refl)

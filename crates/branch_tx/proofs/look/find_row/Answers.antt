@@ -9,7 +9,7 @@ use Rattle.branch_tx.proofs.look.find_row.Goals as goal
 
 pub returns-then-not-find_counted-clause-row : goal.returns-then-not-find_counted-clause-row
 returns-then-not-find_counted-clause-row g c =
-    record_none c.args.key (finite.get (relation_at (g.V.View.table c.args.view.now) c.args.relation) c.args.key) (sym c.find_counted.ensures.there ∙ c.if-not-find_counted.true)
+    c.none.ensures ∙ record_none c.args.key (finite.get (relation_at (g.V.View.table c.args.view.now) c.args.relation) c.args.key) (sym c.find_counted.ensures.there ∙ c.if-not-find_counted.true)
 
 pub returns-clause-row : goal.returns-clause-row
 returns-clause-row g c =

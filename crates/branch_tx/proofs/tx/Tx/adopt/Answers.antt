@@ -23,8 +23,8 @@ adopt-requires-clause-meet g c =
     let fit = subst (λ (x : Granted). list_all (change_fits x.schema) c.args.changes.now ≡ true) (sym c.self.view_is) c.requires.fit in
     subst (λ (wss : List (List ℕ)). list_all (change_meets wss) c.args.changes.now ≡ true) (sym c.self.invariant.3) (fits_meet schema c.args.changes.now (omega (arith, few, c.self.invariant.0)) fit)
 
-pub invariant_of-self-in-Ok : goal.invariant_of-self-in-Ok
-invariant_of-self-in-Ok g c =
+pub invariant_of-self : goal.invariant_of-self
+invariant_of-self g c =
     let schema = c.self.inside.schema in
     let fit = subst (λ (x : Granted). list_all (change_fits x.schema) c.args.changes.now ≡ true) (sym c.self.view_is) c.requires.fit in
     holds_adopted schema _ c.self.inside.lent.1 c.self.inside.work c.adopt.new.self c.args.changes.now c.in-Ok.ensures.stays c.in-Ok.ensures.made fit c.self.invariant
