@@ -77,8 +77,8 @@ fn segment_of(alloc: Global, widths: &Widths, fields: u8) -> Result<Segment, All
 fn sum_of(row: &Record) -> u64 {
     let mut sum = row.key;
     let mut walk = row.fields.walk();
-    while let Some(value) = walk.next() {
-        if let Value::Number { value } = value {
+    for _ in 0..row.fields.count() {
+        if let Some(Value::Number { value }) = walk.next() {
             sum = sum.wrapping_add(value.cast_unsigned());
         }
     }

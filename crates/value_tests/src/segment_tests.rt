@@ -54,6 +54,20 @@ fn rows_of(
     Ok(Some(rows))
 }
 
+// The segment with so many records more, or as it is if none meet its widths.
+fn grown_once(alloc: Global, segment: &Segment, by: u32, keys: u32) -> Result<Segment, AllocError>
+    requires keys { 0 < keys }
+    requires few { length segment.now.records + by < 2 ^ 32 }
+    ensures { IfOk result (λ s. length s.records ≤ length segment.now.records + by) }
+{
+    let Some(rows) = rows_of(alloc, &segment.widths(), segment.len(), by, keys)? else {
+        let same = segment.duplicate()?;
+        return Ok(same);
+    };
+    let longer = segment.extended(&rows)?;
+    Ok(longer)
+}
+
 // The segment with 64 times so many records more.
 fn grown(alloc: Global, segment: &Segment, by: u32, keys: u32) -> Result<Segment, AllocError>
     requires keys { 0 < keys }
@@ -63,9 +77,7 @@ fn grown(alloc: Global, segment: &Segment, by: u32, keys: u32) -> Result<Segment
 {
     let mut now = segment.duplicate()?;
     for _step in 0..64u32 {
-        if let Some(rows) = rows_of(alloc, &now.widths(), now.len(), by, keys)? {
-            now = now.extended(&rows)?;
-        }
+        now = grown_once(alloc, &now, by, keys)?;
     }
     Ok(now)
 }

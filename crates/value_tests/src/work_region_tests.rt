@@ -8,7 +8,7 @@ use std::test::Fail;
 use work_region::{Region, RegionFull, RowRegion};
 
 #[test]
-#[tactic(auto, using(work_region::proofs::Slots::outs))]
+#[tactic(auto, using(crate::proofs::Outs::outs))]
 fn frames_keep_their_items(rt: HostRuntime) -> Result<(), Fail> {
     let mut region = Region::take(rt.alloc(), 2)?;
     let left = region.place(10u64).expect(&rt, "a first frame");
