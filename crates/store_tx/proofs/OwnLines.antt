@@ -41,7 +41,6 @@ use Rattle.branch_tx.proofs.Acts.{is_done, act_does, act_begun, begun, done_begu
 use Rattle.branch_tx.proofs.Ends.{entry_is}
 use Rattle.branch_tx.proofs.Keeps.{merge_changes}
 use Rattle.store_tx.specs.Ends.{is_abort, is_begin}
-use Rattle.store_tx.specs.declared.stored.LogCall.{LogCall}
 use Rattle.store_tx.specs.declared.stored.LogCall.TheVariants.{Nothing, Save}
 use Rattle.store_tx.specs.Stored.{IsNamedIf, call_if, call_of, is_checkpoint, entry_called}
 use Rattle.store_tx.specs.Statements.{IsWork, begun_tx, step_out, act_over, commit_over, entry_over, branch_out, branch_entry}

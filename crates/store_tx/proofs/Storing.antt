@@ -1,17 +1,10 @@
 -- Entries that fit, as a batch.
-use Rattle.std.proofs.Common.{◌≡◌, ◌⊎◌, inl, inr, ⊎_elim, subst, ℕ, ◌*◌, ◌<◌, ◌≤◌, cond, not, ◌&&◌, nat_le, true, false, Bool, List, [], ◌∷◌, ◌++◌, length, refl, sym, ◌∙◌, ap, arith, Option, Some, None}
+use Rattle.std.proofs.Common.{◌≡◌, ◌⊎◌, inl, inr, ⊎_elim, subst, ℕ, ◌<◌, ◌≤◌, cond, true, false, Bool, List, [], ◌∷◌, ◌++◌, length, refl, sym, ◌∙◌, ap, arith, Option, Some, None}
 use Rattle.std.specs.Prelude.{Result, Ok, Err, OnOk, OnErr, IsErrOf, ◌↔◌}
 use Rattle.std.proofs.lemmas.List.{append-nil}
-use Rattle.std.proofs.lemmas.Bool.{and_parts, leb-true, cases_lt}
-use Rattle.db_value.specs.Value.{Value}
-use Rattle.db_value.specs.Text.{is_name, starts_with_letter, is_name_byte, is_reserved}
-use Rattle.std.specs.List.{list_all}
-use Rattle.db_value.specs.declared.version.VersionPlace.{VersionPlace}
-use Rattle.db_value.specs.declared.entry.Change.{Change}
+use Rattle.std.proofs.lemmas.Bool.{cases_lt}
 use Rattle.db_value.specs.declared.entry.Entry.{Entry}
 use Rattle.db_value.specs.declared.entry.Entry.TheVariants.{Commit, Branch}
-use Rattle.db_store.specs.Dataset.{Dataset}
-use Rattle.db_store.specs.Growth.{commit_parts}
 use Rattle.db_store.specs.Fits.{fits}
 use Rattle.db_store.specs.State.{State, dataset_of, grow}
 use Rattle.db_outside.specs.Record.{most_body}
@@ -26,7 +19,7 @@ use Rattle.entry_codec.specs.declared.stop.CheckpointStop.TheVariants.{DiskFault
 use Rattle.entry_codec.specs.Logs.{applied, Follows, Opening, MayGive, GivesOneOf, GivesImage, GivesOnly, GoesOn, AddsOnly, KeepsAny, KeepsOneOf, KeepsOrOwes, WhereKept, WhereKeptOrOwed, StoresOwing, Checkpoints, Renews, CountsStops, next_generation, entries_after}
 use Rattle.db_outside.specs.Device.{Rose}
 use Rattle.store_tx.specs.declared.stored.LogCall.TheVariants.{Nothing, Append, Save}
-use Rattle.store_tx.specs.Stored.{nothing, batch, image, all_grown, Has, GivesIn, GivesOwed, IsPendingOf, StoresAsked, Stores}
+use Rattle.store_tx.specs.Stored.{batch, image, all_grown, Has, GivesIn, GivesOwed, IsPendingOf, StoresAsked, Stores}
 use Rattle.entry_codec.proofs.Back.{size_is, all}
 
 pub few_changes : (e : Entry) → IsEntry e → HasFewChanges e

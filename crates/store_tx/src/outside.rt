@@ -30,6 +30,7 @@ pub const MOST_BRANCHES: u32 = 1024;
 /// Ends a transaction with its entry, if it has one, and tells the version that this makes.
 pub fn commit<St: Store>(store: &St, tx: &Tx<St>, branch: u32) -> Result<Plan, AllocError>
     requires branch { branch < length (dataset_of (St.state store.now)).branches }
+    requires schema { tx.now.schema ≡ (dataset_of (St.state store.now)).schema }
     ensures told { IfOk result (λ p. p.told ≡
         told_over (dataset_of (St.state store.now)) branch (tx_in tx.now)) }
     ensures call { IfOk result (λ p. p.call ≡
@@ -55,6 +56,7 @@ pub fn commit<St: Store>(store: &St, tx: &Tx<St>, branch: u32) -> Result<Plan, A
 /// Ends an open transaction, with its entry unless it is aborted.
 pub fn end<St: Store>(store: &St, tx: &Tx<St>, branch: u32, stmt: &Stmt) -> Result<Plan, AllocError>
     requires branch { branch < length (dataset_of (St.state store.now)).branches }
+    requires schema { tx.now.schema ≡ (dataset_of (St.state store.now)).schema }
     requires ends { is_end stmt.now ≡ true }
     ensures told { IfOk result (λ p. p.told ≡
         (step_in (dataset_of (St.state store.now)) branch tx.now stmt.now).reply) }

@@ -58,3 +58,9 @@ returns-then-is_done-clause-call g c =
     let x = c.args.stmt.now in
     let now = c.in_ok-told.ensures.tx.tx ∙ ap (λ (t : Tx (List Overlay)). (act_over d b t x).tx) c.in_ok-tx.ensures.tx in
     c.in_ok-committed.ensures.call ∙ ap call_if (own_stored d b x (tx_in c.act_or_merge.new.tx) c.requires.works now)
+
+pub commit-requires-clause-schema : goal.commit-requires-clause-schema
+commit-requires-clause-schema g c =
+    let d = dataset_of (g.St.Store.state c.args.store.now) in
+    let ns = needs d c.args.branch true (has_done c.in_ok-tx.tx) c.args.stmt.now in
+    (c.in_ok-told.ensures.tx.keeps (tagged 0 ns []) 0 (c.in_ok-tx.ensures.keeps (tagged 0 ns []) 0) (tagged_new 0 ns [])).schema
