@@ -29,5 +29,5 @@ returns-in-Update g c =
 pub delete-requires : goal.delete-requires
 delete-requires g c = omega (arith, c.requires.schema.0, c.requires.work.wide)
 
-pub returns : goal.returns
-returns g c = over_put c.args._schema.now c.requires.schema c.delete.result c.args.work.now c.delete.new.self c.in-Delete.key None c.delete.ensures.stays c.delete.ensures.changed c.delete.ensures.err refl c.requires.work
+pub returns-in-Delete : goal.returns-in-Delete
+returns-in-Delete g c = over_put c.args._schema.now c.requires.schema c.delete.result c.args.work.now c.delete.new.self c.in-Delete.key None c.delete.ensures.stays c.delete.ensures.changed c.delete.ensures.err refl c.requires.work
