@@ -28,16 +28,14 @@ class Segments:
         self.records.append([])
 
     def commit(self, branch, changes):
-        """`changes` has a key with its fields now, or None, by key."""
-        rows, head = self.rows[branch], self.heads.index(branch)
-        bits = {number: row.slots[-1] for number, row in rows.items()}
-        for key, fields in changes:
-            bits = {number: frozenset(slot for slot in slots if self.records[number][slot][0] != key) for number, slots in bits.items()}
-            if fields is not None:
-                bits[head] |= {len(self.records[head])}
-                self.records[head].append((key, fields))
+        """`changes` has a key with its fields now, or None, by key. The branch no longer has the records that these keys had, and its head gets the new ones."""
+        rows, head, keys = self.rows[branch], self.heads.index(branch), {key for key, _ in changes}
+        put = [(key, fields) for key, fields in changes if fields is not None]
+        new = range(len(self.records[head]), len(self.records[head]) + len(put))
         for number, row in rows.items():
-            row.slots.append(bits[number])
+            kept = frozenset(slot for slot in row.slots[-1] if self.records[number][slot][0] not in keys)
+            row.slots.append(kept | frozenset(new) if number == head else kept)
+        self.records[head] += put
 
     def branch(self, branch, origin, position, last):
         """A new branch of a position of another one, of which that may be the last."""

@@ -34,6 +34,7 @@ FORMS = [(kind, re.compile(form), stage) for kind, form, stage in (
 )]
 HOLDS = {"=": (0,), "!=": (-1, 1), "<": (-1,), "<=": (-1, 0), ">": (1,), ">=": (0, 1)}
 CATALOGUE, SHARED, EXCLUSIVE = 0, 1, 2
+BODY = 16777216
 
 
 class No(Exception):
@@ -279,7 +280,7 @@ class Machine:
 
     def heavy(self, weights, has_second):
         narrow, wide, texts = weights
-        if 10 + 8 * has_second + (wide if texts else narrow) > 16777216:
+        if 10 + 8 * has_second + (wide if texts else narrow) > BODY:
             raise No("20 body full")
 
     # Statements.

@@ -213,14 +213,6 @@ def spelled(of):
     return branch if position is None else b"%s@%d" % (branch, position)
 
 
-def with_key(tables, relation, key, values):
-    """The tables with these values at a key, or without the key where they are None."""
-    contents = {**tables[relation], key: values}
-    if values is None:
-        del contents[key]
-    return {**tables, relation: contents}
-
-
 # Versions.
 
 class Version:
@@ -347,6 +339,7 @@ class Run:
     def __init__(self, state, current):
         self.state, self.current = state, current
         self.tables, self.touched, self.second = state.branches[current][-1].tables, set(), None
+        self.own, self.put = set(), {}  # the relations whose table is no other version's too, and of a relation how many touched keys have a record
         self.is_begun, self.room = False, ROOM
         self.new = None  # a new branch, and the name of the version of which it is made
         self.moved = None  # where the session goes on
@@ -513,12 +506,25 @@ class Run:
             raise Refused(b"7 key missing %s %d" % (relation, said.key))
         if said.kind == "insert" and len(table) == KEYS:
             raise Refused(b"17 table full " + relation)
-        touched = self.touched | {(relation, said.key)}
-        tables = with_key(self.tables, relation, said.key, final(self.state.schema[relation], table.get(said.key)))
-        self.refuse_room(touched)
-        self.refuse_body(tables, touched, self.second)
-        self.tables, self.touched = tables, touched
+        is_new = (relation, said.key) not in self.touched
+        values = final(self.state.schema[relation], table.get(said.key))
+        put = {**self.put, relation: self.put.get(relation, 0) + (values is not None) - (not is_new and said.key in table)}
+        self.refuse_room(len(self.touched) + is_new)
+        self.refuse_body(put, len(self.touched) + is_new, self.second)
+        self.put = put
+        self.touched.add((relation, said.key))
+        self.set(relation, said.key, values)
         return self.done()
+
+    def set(self, relation, key, values):
+        """Puts values at a key, or takes the key away where they are None. The table that was shared with a version is copied first."""
+        if relation not in self.own:
+            self.tables = {**self.tables, relation: dict(self.tables[relation])}
+            self.own.add(relation)
+        if values is None:
+            del self.tables[relation][key]
+        else:
+            self.tables[relation][key] = values
 
     def merge(self, said):
         other, head = self.state.found((said.branch, None)), self.state.branches[self.current][-1]
@@ -530,10 +536,11 @@ class Run:
                 raise Refused(b"17 table full " + relation)
         changed = {(relation, key) for relation, table in result.items() for key in table.keys() | self.tables[relation].keys()
                    if table.get(key) != self.tables[relation].get(key)}
-        self.refuse_room(changed)
+        self.refuse_room(len(changed))
         second = self.state.place((said.branch, None))
-        self.refuse_body(result, changed, second)
-        self.tables, self.touched, self.second = result, changed, second
+        put = {relation: sum(key in table for of, key in changed if of == relation) for relation, table in result.items()}
+        self.refuse_body(put, len(changed), second)
+        self.tables, self.touched, self.second, self.own, self.put = result, changed, second, set(result), put
         return self.done()
 
     def refuse_full(self):
@@ -541,17 +548,16 @@ class Run:
             raise Refused(b"16 versions full " + self.current)
 
     def refuse_room(self, touched):
-        if len(touched) > self.room:
+        """By the number of keys that it would have touched."""
+        if touched > self.room:
             raise Refused(b"12 room %d" % self.room)
 
-    def refuse_body(self, tables, touched, second):
-        """By the bytes of the entry that it would have. If one of its changes has a text, a byte stands before each field."""
+    def refuse_body(self, put, touched, second):
+        """By the bytes of the entry that it would have, with so many touched keys, of which these have a record. If one of its records has a text, a byte stands before each field."""
         widths = self.state.widths
-        if 18 + len(touched) * max(10 + sum(1 + (w or 8) for w in ws) for ws in widths.values()) <= BODY:
-            return
-        put = [widths[relation] for relation, key in touched if key in tables[relation]]
-        extra = 1 if any(any(ws) for ws in put) else 0
-        if 10 + (8 if second else 0) + 10 * len(touched) + sum(extra + (w or 8) for ws in put for w in ws) > BODY:
+        extra = 1 if any(count and any(widths[relation]) for relation, count in put.items()) else 0
+        fields = sum(count * sum(extra + (w or 8) for w in widths[relation]) for relation, count in put.items())
+        if 10 + (8 if second else 0) + 10 * touched + fields > BODY:
             raise Refused(b"20 body full")
 
 

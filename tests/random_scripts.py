@@ -1,10 +1,11 @@
 #!/usr/bin/env python3
 """Random scripts, and comparisons of them.
 
-    tests/random_scripts.py [N] [--seed S] [--built STAGE,.. | all] [--program PATH]
+    tests/random_scripts.py [N] [--seed S] [--built STAGE,.. | all] [--body BYTES] [--program PATH]
 
 runs N scripts (1,000) through the model of tests/model.py and through the machine of tests/machine.py, whose bytes must be equal; with
---program through the model and `PATH try`. The first script that differs is printed, cut down to the lines that matter.
+--program through the model and `PATH try`. With --body an entry may have so many bytes alone, so that small transactions are refused by 20.
+The first script that differs is printed, cut down to the lines that matter.
 """
 import argparse, collections, random, re, subprocess, sys, time
 
@@ -213,8 +214,10 @@ def main():
     words.add_argument("count", nargs="?", type=int, default=1000)
     words.add_argument("--seed", type=int, default=1)
     words.add_argument("--built", type=model.built_of, default=model.BUILT)
+    words.add_argument("--body", type=int, default=model.BODY)
     words.add_argument("--program")
     words = words.parse_args()
+    model.BODY = machine.BODY = words.body
 
     def other(given):
         if words.program:
