@@ -4,7 +4,7 @@ What spoilt files stand for is what tests/files.py reads by docs/FORMATS.md alon
 """
 import hashlib, os, random, resource, subprocess, tempfile, time
 
-import files, on_files, worked
+import files, model, on_files, worked
 
 SECONDS, MEMORY = 2, 2 << 30
 SPOILT = 2000
@@ -28,6 +28,7 @@ class Base(on_files.Base):
         return done.returncode, done.stdout, done.stderr
 
     def removed(self):
+        """Whatever stands in the places of the files."""
         for file in (0, 1):
             path = self.path(file)
             if os.path.isdir(path) and not os.path.islink(path):
@@ -36,84 +37,105 @@ class Base(on_files.Base):
                 os.unlink(path)
 
 
-# ---- the file of one insert, byte by byte
+# ---- the file of one insert, byte by byte, in both formats: its gate stands behind the image, and its last gate 73 bytes after that
 
-def when_cut(length):
+def when_cut(length, gate):
     """What `check` writes of that file's first bytes."""
     if length < 57:
         return b"not a dataset\n"
-    if length < 126:
+    if length < gate:
         return b"damaged file 0 at 17 length\n"
-    return b"damaged file 0 at %d length\n" % (199 if length == 199 else 126)
+    return b"damaged file 0 at %d length\n" % (gate + 73 if length == gate + 73 else gate)
 
 
-def when_changed(at, value, whole):
+def when_changed(at, value, whole, gate):
     """What `check` writes if a byte has another value."""
     def ok(generation, entries):
         return b"ok generation %d branches 1 versions %d entries %d\n" % (generation, 1 + entries, entries)
 
     def damaged(place, cause):
         return b"damaged file 0 at %d %s\n" % (place, cause)
+    if at == 8 and value in b"12":  # the name of the other format, in which no name begins where the next one is looked for
+        return damaged(68 if value == ord("2") else 67, b"grammar")
     if at <= 8:
         return b"not a dataset\n"
     if at <= 16:
         generation = int.from_bytes(whole[9:at] + bytes([value]) + whole[at + 1:17], "little")
         return ok(generation, 1) if 1 <= generation <= 1 << 63 else damaged(9, b"grammar")
     if at == 17:
-        return damaged(25, b"digest") if value <= 143 else damaged(17, b"length")
+        return damaged(25, b"digest") if value <= gate + 17 else damaged(17, b"length")
     if at <= 24:
         return damaged(17, b"length")
-    if at <= 125:
+    if at < gate:
         return damaged(25, b"digest")
-    if at == 126:
+    if at == gate:
         return ok(1, 0)
-    if at == 127:
-        return damaged(126, b"digest" if 1 <= value <= 37 else b"length")
-    if at <= 130:
-        return damaged(126, b"length")
-    if at <= 198:
-        return damaged(126, b"digest")
-    return damaged(199, b"length") if value == 1 else ok(1, 1)
+    if at == gate + 1:
+        return damaged(gate, b"digest" if 1 <= value <= 37 else b"length")
+    if at <= gate + 4:
+        return damaged(gate, b"length")
+    if at < gate + 73:
+        return damaged(gate, b"digest")
+    return damaged(gate + 73, b"length") if value == 1 else ok(1, 1)
+
+
+def with_digests(gate):
+    """What is changed, the place, the byte put there, and the damage of the file with right digests. In the second format two widths stand in front of all else."""
+    widths = gate - 124
+    yield "the head of a branch that isn't there", 96 + widths, 2, 96 + widths, b"grammar"
+    yield "a branch without a head", 96 + widths, 0, gate, b"grammar"
+    yield "a column twice", 68 + widths // 2, ord("a"), 67 + widths // 2, b"grammar"
+    yield "a commit on a branch that isn't there", 162 + widths, 1, gate, b"entry"
+    yield "a body that begins with 9", 161 + widths, 9, gate, b"grammar"
+    if widths:
+        yield "a width of 65", 67, 65, 67, b"grammar"
+        yield "a width of 1, which the row of the entry doesn't meet", 67, 1, gate, b"entry"
 
 
 def each_byte(base):
-    """The file of one insert, cut at each length, and each of its bytes changed to some other values."""
+    """The file of one insert in each format, cut at each length, and each of its bytes changed to some other values."""
     base.made(b"1 insert items 1 1 1\n")
-    whole, wrong, tried = base.read(0), [], 0
-    for length in range(len(whole)):
-        base.write(0, whole[:length])
-        tried += 1
-        if base.run("check")[1] != when_cut(length):
-            wrong.append((length, base.run("check")))
-    for at in range(len(whole)):
-        for value in sorted({0, 1, whole[at] ^ 1, whole[at] ^ 128, 37, 38, 143, 144, 255} - {whole[at]}):
-            base.write(0, whole[:at] + bytes([value]) + whole[at + 1:])
+    old = files.header(1, files.image_of(on_files.RELATIONS, False), files.OLD_MARK) + on_files.ONE + b"\0"
+    for form, whole in ((2, base.read(0)), (1, old)):
+        gate, wrong, tried = len(whole) - 74, [], 0
+        for length in range(len(whole)):
+            base.write(0, whole[:length])
             tried += 1
-            found = base.run("check")
-            if found[1] != when_changed(at, value, whole) or found != base.told():
-                wrong.append((at, value, found))
-    print("tests/run: %d files of one insert, each cut or with a byte changed" % tried, flush=True)
-    yield "each byte of the file of one insert", wrong, []
-    for name, at, value, place, cause in (
-        ("the head of a branch that isn't there", 98, 2, 98, b"grammar"), ("a branch without a head", 98, 0, 126, b"grammar"), ("a column twice", 69, ord("a"), 68, b"grammar"),
-        ("a width that isn't 0", 67, 1, 67, b"grammar"), ("a commit on a branch that isn't there", 164, 1, 126, b"entry"), ("a body that begins with 9", 163, 9, 126, b"grammar"),
-    ):
-        data = whole[:at] + bytes([value]) + whole[at + 1:]
-        body = data[163:199]
-        base.write(0, mended(data[:131] + hashlib.sha256(body).digest() + data[163:]))
-        yield name, (base.run("check"), base.told()), ((4, b"damaged file 0 at %d %s\n" % (place, cause), b"decibel: damaged file 0 at %d\n" % place),) * 2
+            if base.run("check")[1] != when_cut(length, gate):
+                wrong.append((length, base.run("check")))
+        for at in range(len(whole)):
+            values = {0, 1, whole[at] ^ 1, whole[at] ^ 128, 35, 37, 38, gate + 17, gate + 18, 255, *(b"12" if at == 8 else b"")}
+            for value in sorted(values - {whole[at]}):
+                base.write(0, whole[:at] + bytes([value]) + whole[at + 1:])
+                tried += 1
+                found = base.run("check")
+                if found[1] != when_changed(at, value, whole, gate) or found != base.told():
+                    wrong.append((at, value, found))
+        print("tests/run: %d files of one insert in format %d, each cut or with a byte changed" % (tried, form), flush=True)
+        yield "each byte of the file of one insert in format %d" % form, wrong, []
+        for name, at, value, place, cause in with_digests(gate):
+            data = whole[:at] + bytes([value]) + whole[at + 1:]
+            body = data[gate + 37:gate + 73]
+            base.write(0, mended(data[:gate + 5] + hashlib.sha256(body).digest() + data[gate + 37:]))
+            yield "%s, in format %d" % (name, form), (base.run("check"), base.told()), ((4, b"damaged file 0 at %d %s\n" % (place, cause), b"decibel: damaged file 0 at %d\n" % place),) * 2
 
 
 # ---- files spoilt at random
 
 def some_datasets(base):
-    """The bytes of the files of some datasets: a new one, one with a commit, one with branches, merges and deletions, and that one with checkpoints."""
+    """The bytes of the files of some datasets: a new one, one with a commit, one with branches, merges and deletions, and that one with checkpoints; and some with texts."""
     most = (b"".join(b"1 insert items %d %d 0\n" % (n, n * n) for n in range(20)) + b"1 branch dev of master@3\n1 branch old of dev@0\n1 on dev\n1 delete items 2\n"
             b"1 update items 1 a=7\n1 merge master left\n1 begin\n1 insert items 100 1 1\n1 insert items 101 1 1\n1 delete items 3\n1 commit\n1 on master\n1 merge dev\n")
     more = b"1 insert items 200 1 1\n1 branch last of dev\n"
     for script in (b"", b"1 insert items 1 1 1\n", most, most + b"1 checkpoint\n" + more, most + b"1 checkpoint\n" + more + b"1 checkpoint\n" + more.replace(b"last", b"then")):
         base.removed()
         base.made(script)
+        yield base.read(0), base.read(1)
+    names = (b'1 insert items 1 "ab" 5\n1 insert items 2 "x, y" 0\n1 branch dev of master\n1 on dev\n1 update items 1 name="b=c"\n1 insert items 3 "" -1\n'
+             b'1 on master\n1 update items 1 n=6\n1 delete items 2\n1 merge dev left\n1 begin\n1 insert items 4 "12345678" 9223372036854775807\n1 update items 3 name=" ~"\n1 commit\n')
+    for script in (names, names + b'1 checkpoint\n1 insert items 9 "last" 1\n'):
+        base.removed()
+        base.made(script, b"relation items name:8 n\nend\n")
         yield base.read(0), base.read(1)
 
 
@@ -145,6 +167,12 @@ def spoilt(source, data):
     return data
 
 
+def in_order(row):
+    """By key, and then by fields, numbers before texts."""
+    key, values = row[0]
+    return key, [(isinstance(value, bytes), value) for value in values]
+
+
 def rows_told(base):
     """What a scan of all heads should write, by the bytes of the files."""
     first, second = base.read(0), base.read(1)
@@ -153,7 +181,7 @@ def rows_told(base):
     for name, tables in zip(dataset.names, dataset.tables):
         for (_, key), values in tables[-1].items():
             rows.setdefault((key, tuple(values)), []).append(name)
-    lines = [b"row %d %s in %s\n" % (key, b" ".join(b"%d" % v for v in values), b",".join(names)) for (key, values), names in sorted(rows.items())]
+    lines = [b"%s in %s\n" % (model.row(key, values), b",".join(names)) for (key, values), names in sorted(rows.items(), key=in_order)]
     return b"> 1 scan items in heads\n" + b"".join(lines) + b"rows %d\n" % len(lines)
 
 

@@ -8,6 +8,8 @@ import files, images, model, random_scripts, worked
 
 SCHEMA = worked.USUAL
 RELATIONS = [(b"items", [b"a", b"b"])]
+TAGS = b"relation tags name:8 n\nend\n"
+TAGGED = [(b"tags", [b"name:8", b"n"])]
 KILLED, COMMITS, LAYOUTS = 100, 2000, 300
 ONE = files.record(files.commit(0, [(0, 1, (1, 1))]))  # the record of `insert items 1 1 1`
 
@@ -22,9 +24,9 @@ class Base:
         done = subprocess.run([self.program, verb, self.name, *more], input=given, stdout=subprocess.PIPE, stderr=subprocess.PIPE, timeout=120)
         return done.returncode, done.stdout, done.stderr
 
-    def made(self, script=b""):
+    def made(self, script=b"", schema=SCHEMA):
         """A new dataset, with the lines of a script."""
-        found = self.run("create", SCHEMA)
+        found = self.run("create", schema)
         assert found == (0, b"created\n", b""), found
         return self.run("script", script) if script else found
 
@@ -42,6 +44,12 @@ class Base:
         with open(self.path(file), "wb") as f:
             f.write(data)
 
+    def removed(self):
+        """Takes the files away, so that a new dataset can be made."""
+        for file in (0, 1):
+            if os.path.exists(self.path(file)):
+                os.unlink(self.path(file))
+
     def told(self):
         """What `check` should write, its status and its text, by the bytes of the files."""
         line, status = files.check_line(self.read(0), self.read(1))
@@ -57,6 +65,7 @@ def new_ones(base):
     """A new dataset, and what is said of files that are there."""
     yield "create", base.run("create", SCHEMA), (0, b"created\n", b"")
     yield "the file of a new dataset", (base.read(0), base.read(1)), (files.new_file(RELATIONS), b"")
+    yield "its bytes by hand, and their number", (base.read(0)[57:], len(base.read(0))), (new_image_by_hand() + b"\0", 127)
     yield "create again", base.run("create", SCHEMA), (10, b"", b"decibel: already there\n")
     yield "the files stay", (base.read(0), base.read(1)), (files.new_file(RELATIONS), b"")
     yield "check of a new dataset", base.run("check"), (0, b"ok generation 1 branches 1 versions 1 entries 0\n", b"")
@@ -166,7 +175,7 @@ def old_file(base):
     yield "the bytes of an old file", len(whole), 198
     yield from spoilt(base, whole, 124)
     base.write(0, whole[:8] + b"2" + whole[9:])
-    yield "an old file by the new name", (base.run("check"), base.told()), ((4, b"damaged file 0 at 67 grammar\n", b"decibel: damaged file 0 at 67\n"),) * 2
+    yield "an old file by the new name", (base.run("check"), base.told()), ((4, b"damaged file 0 at 68 grammar\n", b"decibel: damaged file 0 at 68\n"),) * 2
     base.write(0, whole)
     script = (b"1 insert items 2 2 2", b"ok master@2"), (b"1 checkpoint", b"ok")
     yield "a script on an old file", base.run("script", b"".join(line + b"\n" for line, _ in script)), (0, answered(*script), b"")
@@ -244,6 +253,125 @@ def image_by_hand():
     return b"".join(parts)
 
 
+def new_image_by_hand():
+    """The image of a new dataset of `relation items a b`, 69 bytes."""
+    return bytes.fromhex("01 05 6974656d73 02 01 61 00 01 62 00 01000000 06 6d6173746572 00000000 00000000 00000000"
+                         "01000000 01000000 00000000 01000000 00000000 00000000 00000000 00000000")
+
+
+# The entries of the first three lines that are done in the block `texts of a column`, byte by byte: 1 "ab" 5, then 2 "x, y" 0, then 1 "b=c" 5.
+TAG_ENTRIES = tuple(bytes.fromhex("03 00000000 00 01000000 00 02 %s 08 %s 00 %s" % parts) for parts in (
+    ("0100000000000000", "6162000000000000", "0500000000000000"),
+    ("0200000000000000", "782c207900000000", "0000000000000000"),
+    ("0100000000000000", "623d630000000000", "0500000000000000")))
+
+
+def image_of_tags():
+    """The image after these three entries, number by number."""
+    parts = (
+        b"\x01\x04tags\x02\x04name\x08\x01n\0",  # one relation with a column of width 8 and one of numbers
+        struct.pack("<I", 1) + b"\x06master" + struct.pack("<II", 0, 0),  # one branch
+        struct.pack("<I", 3) + (struct.pack("<I", 0) + b"\0") * 3,  # three versions, on master, each with one parent
+        struct.pack("<III", 1, 1, 3),  # one segment, the head of the first branch, with three records
+        struct.pack("<HB13xQ8sqQ8sqQ8sq", 3, 2, 1, b"ab", 5, 2, b"x, y", 0, 1, b"b=c", 5) + bytes(4096 - 16 - 72),  # its page
+        struct.pack("<III", 1, 0, 0),  # one row, of master, from position 0 on
+        struct.pack("<II", 0, 0),  # no change at position 0
+        *(struct.pack("<IIQ", 0, 1, word) for word in (1, 2, 5)),  # slots 0, then 1, then 0 and 2
+    )
+    return b"".join(parts)
+
+
+def texts(base):
+    """Names in a column of eight bytes, in lines, in entries, in an image and as CSV."""
+    given, written = worked.parts_of(dict(worked.blocks_of(worked.TEXTS))["texts of a column"])
+    schema, lines = given[:len(TAGS)], given[len(TAGS):]
+    yield "the schema of texts", schema, TAGS
+    yield "create with a column of texts", base.run("create", schema), (0, b"created\n", b"")
+    new = base.read(0)
+    yield "the file of a new dataset with texts", (new, base.run("check")), (files.new_file(TAGGED), (0, b"ok generation 1 branches 1 versions 1 entries 0\n", b""))
+    yield "texts on files", base.run("script", lines), (0, written, b"")
+    yield "the first entry of a text", len(TAG_ENTRIES[0]), 38
+    whole = new[:-1] + b"".join(map(files.record, TAG_ENTRIES)) + b"\0"
+    yield "the entries of texts", base.read(0), whole
+    yield "check of texts", (base.run("check"), base.told()), ((0, b"ok generation 1 branches 1 versions 4 entries 3\n", b""),) * 2
+    rows = b'1,b=c,5\n2,"x, y",0\n'
+    for version, exported in (("master", rows), ("master@2", b'1,ab,5\n2,"x, y",0\n'), ("master@1", b"1,ab,5\n"), ("master@0", b"")):
+        yield "export tags %s" % version, base.run("export", b"", ("tags", version)), (0, exported, b"")
+    yield "a checkpoint of texts", base.run("script", b"1 checkpoint\n"), (0, answered((b"1 checkpoint", b"ok")), b"")
+    yield "its image", files.image_in(base.read(1)), image_of_tags()
+    yield "check of an image of texts", (base.run("check"), base.told()), ((0, b"ok generation 2 branches 1 versions 4 entries 0\n", b""),) * 2
+    yield "texts of an image", base.run("script", b'1 scan tags in master,master@1 where name < "x"\n'), (0, answered(
+        (b'1 scan tags in master,master@1 where name < "x"', b'row 1 "ab" 5 in master@1\nrow 1 "b=c" 5 in master\nrows 2')), b"")
+    yield "export of an image of texts", base.run("export", b"", ("tags", "master")), (0, rows, b"")
+    base.removed()
+    base.made(b"", TAGS)
+    yield "import of what export wrote", base.run("import", rows, ("tags",)), (0, b"imported 2 master@1\n", b"")
+    both = files.commit(0, [(0, 1, (files.Text(b"b=c", 8), 5)), (0, 2, (files.Text(b"x, y", 8), 0))])
+    yield "its entry", base.read(0), new[:-1] + files.record(both) + b"\0"
+    yield "the rows of that", base.run("export", b"", ("tags", "master")), (0, rows, b"")
+
+
+def spoilt_texts(base):
+    """Entries and images of texts in which a byte is another one, under a digest that is right."""
+    first = TAG_ENTRIES[0]
+    new, at = files.new_file(TAGGED)[:-1], len(files.new_file(TAGGED)) - 1
+    fields = first[20:]  # the width, the text and a number
+
+    def entry(count, *changes):
+        return bytes.fromhex("03 00000000 00") + struct.pack("<I", count) + b"".join(changes)
+
+    def change(key, put):
+        return bytes([0, 2 if put else 0]) + struct.pack("<Q", key) + put
+    for name, body, cause in (
+        ("a text", first, None),
+        ("a text of all eight bytes", first[:21] + b"~ !#xy}'" + first[29:], None),
+        ("an empty text", first[:21] + bytes(8) + first[29:], None),
+        ("a deletion behind a text", entry(2, change(1, fields), change(2, b"")), None),
+        ("a deletion alone, in an entry of texts", entry(1, change(1, b"")), b"grammar"),
+        ("numbers alone, in an entry of texts", entry(1, change(1, (b"\0" + bytes(8)) * 2)), b"grammar"),
+        ("a text in an entry of numbers", b"\x01" + first[1:], b"grammar"),
+        ("numbers for a column of texts", files.commit(0, [(0, 1, (1, 1))]), b"entry"),
+        ("a text for a column of numbers", entry(1, change(1, fields[:9] + fields[:9])), b"entry"),
+        ("a text of a column of width 7", entry(1, change(1, b"\x07" + fields[1:8] + fields[9:])), b"entry"),
+        ("a text of a column of width 9", entry(1, change(1, b"\x09" + fields[1:9] + b"\0" + fields[9:])), b"entry"),
+        ("a width of 65", entry(1, change(1, b"\x41" + bytes(65) + fields[9:])), b"grammar"),
+        ("a width of 64", entry(1, change(1, b"\x40" + bytes(64) + fields[9:])), b"entry"),
+        *(("the byte %d in a text" % byte, first[:21] + bytes([byte]) + first[22:], b"grammar") for byte in (31, 34, 127, 128, 255)),
+        ("a byte behind the end of a text", first[:28] + b"x" + first[29:], b"grammar"),
+        ("a text behind a zero", first[:21] + b"\0ab" + first[24:], b"grammar"),
+        ("a text without its last byte", first[:-1], b"grammar"),
+    ):
+        base.write(0, new + files.record(body) + b"\0")
+        line = b"ok generation 1 branches 1 versions 2 entries 1\n" if cause is None else b"damaged file 0 at %d %s\n" % (at, cause)
+        said = b"" if cause is None else b"decibel: damaged file 0 at %d\n" % at
+        yield name + ", in an entry", (base.run("check"), base.told()), ((0 if cause is None else 4, line, said),) * 2
+    image, page = image_of_tags(), image_of_tags().index(struct.pack("<HB13x", 3, 2))
+    for name, place, value, fault in (
+        ("a width of 65", 12, 65, 12), ("a width of 0, of which a page has the same bytes", 12, 0, None), ("a width of 9", 12, 9, page), ("the byte 34 in a text", page + 24, 34, page), ("the byte 127 in a text", page + 24, 127, page),
+        ("a byte behind the end of a text", page + 31, 32, page), ("another letter in a text", page + 24, ord("~"), None),
+    ):
+        base.write(0, files.header(1, image[:place] + bytes([value]) + image[place + 1:]) + b"\0")
+        line = b"ok generation 1 branches 1 versions 4 entries 0\n" if fault is None else b"damaged file 0 at %d grammar\n" % (57 + fault)
+        said = b"" if fault is None else b"decibel: damaged file 0 at %d\n" % (57 + fault)
+        yield name + ", in an image", (base.run("check"), base.told()), ((0 if fault is None else 4, line, said),) * 2
+
+
+def full_body(base):
+    """The greatest entry that a transaction of rows of 15 columns of width 64 makes: it has 686 bytes less than a body may have."""
+    columns = [b"c%d:64" % n for n in range(15)]
+    base.made(b"", b"relation wide " + b" ".join(columns) + b"\nend\n")
+    lines = b"1 begin 20000\n" + b"".join(b"1 insert wide %d" % key + b' ""' * 15 + b"\n" for key in range(17033)) + b"1 commit\n"
+    replies = b"ok\n" * 17033 + b"refused 20 body full\nok master@1\n"
+    status, written, said = base.run("script", lines)
+    yield "a full body", (status, re.sub(rb"^> .*\n", b"", written, flags=re.MULTILINE) == replies, said), (0, True, b"")
+    whole = files.commit(0, [(0, key, (files.Text(b"", 64),) * 15) for key in range(17032)])
+    yield "its bytes", (len(whole), base.read(0) == files.new_file([(b"wide", columns)])[:-1] + files.record(whole) + b"\0"), (16_776_530, True)
+    yield "check of a full body", base.run("check"), (0, b"ok generation 1 branches 1 versions 2 entries 1\n", b"")
+    yield "one insert more", base.run("script", b"1 insert wide 17032" + b' "~"' * 15 + b"\n")[1][-12:], b"ok master@2\n"
+    yield "a checkpoint of a full body", base.run("script", b"1 checkpoint\n")[:2], (0, answered((b"1 checkpoint", b"ok")))
+    yield "check of its image", base.run("check"), (0, b"ok generation 2 branches 1 versions 3 entries 0\n", b"")
+
+
 def again(base):
     """A script goes on where the last one ended, with files that are swapped too."""
     base.made(b"1 insert items 1 1 1\n1 branch dev of master\n1 begin\n1 insert items 9 9 9\n")
@@ -310,8 +438,7 @@ def layouts(base):
         said.output()
         image = images.spelled(images.of_model(said.state))
         size += len(image)
-        for file in (0, 1):
-            os.path.exists(base.path(file)) and os.unlink(base.path(file))
+        base.removed()
         base.run("create", given[:given.index(b"\nend\n") + 5])
         base.run("script", b"".join(line + b"\n" for line in lines))
         base.run("script", b"1 checkpoint\n")
@@ -490,7 +617,7 @@ def examples(base, folder):
 
 def checks(program, top):
     """Names with what was found and what should be."""
-    for part in (new_ones, over_others, bad_schemas, last_comments, stored, exported, empty_ones, one_insert, old_file, two_bodies, generations, in_use, again, checkpoints, last_generation, layouts, not_there, closed_streams, full_disk, no_permission, killed, killed_at_checkpoints, examples):
+    for part in (new_ones, over_others, bad_schemas, last_comments, stored, exported, empty_ones, one_insert, old_file, two_bodies, texts, spoilt_texts, full_body, generations, in_use, again, checkpoints, last_generation, layouts, not_there, closed_streams, full_disk, no_permission, killed, killed_at_checkpoints, examples):
         with tempfile.TemporaryDirectory() as folder:
             base = Base(program, folder)
             yield from part(base, os.path.join(top, "examples")) if part is examples else part(base)

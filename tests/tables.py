@@ -1,10 +1,10 @@
 """The program on files of rows: `import` and `export`, of texts as spreadsheets, pandas and sqlite3 write them.
 
-What a text's rows are was written by hand. What `export` writes is read back by Python's csv, and by sqlite3 where it is installed.
+What a text's rows are was written by hand. What `export` writes is read back by Python's csv, and by sqlite3 and pandas where they are installed.
 """
-import csv, io, os, random, re, resource, shutil, subprocess, tempfile, time
+import csv, importlib.util, io, os, random, re, resource, shutil, subprocess, tempfile, time
 
-from on_files import Base
+from on_files import TAGS, Base
 
 MARK = b"\xef\xbb\xbf"
 TWO = b"1,10,20\n2,-5,0\n"
@@ -74,6 +74,56 @@ REFUSED = (
 )
 
 
+NAMED = b'1,ab,5\n2,"x, y",0\n'
+# Rows of a column of texts of at most eight bytes and a column of numbers: what a text has, the text, and the rows that it is, as `export` writes them.
+NAMES_TAKEN = (
+    ("names", NAMED, NAMED),
+    ("every name quoted", b'1,"ab",5\n2,"x, y",0\n', NAMED),
+    ("every field quoted", b'"1","ab","5"\n"2","x, y","0"\n', NAMED),
+    ("names, CRLF", b'1,ab,5\r\n2,"x, y",0\r\n', NAMED),
+    ("names behind a byte order mark", MARK + NAMED, NAMED),
+    ("an empty name", b"1,,5\n", b"1,,5\n"),
+    ("an empty name in quotes", b'1,"",5\n', b"1,,5\n"),
+    ("a name of eight bytes", b"1,12345678,5\n", b"1,12345678,5\n"),
+    ("names of spaces, and with spaces at their ends", b"1, ,5\n2, a b  ,5\n3,        ,5\n", b"1, ,5\n2, a b  ,5\n3,        ,5\n"),
+    ("a name of commas", b'1,",,,,,,,,",5\n2,",",5\n', b'1,",,,,,,,,",5\n2,",",5\n'),
+    ("names that read as numbers", b"1,007,5\n2,-0,5\n3,1e3,5\n4,+1,5\n", b"1,007,5\n2,-0,5\n3,1e3,5\n4,+1,5\n"),
+    ("names that read as statements and comments", b"1,# a,5\n2,a=1,5\n3,where,5\n4,1 commit,5\n", b"1,# a,5\n2,a=1,5\n3,where,5\n4,1 commit,5\n"),
+    ("names of signs", b"1,it's\\,5\n2,;:|<>&~,5\n3,=SUM(A1),5\n", b"1,it's\\,5\n2,;:|<>&~,5\n3,=SUM(A1),5\n"),
+    ("the least and the greatest byte of a name", b"1, ~,5\n2,~ ,5\n", b"1, ~,5\n2,~ ,5\n"),
+    ("one name twice, under two keys", b"1,ab,5\n2,ab,5\n", b"1,ab,5\n2,ab,5\n"),
+)
+
+# Of such rows the first that is refused.
+NAMES_REFUSED = (
+    ("a header of names", b"key,name,n\n" + NAMED, 1),
+    ("a name of nine bytes", NAMED + b"3,123456789,5\n", 3),
+    ("a name of nine bytes with a comma", b'1,"1234567,9",5\n', 1),
+    ("a name with a quote", NAMED + b'3,"a""b",5\n', 3),
+    ("a name that is a quote", b'1,"""",5\n', 1),
+    ("a name with a quote, without quotes around it", b'1,a"b,5\n', 1),
+    ("a name with a newline", b'1,ab,5\n2,"x\ny",0\n3,c,1\n', 2),
+    ("a name with CR", b'1,"x\ry",0\n', 1),
+    ("a name with a tab", b"1,x\ty,0\n", 1),
+    ("a name with the byte 0", b"1,x\0y,0\n", 1),
+    ("a name with zeros behind it", b"1,xy\0\0,0\n", 1),
+    ("the byte 31", b"1,\x1f,0\n", 1),
+    ("the byte 127", b"1,\x7f,0\n", 1),
+    ("a letter of two bytes", b"1,ab,5\n2,caf\xc3\xa9,5\n", 2),
+    ("a byte above 127", b"1,caf\xe9,5\n", 1),
+    ("a name with a comma, without quotes", b"1,x, y,0\n", 1),
+    ("a column of texts more", b"1,ab,5,ab\n", 1),
+    ("a column less", b"1,ab\n", 1),
+    ("a text for a number", b"1,ab,cd\n", 1),
+    ("an empty field for a number", b"1,ab,\n", 1),
+    ("a number with a space", b"1,ab, 5\n", 1),
+    ("a text for a key", b"ab,ab,5\n", 1),
+    ("a key with a leading zero", b"01,ab,5\n", 1),
+    ("a name whose quote isn't closed", b'1,ab,5\n2,"x, y,0\n3,c,1\n', 2),
+    ("a key of two rows, with other names", b"1,ab,5\n2,ab,5\n1,cd,5\n", 3),
+)
+
+
 def imported(rows, position):
     return 0, b"imported %d master@%d\n" % (rows, position) if rows else b"imported 0\n", b""
 
@@ -88,12 +138,15 @@ def rows_of(count, columns=2, first=0):
 
 def taken(base):
     for name, text, rows in TAKEN:
-        for file in (0, 1):
-            if os.path.exists(base.path(file)):
-                os.unlink(base.path(file))
+        base.removed()
         base.made()
         yield "import of " + name, base.run("import", text, ("items",)), imported(rows.count(b"\n"), 1)
         yield "rows of " + name, base.run("export", b"", ("items", "master")), (0, rows, b"")
+    for name, text, rows in NAMES_TAKEN:
+        base.removed()
+        base.made(b"", TAGS)
+        yield "import of " + name, base.run("import", text, ("tags",)), imported(rows.count(b"\n"), 1)
+        yield "rows of " + name, base.run("export", b"", ("tags", "master")), (0, rows, b"")
 
 
 def not_taken(base):
@@ -107,6 +160,12 @@ def not_taken(base):
     for form in (("Items",), ("key",), ("",), ("items", "master"), ()):
         yield "import %s" % (form,), base.run("import", TWO, form), (2, b"", b"decibel: usage\n")
     yield "nothing is lost after all", (base.read(0), base.read(1)), files
+    base.removed()
+    base.made(b'1 insert tags 7 "7" 7\n', TAGS)
+    files = base.read(0), base.read(1)
+    for name, text, row in NAMES_REFUSED:
+        yield "import of " + name, base.run("import", text, ("tags",)), refused(row)
+        yield "nothing is lost after " + name, (base.read(0), base.read(1)), files
 
 
 def again(base):
@@ -147,6 +206,23 @@ def most_rows(base):
     yield "a full relation", base.run("import", b"300000,0,0\n", ("items",)), refused(1)
     yield "262,144 rows", base.run("export", b"", ("items", "master")), (0, rows_of(4 * MOST), b"")
     yield "of the second version", base.run("export", b"", ("items", "master@2")), (0, rows_of(2 * MOST), b"")
+
+
+def most_texts(base):
+    """As many rows of 15 texts of width 64 as an entry has bytes for, and one more; and as many rows of names as an import takes."""
+    def rows(count):
+        return b"".join(b"%d" % key + b"," * 15 + b"\n" for key in range(count))
+    base.made(b"", b"relation wide " + b" ".join(b"c%d:64" % n for n in range(15)) + b"\nend\n")
+    yield "a row past the bytes of an entry", base.run("import", rows(17033), ("wide",)), refused(17033)
+    yield "no row of it", base.run("export", b"", ("wide", "master")), (0, b"", b"")
+    yield "all rows that an entry has bytes for", base.run("import", rows(17032), ("wide",)), imported(17032, 1)
+    yield "these rows", base.run("export", b"", ("wide", "master")), (0, rows(17032), b"")
+    base.removed()
+    base.made(b"", b"relation people name:12 a b\nend\n")
+    most = b"".join(b'%d,"n %d, m",%d,%d\n' % (key, key % 1000, key, -key) for key in range(MOST)).replace(b",-0\n", b",0\n")
+    yield "65,536 rows of names", base.run("import", most, ("people",)), imported(MOST, 1)
+    yield "these names", base.run("export", b"", ("people", "master")), (0, most, b"")
+    yield "a row of names too many", base.run("import", most + b"70000,a,1,1\n", ("people",)), refused(MOST + 1)
 
 
 def all_versions(base):
@@ -239,6 +315,98 @@ def read_back(base):
     yield "which is the same", base.run("export", b"", ("items", "master")), (0, written, b"")
 
 
+PRINTABLE = [chr(byte) for byte in range(32, 127) if byte != 34]
+
+
+def random_text(source, width):
+    """Mostly letters, often with a comma, and sometimes of any bytes."""
+    signs = source.choice((PRINTABLE, "abc ", "ab,", ",", " "))
+    return "".join(source.choice(signs) for _ in range(source.choice((0, 1, width, source.randrange(width + 1)))))
+
+
+def random_rows(source, widths):
+    """Rows by key: a text for each width, and a number for a width of 0."""
+    keys = source.sample(range(10 ** 6), source.randrange(1, 60))
+    return {key: [random_text(source, width) if width else source.randrange(-10 ** 6, 10 ** 6) for width in widths] for key in keys}
+
+
+def exported(rows):
+    """By docs/FORMATS.md alone: a text with a comma stands between double quotes."""
+    return b"".join(b",".join([b"%d" % key] + [('"%s"' % v if "," in str(v) else str(v)).encode() for v in rows[key]]) + b"\n" for key in sorted(rows))
+
+
+def written(source, rows):
+    """The rows as Python's csv writes them, in any order."""
+    shuffled, text = list(rows.items()), io.StringIO()
+    source.shuffle(shuffled)
+    writer = csv.writer(text, quoting=source.choice((csv.QUOTE_MINIMAL, csv.QUOTE_ALL, csv.QUOTE_NONNUMERIC)), lineterminator=source.choice(("\n", "\r\n")))
+    writer.writerows([key, *values] for key, values in shuffled)
+    return text.getvalue().encode()
+
+
+# A cell that is no text of its column, by the width of that.
+BAD_CELLS = (lambda width: "a" * (width + 1), lambda width: '"', lambda width: "\n", lambda width: "\u00e9", lambda width: "\x7f", lambda width: "\x1f", lambda width: "\r\n")
+
+
+def random_texts(base):
+    """Tables of random names, there and back; and each with one cell that is no name."""
+    source, wrong = random.Random(16), []
+    for turn in range(60):
+        widths = [source.choice((0, 1, 5, 12, 64)) for _ in range(source.randrange(0, 14))] + [source.randrange(1, 65)]
+        source.shuffle(widths)
+        rows = random_rows(source, widths)
+        base.removed()
+        base.made(b"", b"relation t " + b" ".join(b"c%d:%d" % (n, w) if w else b"c%d" % n for n, w in enumerate(widths)) + b"\nend\n")
+        spoilt, cells = list(rows.items()), [n for n, width in enumerate(widths) if width]
+        row, cell = source.randrange(len(rows)), source.choice(cells)
+        spoilt[row] = spoilt[row][0], [source.choice(BAD_CELLS)(width) if n == cell else v for n, (v, width) in enumerate(zip(spoilt[row][1], widths))]
+        text = io.StringIO()
+        csv.writer(text, lineterminator="\n").writerows([key, *values] for key, values in spoilt)
+        found = base.run("import", text.getvalue().encode(), ("t",))
+        if found != refused(row + 1):
+            wrong.append((turn, "a bad cell", widths, spoilt[row], found))
+        found = base.run("import", written(source, rows), ("t",)), base.run("export", b"", ("t", "master"))
+        if found != (imported(len(rows), 1), (0, exported(rows), b"")):
+            wrong.append((turn, "there and back", widths, rows, found))
+        if [[int(row[0]), *(v if w else int(v) for v, w in zip(row[1:], widths))] for row in csv.reader(io.StringIO(found[1][1].decode()))] != [[key, *rows[key]] for key in sorted(rows)]:
+            wrong.append((turn, "by Python's csv", widths, rows))
+    yield "random tables of texts", wrong, []
+
+
+def names_elsewhere(base):
+    """Names that sqlite3 and pandas read from an export and write for an import."""
+    source = random.Random(17)
+    rows = {key: [random_text(source, 12), source.randrange(-99, 99)] for key in range(1, 400)}
+    whole, schema = exported(rows), b"relation t name:12 n\nend\n"
+    base.made(b"", schema)
+    base.run("import", whole, ("t",))
+    path = os.path.join(base.folder, "names.csv")
+    with open(path, "wb") as f:
+        f.write(base.run("export", b"", ("t", "master"))[1])
+    if shutil.which("sqlite3"):
+        script = "create table t (key integer primary key, name text, n integer);\n.mode csv\n.import %s t\nselect * from t order by key;\n" % path
+        done = subprocess.run(["sqlite3", ":memory:"], input=script.encode(), stdout=subprocess.PIPE, stderr=subprocess.PIPE)
+        yield from names_back(base, schema, "sqlite3", rows, done.stdout, done.stderr)
+    else:
+        print("tests/run: there is no sqlite3, so it read no export of names")
+    if importlib.util.find_spec("pandas"):
+        import pandas
+        table = pandas.read_csv(path, header=None, keep_default_na=False, dtype={1: str})
+        yield from names_back(base, schema, "pandas", rows, table.to_csv(header=False, index=False).encode(), b"")
+    else:
+        print("tests/run: there is no pandas, so it read no export of names")
+
+
+def names_back(base, schema, name, rows, text, said):
+    """What another program wrote after it had read an export."""
+    read = {int(key): [text, int(n)] for key, text, n in csv.reader(io.StringIO(text.decode(), newline=""))}
+    yield "an export of names read by " + name, (said, read), (b"", rows)
+    base.removed()
+    base.made(b"", schema)
+    yield "an import of names that %s wrote" % name, base.run("import", text, ("t",)), imported(len(rows), 1)
+    yield "which are the same as before " + name, base.run("export", b"", ("t", "master")), (0, exported(rows), b"")
+
+
 def told_apart(base):
     """`git diff` of two exports shows a line for each changed row."""
     base.made(b"1 begin 65536\n" + b"".join(b"1 insert items %d %d 0\n" % (k, k) for k in range(2000)) + b"1 commit\n")
@@ -255,6 +423,6 @@ def told_apart(base):
 
 def checks(program):
     """Names with what was found and what should be."""
-    for part in (taken, not_taken, again, two_relations, most_rows, all_versions, devices, no_room, killed, read_back, told_apart):
+    for part in (taken, not_taken, again, two_relations, most_rows, most_texts, all_versions, devices, no_room, killed, read_back, random_texts, names_elsewhere, told_apart):
         with tempfile.TemporaryDirectory(dir="/dev/shm" if os.path.isdir("/dev/shm") else None) as folder:
             yield from part(Base(program, folder))

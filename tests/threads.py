@@ -181,12 +181,24 @@ def branch_of(session):
 
 
 def long_section(session):
-    """A session's lines: twelve transactions of a hundred inserts, each read again, on a branch of its own."""
+    """A session's lines: twelve transactions of a hundred inserts of names, each read again, on a branch of its own."""
     lines = [b"branch " + branch_of(session) + b" of master", b"on " + branch_of(session)]
     for n in range(12):
         keys = range(100 * n, 100 * n + 100)
-        lines += [b"begin", *(b"insert items %d %d 0" % (key, session) for key in keys), *(b"get items %d" % key for key in keys), b"commit"]
+        lines += [b"begin", *(b'insert items %d "%d, of %d" 0' % (key, key, session) for key in keys), *(b"get items %d" % key for key in keys), b"commit"]
     return [b"%d " % session + line for line in lines]
+
+
+def names(base):
+    """Names that two sessions give one record, each on a branch of its own, and that a third one merges afterwards; quotes that a section leaves open are a bad line of its own."""
+    base.made(b'1 insert tags 1 "fern" 1\n1 branch ann of master\n1 branch bob of master\n', on_files.TAGS)
+    status, written, said = base.run("sessions", b'2 on ann\n3 on bob\n2 update tags 1 name="a fern"\n3 update tags 1 name="b, fern" n=2\n2 get tags 1\n3 insert tags 2 "no end 1\n3 get tags 1\n')
+    yield "names of two sessions", (status, told_by_session(written), said), (0, {
+        2: [(b"2 on ann", b"ok"), (b'2 update tags 1 name="a fern"', b"ok ann@1"), (b"2 get tags 1", b'row 1 "a fern" 1')],
+        3: [(b"3 on bob", b"ok"), (b'3 update tags 1 name="b, fern" n=2', b"ok bob@1"), (b'3 insert tags 2 "no end 1', b"refused 1 bad line"), (b"3 get tags 1", b'row 1 "b, fern" 2')]}, b"")
+    yield "check of their names", base.run("check"), base.told()
+    yield "a merge of names", base.run("script", b"1 merge ann\n1 merge bob\n1 merge bob right\n1 get tags 1\n"), (0, on_files.answered(
+        (b"1 merge ann", b"ok master@2"), (b"1 merge bob", b"refused 9 conflict tags 1 name"), (b"1 merge bob right", b"ok master@3"), (b"1 get tags 1", b'row 1 "b, fern" 2')), b"")
 
 
 def at_length(base):
@@ -196,7 +208,7 @@ def at_length(base):
     sections = [long_section(session) for session in range(1, SESSIONS + 1)]
     script = as_input(line for lines in zip(*sections) for line in lines)
     assert len(script) > 262144 and sum(map(len, sections)) > 16384
-    wrong, _ = one_script(base, on_files.Base(base.program, place), SCHEMA + script)
+    wrong, _ = one_script(base, on_files.Base(base.program, place), b"relation items name:12 n\nend\n" + script)
     yield "a long input of %d sessions on threads" % SESSIONS, wrong, []
 
 
@@ -262,6 +274,6 @@ def checks(program):
         if on_files.Base(program, folder).run("sessions")[0] == 2:
             print("tests/run: the program has no `sessions` yet, so nobody ran sessions on threads")
             return
-    for part in (alone, three, beside, at_random, comments_and_bad_lines, at_length, killed):
+    for part in (alone, three, beside, names, at_random, comments_and_bad_lines, at_length, killed):
         with tempfile.TemporaryDirectory() as folder:
             yield from part(on_files.Base(program, folder))
