@@ -2,9 +2,10 @@
 
 A block of tests/blocks/ stands after a line `## ` with its name. Its schema stands before its first echoed line, or is USUAL. Blocks of the
 file of a stage (`STAGES` in tests/model.py) are asked of the program if that stage is built, and those of `first` and `texts` always. In a page of docs/
-each fenced block with an echoed line is a block; in a story each goes on where the one before it ended, from the table that the story imports.
+each fenced block with an echoed line is a block; in a story each goes on where the one before it ended, from the table that the story imports,
+and the table that it shows as exported is what is there at its end.
 """
-import os, re
+import csv, io, os, re
 
 USUAL = b"relation items a b\nend\n"
 FIRST, TEXTS = "first", "texts"
@@ -29,16 +30,24 @@ def fenced(text):
     return re.findall(rb"^```[a-z]*\n(.*?)^```$", text, re.MULTILINE | re.DOTALL)
 
 
+def of_kind(kind, text):
+    """The first fenced block of a kind on a page."""
+    return re.search(rb"^```%s\n(.*?)^```$" % kind, text, re.MULTILINE | re.DOTALL).group(1)
+
+
 def imported(text):
     """The schema that a story shows, the relation into which it imports, and its table."""
-    schema, table = (re.search(rb"^```%s\n(.*?)^```$" % kind, text, re.MULTILINE | re.DOTALL).group(1) for kind in (b"schema", b"csv"))
-    return schema, re.search(rb"^./decibel import \w+ (\w+) <", text, re.MULTILINE).group(1), table
+    return of_kind(b"schema", text), re.search(rb"^./decibel import \w+ (\w+) <", text, re.MULTILINE).group(1), of_kind(b"csv", text)
 
 
-def lines_of_import(relation, table):
-    """What an import runs, as lines with their replies, where it makes the first version."""
-    inserts = b"".join(b"> 1 insert %s %s\nok\n" % (relation, row.replace(b",", b" ")) for row in table.split())
-    return b"> 1 begin 65536\nok\n" + inserts + b"> 1 commit\nok master@1\n"
+def lines_of_import(schema, relation, table):
+    """What an import runs, as lines with their replies, where it makes the first version. A cell of a column with a width is a text."""
+    columns, = (line.split()[2:] for line in schema.split(b"\n") if line.split()[1:2] == [relation])
+    lines = b""
+    for key, *cells in csv.reader(io.StringIO(table.decode())):
+        values = [b'"%s"' % cell.encode() if b":" in column else cell.encode() for cell, column in zip(cells, columns, strict=True)]
+        lines += b"> 1 insert %s %s %s\nok\n" % (relation, key.encode(), b" ".join(values))
+    return b"> 1 begin 65536\nok\n" + lines + b"> 1 commit\nok master@1\n"
 
 
 def shown_in(page, text):
@@ -47,4 +56,4 @@ def shown_in(page, text):
     if page not in STORIES:
         return shown
     schema, relation, table = imported(text)
-    return [schema + lines_of_import(relation, table) + b"".join(shown)]
+    return [schema + lines_of_import(schema, relation, table) + b"".join(shown)]
