@@ -2,8 +2,9 @@
 
 What a text's rows are was written by hand. What `export` writes is read back by Python's csv, and by sqlite3 and pandas where they are installed.
 """
-import csv, importlib.util, io, os, random, re, resource, shutil, subprocess, tempfile, time
+import csv, importlib.util, io, os, random, re, resource, shutil, subprocess, sys, tempfile, time
 
+import worked
 from on_files import TAGS, Base
 
 MARK = b"\xef\xbb\xbf"
@@ -407,6 +408,26 @@ def names_back(base, schema, name, rows, text, said):
     yield "which are the same as before " + name, base.run("export", b"", ("t", "master")), (0, exported(rows), b"")
 
 
+# A table that docs/OPERATIONS.md tells how to prepare, and what becomes of it.
+UNPREPARED = '\ufeff1,"caf\u00e9 ""au lait""",5\r\n\r\n2,"x,\ny\tz",0\r\n3,\u201cna\u00efve\u201d \u2013 \u4e2d,-1\r\n4,,7\r\n'.encode()
+PREPARED = b"1,cafe 'au lait',5\n2,\"x, y z\",0\n3,'naive' - ?,-1\n4,,7\n"
+
+
+def prepared(base):
+    """The program that docs/OPERATIONS.md shows makes a table that can be imported of one that can't."""
+    with open(os.path.join(os.path.dirname(os.path.dirname(os.path.abspath(__file__))), "docs", "OPERATIONS.md"), "rb") as f:
+        program = worked.of_kind(b"python", f.read())
+    path = os.path.join(base.folder, "plants.csv")
+    with open(path, "wb") as f:
+        f.write(UNPREPARED)
+    done = subprocess.run([sys.executable, "-c", program.decode(), path], stdout=subprocess.PIPE, stderr=subprocess.PIPE)
+    yield "a table that was prepared", (done.returncode, done.stderr, done.stdout), (0, b"", PREPARED)
+    base.made(b"", b"relation t name:20 n\nend\n")
+    yield "the table before that", base.run("import", UNPREPARED, ("t",)), refused(1)
+    yield "the table after that", base.run("import", done.stdout, ("t",)), imported(4, 1)
+    yield "its rows", base.run("export", b"", ("t", "master")), (0, PREPARED, b"")
+
+
 def told_apart(base):
     """`git diff` of two exports shows a line for each changed row."""
     base.made(b"1 begin 65536\n" + b"".join(b"1 insert items %d %d 0\n" % (k, k) for k in range(2000)) + b"1 commit\n")
@@ -423,6 +444,6 @@ def told_apart(base):
 
 def checks(program):
     """Names with what was found and what should be."""
-    for part in (taken, not_taken, again, two_relations, most_rows, most_texts, all_versions, devices, no_room, killed, read_back, random_texts, names_elsewhere, told_apart):
+    for part in (taken, not_taken, again, two_relations, most_rows, most_texts, all_versions, devices, no_room, killed, read_back, random_texts, names_elsewhere, prepared, told_apart):
         with tempfile.TemporaryDirectory(dir="/dev/shm" if os.path.isdir("/dev/shm") else None) as folder:
             yield from part(Base(program, folder))
