@@ -7,10 +7,8 @@ use Rattle.std.proofs.lemmas.List.{length-set}
 use Rattle.std.proofs.lemmas.List.Quantifiers.{position-Some}
 use Rattle.db_value.specs.Value.{Value}
 use Rattle.db_value.specs.Relations.{columns_at, widths_at, no_relation}
-use Rattle.db_value.specs.Widths.{meets}
 use Rattle.db_value.specs.Schema.{most_relations}
 use Rattle.db_value.specs.Condition.{holds}
-use Rattle.db_value.specs.Pred.{first_unknown}
 use Rattle.db_value.specs.declared.record.Record.{Record}
 use Rattle.db_value.specs.declared.schema.Relation.{Relation}
 use Rattle.db_value.specs.declared.condition.Set.{Set}
@@ -39,7 +37,8 @@ use Rattle.db_store.specs.Found.{found, lack, branch_names, plain}
 use Rattle.branch_tx.specs.Found.{Source, Own, Other, Lacking, source_of, first_lacking}
 use Rattle.branch_tx.specs.Act.{Tx, Outcome, Ground, updated, insert_refusal, change_refusal, refused, answered, unless, unless_full, fields_at, has_space, has_room, changed_to, insert_in, insert_of, update_in, update_of, delete_of, get_from, source_at, get_of, marked, union_marked, pairs_of, unlike, contents_from, rows_from, scan_versions, scan_over, scan_of, join_in, join_with, join_of, minus_of, act}
 use Rattle.line_needs.specs.Columns.{relation_named, resolved}
-use Rattle.line_needs.specs.Early.{column_refusal}
+use Rattle.line_needs.specs.Misfits.{sets_misfit}
+use Rattle.line_needs.specs.Early.{row_refusal, terms_refusal}
 use Rattle.branch_tx.specs.Merging.{refusal_of_merge, put_all, merged_to}
 use Rattle.branch_tx.specs.Alone.{ground_of, told_of, common_table, place_in, has_changed, on_of, branch_as, merge_named, step, made_next}
 use Rattle.branch_tx.specs.Laws.{private_of, as_private}
@@ -81,9 +80,13 @@ insert_in_same t g tx r name key fields w h = unless_same t g tx _ _
 abbrev InTable : Table → Option ℕ → Type 0
 InTable t o = (r : ℕ) → o ≡ Some r → r < length t
 
+asked_same : (t : Table) (tx : Tx (List Overlay)) (o : Option Refusal) (a : Outcome Private) (x : Outcome (List Overlay)) → a ≡ image t x → unless (as_private t tx) o a ≡ image t (unless tx o x)
+asked_same t tx None a x e = e
+asked_same t tx (Some why) a x e = refl
+
 insert_same : (t : Table) (g : Ground) (tx : Tx (List Overlay)) (name : List ℕ) (key : ℕ) (fields : List Value) (o : Option ℕ) → IsWide t tx → InTable t o → insert_of privately g (as_private t tx) name key fields o ≡ image t (insert_of (over_table t) g tx name key fields o)
 insert_same t g tx name key fields None w h = refl
-insert_same t g tx name key fields (Some r) w h = cond_same t (meets (widths_at g.schema r) fields) _ _ _ _ (insert_in_same t g tx r name key fields w (h r refl)) refl
+insert_same t g tx name key fields (Some r) w h = asked_same t tx (row_refusal g.schema name fields (Some r)) _ _ (insert_in_same t g tx r name key fields w (h r refl))
 
 change_same : (t : Table) (g : Ground) (tx : Tx (List Overlay)) (r : ℕ) (name : List ℕ) (key : ℕ) (st : State) → IsWide t tx → r < length t
     → unless_full g (as_private t tx) (changed_to privately (as_private t tx) r key st (change_refusal name key tx.room (fields_at (over_table t) tx r key) (has_room privately (as_private t tx) r key)))
@@ -92,13 +95,13 @@ change_same t g tx r name key st w h = unless_same t g tx _ _
     (ap (λ q. changed_to privately (as_private t tx) r key st (change_refusal name key tx.room (fields_at (over_table t) tx r key) q)) (room_same t tx r key)
     ∙ changed_same t tx r key st (change_refusal name key tx.room (fields_at (over_table t) tx r key) (has_room (over_table t) tx r key)) w h)
 
-update_in_same : (t : Table) (g : Ground) (tx : Tx (List Overlay)) (r : ℕ) (name : List ℕ) (key : ℕ) (sets : Result (List Set) (List ℕ)) → IsWide t tx → r < length t → update_in privately g (as_private t tx) r name key sets ≡ image t (update_in (over_table t) g tx r name key sets)
-update_in_same t g tx r name key (Err column) w h = refl
-update_in_same t g tx r name key (Ok sets) w h = change_same t g tx r name key (updated sets (fields_at (over_table t) tx r key)) w h
+update_in_same : (t : Table) (g : Ground) (tx : Tx (List Overlay)) (r : ℕ) (name : List ℕ) (key : ℕ) (sets : Result (List Set) (List ℕ)) (misfit : Option Refusal) → IsWide t tx → r < length t → update_in privately g (as_private t tx) r name key sets misfit ≡ image t (update_in (over_table t) g tx r name key sets misfit)
+update_in_same t g tx r name key (Err column) misfit w h = refl
+update_in_same t g tx r name key (Ok sets) misfit w h = asked_same t tx misfit _ _ (change_same t g tx r name key (updated sets (fields_at (over_table t) tx r key)) w h)
 
 update_same : (t : Table) (g : Ground) (tx : Tx (List Overlay)) (name : List ℕ) (key : ℕ) (sets : List NamedSet) (o : Option ℕ) → IsWide t tx → InTable t o → update_of privately g (as_private t tx) name key sets o ≡ image t (update_of (over_table t) g tx name key sets o)
 update_same t g tx name key sets None w h = refl
-update_same t g tx name key sets (Some r) w h = update_in_same t g tx r name key (resolved (widths_at g.schema r) (columns_at g.schema r) sets) w (h r refl)
+update_same t g tx name key sets (Some r) w h = update_in_same t g tx r name key (resolved (columns_at g.schema r) sets) (sets_misfit (widths_at g.schema r) (columns_at g.schema r) sets) w (h r refl)
 
 delete_same : (t : Table) (g : Ground) (tx : Tx (List Overlay)) (name : List ℕ) (key : ℕ) (o : Option ℕ) → IsWide t tx → InTable t o → delete_of privately g (as_private t tx) name key o ≡ image t (delete_of (over_table t) g tx name key o)
 delete_same t g tx name key None w h = refl
@@ -118,10 +121,6 @@ get_same t sources tx name key at None = refl
 get_same t sources tx name key at (Some r) = ap (get_from privately (as_private t tx) r key) (source_same sources at t) ∙ from_same t tx r key (source_at (over_table t) sources at)
 
 -- ---- questions
-
-asked_same : (t : Table) (tx : Tx (List Overlay)) (o : Option Refusal) (a : Outcome Private) (x : Outcome (List Overlay)) → a ≡ image t x → unless (as_private t tx) o a ≡ image t (unless tx o x)
-asked_same t tx None a x e = e
-asked_same t tx (Some why) a x e = refl
 
 contents_same : (t : Table) (tx : Tx (List Overlay)) (r : ℕ) (s : Source) → contents_from privately (as_private t tx) r s ≡ contents_from (over_table t) tx r s
 contents_same t tx r Own = refl
@@ -144,7 +143,7 @@ scan_same : (t : Table) (schema : List Relation) (sources : VersionName → Sour
     → scan_of privately schema sources heads (as_private t tx) name over terms o ≡ image t (scan_of (over_table t) schema sources heads tx name over terms o)
 scan_same t schema sources heads tx name over terms None = refl
 scan_same t schema sources heads tx name over terms (Some r) =
-    asked_same t tx (column_refusal (first_unknown (columns_at schema r) terms)) _ _ (scan_over_same t sources heads tx r (holds (columns_at schema r) terms) over)
+    asked_same t tx (terms_refusal schema r terms) _ _ (scan_over_same t sources heads tx r (holds (columns_at schema r) terms) over)
 
 join_in_same : (t : Table) (tx : Tx (List Overlay)) (r s : ℕ) (left right : Source) (p : Record → Bool) → join_in privately (as_private t tx) r s left right p ≡ image t (join_in (over_table t) tx r s left right p)
 join_in_same t tx r s left right p =
@@ -156,7 +155,7 @@ join_with_same : (t : Table) (schema : List Relation) (tx : Tx (List Overlay)) (
     → join_with privately schema (as_private t tx) r name left right terms o ≡ image t (join_with (over_table t) schema tx r name left right terms o)
 join_with_same t schema tx r name left right terms None = refl
 join_with_same t schema tx r name left right terms (Some s) =
-    asked_same t tx (column_refusal (first_unknown (columns_at schema r) terms)) _ _ (join_in_same t tx r s left right (holds (columns_at schema r) terms))
+    asked_same t tx (terms_refusal schema r terms) _ _ (join_in_same t tx r s left right (holds (columns_at schema r) terms))
 
 join_same : (t : Table) (schema : List Relation) (tx : Tx (List Overlay)) (name other : List ℕ) (left right : Source) (terms : List Term) (o q : Option ℕ)
     → join_of privately schema (as_private t tx) name other left right terms o q ≡ image t (join_of (over_table t) schema tx name other left right terms o q)

@@ -4,7 +4,6 @@ use Rattle.db_value.specs.Value.{Value}
 use Rattle.db_value.specs.Relations.{columns_at, widths_at}
 use Rattle.db_value.specs.Widths.{meets}
 use Rattle.db_value.specs.Condition.{holds}
-use Rattle.db_value.specs.Pred.{first_unknown}
 use Rattle.db_value.specs.declared.record.Record.{Record}
 use Rattle.db_value.specs.declared.schema.Relation.{Relation}
 use Rattle.db_value.specs.declared.condition.Set.{Set}
@@ -28,12 +27,16 @@ use Rattle.db_store.specs.Found.{Found, found, lack, branch_names, plain}
 use Rattle.branch_tx.specs.Found.{Source, Own, Other, Lacking, source_of, first_lacking}
 use Rattle.branch_tx.specs.Act.{Tx, Outcome, Ground, updated, insert_refusal, change_refusal, unless, unless_full, fields_at, has_space, has_room, changed_to, insert_of, update_in, update_of, delete_of, get_from, source_at, get_of, scan_versions, scan_over, scan_of, join_with, join_of, minus_of, act}
 use Rattle.line_needs.specs.Columns.{relation_named, resolved}
-use Rattle.line_needs.specs.Early.{column_refusal}
+use Rattle.line_needs.specs.Misfits.{sets_misfit}
+use Rattle.line_needs.specs.Early.{row_refusal, terms_refusal}
 use Rattle.branch_tx.specs.Merging.{refusal_of_merge, put_all, merged_to}
 use Rattle.branch_tx.specs.Alone.{ground_of, common_table, place_in, room_of, on_of, branch_as, has_changed, merge_named, step}
 use Rattle.branch_tx.proofs.Private.{State}
 use Rattle.branch_tx.proofs.Images.{named_within}
-use Rattle.line_needs.proofs.SetLemmas.{AreNumbers, resolved_numbers}
+use Rattle.line_needs.specs.Known.{of_named, refused_or}
+use Rattle.line_needs.specs.declared.known.Known.TheVariants.{Of}
+use Rattle.line_needs.proofs.Knowing.{known_insert}
+use Rattle.line_needs.proofs.SetLemmas.{AreFitting, resolved_fitting}
 use Rattle.branch_tx.proofs.WithSets.{meets_sets}
 
 -- What may be set where a key has a state: a new record meets the widths of the columns, and there is space for it; another one meets them if the one before does.
@@ -74,6 +77,11 @@ pub record IsMerge {W : Type 0} (k : Keeping W) (d : Dataset) (b : ℕ) (tx : Tx
 abbrev pub merged_with : {W : Type 0} → Keeping W → Dataset → ℕ → Tx W → Prefer → ℕ → Tx W
 merged_with k d b tx prefer c = record tx { work = put_all k tx.work (merge_changes d b prefer c); second = Some (head_place d c) }
 
+-- a row that isn't refused meets the widths of its relation
+row_meets : (schema : List Relation) (name : List ℕ) (key : ℕ) (fields : List Value) (r : ℕ) → relation_named schema name ≡ Some r → row_refusal schema name fields (Some r) ≡ None → meets (widths_at schema r) fields ≡ true
+row_meets schema name key fields r e n =
+    (known_insert schema true false name key fields r (ap (λ (o : Option ℕ). refused_or (row_refusal schema name fields o) (of_named o)) e ∙ ap (λ (q : Option Refusal). refused_or q (Of r)) n)).1
+
 module _ {W : Type 0} (k : Keeping W) (P : Tx W → Type 0) where
   pub cond_keeps : (q : Bool) (x y : Outcome W) → P x.tx → P y.tx → P (cond q x y).tx
   cond_keeps true x y h f = h
@@ -82,6 +90,14 @@ module _ {W : Type 0} (k : Keeping W) (P : Tx W → Type 0) where
   cond_by : (q : Bool) (x y : Outcome W) → (q ≡ true → P x.tx) → (q ≡ false → P y.tx) → P (cond q x y).tx
   cond_by true x y h f = h refl
   cond_by false x y h f = f refl
+
+  unless_by : (tx : Tx W) (o : Option Refusal) (x : Outcome W) → P tx → (o ≡ None → P x.tx) → P (unless tx o x).tx
+  unless_by tx None x h f = f refl
+  unless_by tx (Some why) x h f = h
+
+  asked_keeps : (tx : Tx W) (o : Option Refusal) (x : Outcome W) → P tx → P x.tx → P (unless tx o x).tx
+  asked_keeps tx None x h f = f
+  asked_keeps tx (Some why) x h f = h
 
   changed_keeps : (tx : Tx W) (r key : ℕ) (st : State) (o : Option Refusal) → P tx → (o ≡ None → P (record tx { work = k.put tx.work r key st })) → P (changed_to k tx r key st o).tx
   changed_keeps tx r key st (Some why) h f = h
@@ -104,9 +120,9 @@ module _ {W : Type 0} (k : Keeping W) (P : Tx W → Type 0) where
 
   insert_keeps : (g : Ground) (tx : Tx W) (name : List ℕ) (key : ℕ) (fields : List Value) (o : Option ℕ) → relation_named g.schema name ≡ o → P tx → Changes g tx → P (insert_of k g tx name key fields o).tx
   insert_keeps g tx name key fields None e h f = h
-  insert_keeps g tx name key fields (Some r) e h f = cond_by (meets (widths_at g.schema r) fields) _ _ (λ n. cond_by g.full _ _ (λ q. h) (λ q. changed_keeps tx r key (Some fields) _ h (λ a.
-      let both = insert_accepted (widths_at g.schema r) tx.room name key (fields_at k tx r key) (has_space k tx r) (has_room k tx r key) fields n a in
-      f r key (Some fields) (record { within = named_within g.schema name r e; open_branch = q; room = both.0; state = both.1 })))) (λ n. h)
+  insert_keeps g tx name key fields (Some r) e h f = unless_by tx (row_refusal g.schema name fields (Some r)) _ h (λ n. cond_by g.full _ _ (λ q. h) (λ q. changed_keeps tx r key (Some fields) _ h (λ a.
+      let both = insert_accepted (widths_at g.schema r) tx.room name key (fields_at k tx r key) (has_space k tx r) (has_room k tx r key) fields (row_meets g.schema name key fields r e n) a in
+      f r key (Some fields) (record { within = named_within g.schema name r e; open_branch = q; room = both.0; state = both.1 }))))
 
   change_keeps : (g : Ground) (tx : Tx W) (r : ℕ) (name : List ℕ) (key : ℕ) (st : State) → r < length g.schema → P tx → Changes g tx
       → ((fields : List Value) → fields_at k tx r key ≡ Some fields → MayBe (widths_at g.schema r) (has_space k tx r) (Some fields) st)
@@ -115,17 +131,17 @@ module _ {W : Type 0} (k : Keeping W) (P : Tx W → Type 0) where
       let both = change_accepted (widths_at g.schema r) tx.room name key (fields_at k tx r key) st (has_space k tx r) (has_room k tx r key) s a in
       f r key st (record { within = l; open_branch = q; room = both.0; state = both.1 })))
 
-  updated_may : (ws : List ℕ) (space : Bool) (sets : List Set) (o : State) → AreNumbers ws sets → (fields : List Value) → o ≡ Some fields → MayBe ws space (Some fields) (updated sets o)
+  updated_may : (ws : List ℕ) (space : Bool) (sets : List Set) (o : State) → AreFitting ws sets → (fields : List Value) → o ≡ Some fields → MayBe ws space (Some fields) (updated sets o)
   updated_may ws space sets None n fields e = absurd cc
   updated_may ws space sets (Some old) n fields e = λ h. let same : old ≡ fields = cc in meets_sets ws old sets n (ap (meets ws) same ∙ h)
 
-  update_keeps : (g : Ground) (tx : Tx W) (r : ℕ) (name : List ℕ) (key : ℕ) (sets : Result (List Set) (List ℕ)) → r < length g.schema → ((ss : List Set) → sets ≡ Ok ss → AreNumbers (widths_at g.schema r) ss) → P tx → Changes g tx → P (update_in k g tx r name key sets).tx
-  update_keeps g tx r name key (Err column) l n h f = h
-  update_keeps g tx r name key (Ok sets) l n h f = change_keeps g tx r name key (updated sets (fields_at k tx r key)) l h f (updated_may (widths_at g.schema r) (has_space k tx r) sets (fields_at k tx r key) (n sets refl))
+  update_keeps : (g : Ground) (tx : Tx W) (r : ℕ) (name : List ℕ) (key : ℕ) (sets : Result (List Set) (List ℕ)) (misfit : Option Refusal) → r < length g.schema → ((ss : List Set) → sets ≡ Ok ss → misfit ≡ None → AreFitting (widths_at g.schema r) ss) → P tx → Changes g tx → P (update_in k g tx r name key sets misfit).tx
+  update_keeps g tx r name key (Err column) misfit l n h f = h
+  update_keeps g tx r name key (Ok sets) misfit l n h f = unless_by tx misfit _ h (λ e. change_keeps g tx r name key (updated sets (fields_at k tx r key)) l h f (updated_may (widths_at g.schema r) (has_space k tx r) sets (fields_at k tx r key) (n sets refl e)))
 
   update_of_keeps : (g : Ground) (tx : Tx W) (name : List ℕ) (key : ℕ) (sets : List NamedSet) (o : Option ℕ) → relation_named g.schema name ≡ o → P tx → Changes g tx → P (update_of k g tx name key sets o).tx
   update_of_keeps g tx name key sets None e h f = h
-  update_of_keeps g tx name key sets (Some r) e h f = update_keeps g tx r name key (resolved (widths_at g.schema r) (columns_at g.schema r) sets) (named_within g.schema name r e) (resolved_numbers (widths_at g.schema r) (columns_at g.schema r) sets) h f
+  update_of_keeps g tx name key sets (Some r) e h f = update_keeps g tx r name key (resolved (columns_at g.schema r) sets) (sets_misfit (widths_at g.schema r) (columns_at g.schema r) sets) (named_within g.schema name r e) (resolved_fitting (widths_at g.schema r) (columns_at g.schema r) sets) h f
 
   delete_keeps : (g : Ground) (tx : Tx W) (name : List ℕ) (key : ℕ) (o : Option ℕ) → relation_named g.schema name ≡ o → P tx → Changes g tx → P (delete_of k g tx name key o).tx
   delete_keeps g tx name key None e h f = h
@@ -140,10 +156,6 @@ module _ {W : Type 0} (k : Keeping W) (P : Tx W → Type 0) where
   get_keeps sources tx name key at None h = h
   get_keeps sources tx name key at (Some r) h = from_keeps tx r key (source_at k sources at) h
 
-  asked_keeps : (tx : Tx W) (o : Option Refusal) (x : Outcome W) → P tx → P x.tx → P (unless tx o x).tx
-  asked_keeps tx None x h f = f
-  asked_keeps tx (Some why) x h f = h
-
   versions_keeps : (sources : VersionName → Source) (tx : Tx W) (r : ℕ) (p : Record → Bool) (names : List VersionName) → P tx → P (scan_versions k sources tx r p names).tx
   versions_keeps sources tx r p names h = asked_keeps tx (first_lacking (map sources names)) _ h h
 
@@ -155,12 +167,12 @@ module _ {W : Type 0} (k : Keeping W) (P : Tx W → Type 0) where
   pub scan_keeps : (schema : List Relation) (sources : VersionName → Source) (heads : List (List ℕ)) (tx : Tx W) (name : List ℕ) (over : ScanOver) (terms : List Term) (o : Option ℕ) → P tx → P (scan_of k schema sources heads tx name over terms o).tx
   scan_keeps schema sources heads tx name over terms None h = h
   scan_keeps schema sources heads tx name over terms (Some r) h =
-      asked_keeps tx (column_refusal (first_unknown (columns_at schema r) terms)) _ h (over_keeps sources heads tx r (holds (columns_at schema r) terms) over h)
+      asked_keeps tx (terms_refusal schema r terms) _ h (over_keeps sources heads tx r (holds (columns_at schema r) terms) over h)
 
   join_with_keeps : (schema : List Relation) (tx : Tx W) (r : ℕ) (name : List ℕ) (left right : Source) (terms : List Term) (o : Option ℕ) → P tx → P (join_with k schema tx r name left right terms o).tx
   join_with_keeps schema tx r name left right terms None h = h
   join_with_keeps schema tx r name left right terms (Some s) h =
-      asked_keeps tx (column_refusal (first_unknown (columns_at schema r) terms)) _ h (asked_keeps tx (first_lacking (left ∷ right ∷ [])) _ h h)
+      asked_keeps tx (terms_refusal schema r terms) _ h (asked_keeps tx (first_lacking (left ∷ right ∷ [])) _ h h)
 
   pub join_keeps : (schema : List Relation) (tx : Tx W) (name other : List ℕ) (left right : Source) (terms : List Term) (o q : Option ℕ) → P tx → P (join_of k schema tx name other left right terms o q).tx
   join_keeps schema tx name other left right terms None q h = h

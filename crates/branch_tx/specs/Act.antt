@@ -4,9 +4,7 @@ use Rattle.std.specs.FinMap as finite
 use Rattle.std.specs.List.{filter}
 use Rattle.db_value.specs.Value.{Value}
 use Rattle.db_value.specs.Relations.{columns_at, widths_at}
-use Rattle.db_value.specs.Widths.{meets}
 use Rattle.db_value.specs.Condition.{holds}
-use Rattle.db_value.specs.Pred.{first_unknown}
 use Rattle.db_value.specs.declared.schema.Relation.{Relation}
 use Rattle.db_value.specs.declared.record.Record.{Record}
 use Rattle.db_value.specs.declared.condition.Set.{Set}
@@ -16,7 +14,7 @@ use Rattle.db_value.specs.declared.version.VersionPlace.{VersionPlace}
 use Rattle.db_value.specs.declared.reply.Reply.{Reply}
 use Rattle.db_value.specs.declared.reply.Reply.TheVariants.{Done, One, Listed, Paired, Refused}
 use Rattle.db_value.specs.declared.reply.Refusal.{Refusal}
-use Rattle.db_value.specs.declared.reply.Refusal.TheVariants.{Line, InTransaction, NotFirst, NoRelation, NoColumn, KeyThere, KeyMissing, Room, VersionsFull, TableFull, ValueCount}
+use Rattle.db_value.specs.declared.reply.Refusal.TheVariants.{Line, InTransaction, NotFirst, NoRelation, NoColumn, KeyThere, KeyMissing, Room, VersionsFull, TableFull}
 use Rattle.db_store.specs.Table.{Contents, relation_at, rows_of}
 use Rattle.db_store.specs.Fits.{most_keys}
 use Rattle.db_store.specs.Work.{with_sets}
@@ -29,7 +27,8 @@ use Rattle.stmt_text.specs.declared.stmt.NamedSet.{NamedSet}
 use Rattle.stmt_text.specs.declared.stmt.ScanOver.{ScanOver}
 use Rattle.stmt_text.specs.declared.stmt.ScanOver.TheVariants.{Current, Named, Heads}
 use Rattle.line_needs.specs.Columns.{relation_named, resolved}
-use Rattle.line_needs.specs.Early.{column_refusal}
+use Rattle.line_needs.specs.Misfits.{sets_misfit}
+use Rattle.line_needs.specs.Early.{row_refusal, terms_refusal}
 use Rattle.branch_tx.specs.Keeping.{Keeping}
 use Rattle.db_store.specs.Found.{plain}
 use Rattle.branch_tx.specs.Found.{Source, Own, Other, Lacking, first_lacking}
@@ -90,9 +89,9 @@ abbrev pub unless : {W : Type 0} → Tx W → Option Refusal → Outcome W → O
 unless tx None o = o
 unless tx (Some why) o = refused tx why
 
--- a question with a condition on the rows of a relation with these columns
-abbrev pub where_known : {W : Type 0} → Tx W → List (List ℕ) → List Term → ((Record → Bool) → Outcome W) → Outcome W
-where_known tx columns terms ask = unless tx (column_refusal (first_unknown columns terms)) (ask (holds columns terms))
+-- a question with a condition on the rows of a relation
+abbrev pub where_known : {W : Type 0} → Tx W → List Relation → ℕ → List Term → ((Record → Bool) → Outcome W) → Outcome W
+where_known tx schema r terms ask = unless tx (terms_refusal schema r terms) (ask (holds (columns_at schema r) terms))
 
 -- a branch with as many versions as it can have takes no change
 abbrev pub unless_full : {W : Type 0} → Ground → Tx W → Outcome W → Outcome W
@@ -131,15 +130,15 @@ module _ {W : Type 0} (k : Keeping W) where
 
   abbrev pub insert_of : Ground → Tx W → List ℕ → ℕ → List Value → Option ℕ → Outcome W
   insert_of g tx name key fields None = refused tx (NoRelation name)
-  insert_of g tx name key fields (Some r) = cond (meets (widths_at g.schema r) fields) (insert_in g tx r name key fields) (refused tx (ValueCount name (length (columns_at g.schema r))))
+  insert_of g tx name key fields (Some r) = unless tx (row_refusal g.schema name fields (Some r)) (insert_in g tx r name key fields)
 
-  abbrev pub update_in : Ground → Tx W → ℕ → List ℕ → ℕ → Result (List Set) (List ℕ) → Outcome W
-  update_in g tx r name key (Err column) = refused tx (NoColumn column)
-  update_in g tx r name key (Ok sets) = unless_full g tx (update_free tx r name key sets)
+  abbrev pub update_in : Ground → Tx W → ℕ → List ℕ → ℕ → Result (List Set) (List ℕ) → Option Refusal → Outcome W
+  update_in g tx r name key (Err column) misfit = refused tx (NoColumn column)
+  update_in g tx r name key (Ok sets) misfit = unless tx misfit (unless_full g tx (update_free tx r name key sets))
 
   abbrev pub update_of : Ground → Tx W → List ℕ → ℕ → List NamedSet → Option ℕ → Outcome W
   update_of g tx name key sets None = refused tx (NoRelation name)
-  update_of g tx name key sets (Some r) = update_in g tx r name key (resolved (widths_at g.schema r) (columns_at g.schema r) sets)
+  update_of g tx name key sets (Some r) = update_in g tx r name key (resolved (columns_at g.schema r) sets) (sets_misfit (widths_at g.schema r) (columns_at g.schema r) sets)
 
   abbrev pub delete_of : Ground → Tx W → List ℕ → ℕ → Option ℕ → Outcome W
   delete_of g tx name key None = refused tx (NoRelation name)
@@ -180,7 +179,7 @@ module _ {W : Type 0} (k : Keeping W) where
 
   abbrev pub scan_of : List Relation → (VersionName → Source) → List (List ℕ) → Tx W → List ℕ → ScanOver → List Term → Option ℕ → Outcome W
   scan_of schema sources heads tx name over terms None = refused tx (NoRelation name)
-  scan_of schema sources heads tx name over terms (Some r) = where_known tx (columns_at schema r) terms (λ p. scan_over sources heads tx r p over)
+  scan_of schema sources heads tx name over terms (Some r) = where_known tx schema r terms (λ p. scan_over sources heads tx r p over)
 
   -- the rows of relation r of a version beside those with their keys of relation s of another
   abbrev pub join_in : Tx W → ℕ → ℕ → Source → Source → (Record → Bool) → Outcome W
@@ -188,7 +187,7 @@ module _ {W : Type 0} (k : Keeping W) where
 
   abbrev pub join_with : List Relation → Tx W → ℕ → List ℕ → Source → Source → List Term → Option ℕ → Outcome W
   join_with schema tx r name left right terms None = refused tx (NoRelation name)
-  join_with schema tx r name left right terms (Some s) = where_known tx (columns_at schema r) terms (join_in tx r s left right)
+  join_with schema tx r name left right terms (Some s) = where_known tx schema r terms (join_in tx r s left right)
 
   abbrev pub join_of : List Relation → Tx W → List ℕ → List ℕ → Source → Source → List Term → Option ℕ → Option ℕ → Outcome W
   join_of schema tx name other left right terms None o = refused tx (NoRelation name)
