@@ -139,3 +139,29 @@ changes_same wss t os h = states_are wss (laid t os) 0 os (λ r key st g. there 
         let e : r ≡ 0 + r = omega arith in
         subst (λ k. finite.get (relation_at (laid t os) k) key ≡ st) e (get_laid t os r key l ∙ ap (λ (c : Option State). over c (finite.get (relation_at t r) key)) g)
     there r key st g (inr l) = absurd (none-some st (sym (h r key l) ∙ g))
+
+-- ---- the work of a transaction
+
+-- an overlay for each relation that there can be, and no touched key of a relation that the table lacks
+pub record IsWork (t : Table) (os : List Overlay) : Type 0 where
+  pub wide : length os ≡ most_relations
+  pub inside : IsIn t os
+
+empties : (n r : ℕ) → get_or (replicate n (finite.empty {X = State} {R = nat_cmp})) r finite.empty ≡ finite.empty
+empties zero r = refl
+empties (suc n) zero = refl
+empties (suc n) (suc r) = empties n r
+
+pub work_untouched : (t : Table) → IsWork t untouched
+work_untouched t = record {
+  wide = length-replicate most_relations (finite.empty {X = State} {R = nat_cmp});
+  inside = λ r key h. ap (λ (o : Overlay). finite.get o key) (empties most_relations r) ∙ finite.get-empty nat_cmp key;
+}
+
+pub work_touched : (t : Table) (os : List Overlay) (r key : ℕ) (st : State) → r < length t → IsWork t os → IsWork t (touch os r key st)
+work_touched t os r key st h w = record {
+  wide = length-set os r (finite.insert (overlay_at os r) key st) ∙ w.wide;
+  inside = λ j other l.
+      let apart : j ≢ r = λ e. omega (arith, e, l, h) in
+      ap (λ (o : Overlay). finite.get o other) (get_or-set_other os r j (finite.insert (overlay_at os r) key st) finite.empty apart) ∙ w.inside j other l;
+}
