@@ -36,14 +36,14 @@ use Rattle.stmt_text.specs.declared.stmt.ScanOver.TheVariants.{Current, Named, H
 use Rattle.branch_tx.specs.Keeping.{Private, privately, over_table}
 use Rattle.db_store.specs.Found.{found, lack, branch_names, plain}
 use Rattle.branch_tx.specs.Found.{Source, Own, Other, Lacking, source_of, first_lacking}
-use Rattle.branch_tx.specs.Act.{Tx, Outcome, Ground, body_refusal, updated, insert_refusal, change_refusal, refused, answered, unless, unless_full, fields_at, has_space, has_room, is_body, changed_to, insert_in, insert_of, update_in, update_of, delete_of, get_from, source_at, get_of, marked, union_marked, pairs_of, unlike, contents_from, rows_from, scan_versions, scan_over, scan_of, join_in, join_with, join_of, minus_of, act}
+use Rattle.branch_tx.specs.Act.{Tx, Outcome, Ground, body_refusal, updated, insert_refusal, change_refusal, refused, answered, unless, unless_full, fields_at, has_space, has_room, is_body, taken_to, changed_to, insert_in, insert_of, update_in, update_of, delete_of, get_from, source_at, get_of, marked, union_marked, pairs_of, unlike, contents_from, rows_from, scan_versions, scan_over, scan_of, join_in, join_with, join_of, minus_of, act}
 use Rattle.line_needs.specs.Columns.{relation_named, resolved}
 use Rattle.line_needs.specs.Misfits.{sets_misfit}
 use Rattle.line_needs.specs.Early.{row_refusal, terms_refusal}
 use Rattle.branch_tx.specs.Merging.{refusal_of_merge, put_all, merged_to}
 use Rattle.branch_tx.specs.Alone.{ground_of, told_of, common_table, place_in, has_changed, on_of, branch_as, merge_named, step, made_next}
 use Rattle.branch_tx.specs.Laws.{private_of, as_private}
-use Rattle.branch_tx.proofs.Private.{State, touched_same, touches_same, put_same, changes_same, IsWork, work_touched}
+use Rattle.branch_tx.proofs.Private.{State, touched_same, touches_same, put_same, changes_same, IsWork, work_touched, work_all}
 
 -- the outcome on the private table
 abbrev pub image : Table → Outcome (List Overlay) → Outcome Private
@@ -73,14 +73,17 @@ asked_same t tx (Some why) a x e = refl
 body_same : (t : Table) (schema : List Relation) (second : Option VersionPlace) (os : List Overlay) → IsWork t os → is_body privately schema second (private_of t os) ≡ is_body (over_table t) schema second os
 body_same t schema second os w = ap (λ (cs : List Change). nat_le (commit_size second cs) most_entry) (changes_same (all_widths schema) t os w.inside)
 
+taken_same : (t : Table) (schema : List Relation) (tx : Tx (List Overlay)) (second : Option VersionPlace) (os : List Overlay) → IsWork t os → taken_to privately schema (as_private t tx) second (private_of t os) ≡ image t (taken_to (over_table t) schema tx second os)
+taken_same t schema tx second os w =
+    ap (λ (q : Bool). unless (as_private t tx) (body_refusal q) (answered (record (as_private t tx) { work = private_of t os; second = second }) Done)) (body_same t schema second os w)
+    ∙ asked_same t tx (body_refusal (is_body (over_table t) schema second os)) _ _ refl
+
 changed_same : (t : Table) (schema : List Relation) (tx : Tx (List Overlay)) (r key : ℕ) (st : State) (o : Option Refusal) → IsWide t tx → r < length t → changed_to privately schema (as_private t tx) r key st o ≡ image t (changed_to (over_table t) schema tx r key st o)
 changed_same t schema tx r key st (Some why) w h = refl
 changed_same t schema tx r key st None w h =
     let wide : r < length tx.work = (let a = w.table in let b = w.work.wide in omega (arith, a, b, h)) in
-    let body = body_same t schema tx.second (touch tx.work r key st) (work_touched t tx.work r key st h w.work) in
-    ap (λ (p : Private). unless (as_private t tx) (body_refusal (is_body privately schema tx.second p)) (answered (record (as_private t tx) { work = p }) Done)) (put_same t tx.work r key st h wide)
-    ∙ ap (λ (q : Bool). unless (as_private t tx) (body_refusal q) (answered (record (as_private t tx) { work = private_of t (touch tx.work r key st) }) Done)) body
-    ∙ asked_same t tx (body_refusal (is_body (over_table t) schema tx.second (touch tx.work r key st))) _ _ refl
+    ap (taken_to privately schema (as_private t tx) tx.second) (put_same t tx.work r key st h wide)
+    ∙ taken_same t schema tx tx.second (touch tx.work r key st) (work_touched t tx.work r key st h w.work)
 
 unless_same : (t : Table) (g : Ground) (tx : Tx (List Overlay)) (a : Outcome Private) (x : Outcome (List Overlay)) → a ≡ image t x → unless_full g (as_private t tx) a ≡ image t (unless_full g tx x)
 unless_same t g tx a x e = cond_same t g.full _ _ _ _ refl e
@@ -217,17 +220,18 @@ put_all_same t os (c ∷ cs) n w =
     ap (λ (p : Private). put_all privately p cs) (put_same t os c.relation c.key c.fields h (omega (arith, h, n)))
     ∙ put_all_same t (touch os c.relation c.key c.fields) cs (omega (arith, n, m)) two.1
 
-merged_same : (t : Table) (tx : Tx (List Overlay)) (from : VersionPlace) (cs : List Change) (o : Option Refusal) → IsWide t tx → list_all (λ c. nat_lt c.relation (length t)) cs ≡ true → merged_to privately (as_private t tx) from cs o ≡ image t (merged_to (over_table t) tx from cs o)
-merged_same t tx from cs (Some why) w h = refl
-merged_same t tx from cs None w h =
+merged_same : (t : Table) (schema : List Relation) (tx : Tx (List Overlay)) (from : VersionPlace) (cs : List Change) (o : Option Refusal) → IsWide t tx → list_all (λ c. nat_lt c.relation (length t)) cs ≡ true → merged_to privately schema (as_private t tx) from cs o ≡ image t (merged_to (over_table t) schema tx from cs o)
+merged_same t schema tx from cs (Some why) w h = refl
+merged_same t schema tx from cs None w h =
     let few = w.table in
     let work = w.work.wide in
-    ap (λ (p : Private). answered (record (as_private t tx) { work = p; second = Some from }) Done) (put_all_same t tx.work cs (omega (arith, few, work)) h)
+    ap (taken_to privately schema (as_private t tx) (Some from)) (put_all_same t tx.work cs (omega (arith, few, work)) h)
+    ∙ taken_same t schema tx (Some from) (put_all (over_table t) tx.work cs) (work_all t tx.work cs h w.work)
 
 merge_same : (t : Table) (d : Dataset) (b : ℕ) (tx : Tx (List Overlay)) (name : List ℕ) (prefer : Prefer) (o : Option ℕ) → IsWide t tx → length (head_of d b) ≡ length t → merge_named privately d b (as_private t tx) name prefer o ≡ image t (merge_named (over_table t) d b tx name prefer o)
 merge_same t d b tx name prefer None w e = refl
 merge_same t d b tx name prefer (Some c) w e =
-    cond_same t (ground_of d b).full _ _ _ _ refl (merged_same t tx (head_place d c) (table_changes (all_widths d.schema) prefer (common_table d b c) (head_of d b) (head_of d c)) (refusal_of_merge d.schema tx.room (head_place d c) prefer (common_table d b c) (head_of d b) (head_of d c)) w
+    cond_same t (ground_of d b).full _ _ _ _ refl (merged_same t d.schema tx (head_place d c) (table_changes (all_widths d.schema) prefer (common_table d b c) (head_of d b) (head_of d c)) (refusal_of_merge d.schema tx.room prefer (common_table d b c) (head_of d b) (head_of d c)) w
     (subst (λ n. list_all (λ x. nat_lt x.relation n) (table_changes (all_widths d.schema) prefer (common_table d b c) (head_of d b) (head_of d c)) ≡ true) e (merged_within (all_widths d.schema) prefer (common_table d b c) (head_of d b) (head_of d c))))
 
 -- one line

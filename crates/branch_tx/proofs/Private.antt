@@ -1,19 +1,23 @@
 -- What a private table has of the changes that made it.
-use Rattle.std.proofs.Common.{◌≡◌, ◌⊎◌, inl, inr, ℕ, suc, ◌+◌, ◌<◌, ◌≤◌, ◌==◌, nat_lt, Bool, true, false, cond, ◌&&◌, ◌||◌, T, is_some, List, [], ◌∷◌, ◌++◌, map, length, set, get_or, Option, Some, None, Ordering, Less, Equal, Greater, refl, ap, sym, ◌∙◌, subst, arith}
+use Rattle.std.proofs.Common.{◌≡◌, ◌≢◌, ◌⊎◌, inl, inr, ℕ, zero, suc, ◌+◌, ◌<◌, ◌≤◌, ◌==◌, nat_lt, Bool, true, false, cond, ◌&&◌, ◌||◌, T, is_some, List, [], ◌∷◌, ◌++◌, map, length, set, replicate, get_or, Option, Some, None, Ordering, Less, Equal, Greater, refl, ap, sym, ◌∙◌, subst, arith}
 use Rattle.std.specs.Ordering.{nat_cmp, is_lt, is_eq, eq_by_cmp}
 use Rattle.std.proofs.lemmas.Cmp.{nat_cmp_total}
-use Rattle.std.proofs.lemmas.Bool.{ltb-true, eqb-true, eq-eqb, cases_lt}
+use Rattle.std.specs.List.{list_all}
+use Rattle.std.proofs.lemmas.Bool.{and_parts, ltb-true, eqb-true, eq-eqb, cases_lt}
 use Rattle.std.proofs.lemmas.Option.{none-some}
-use Rattle.std.proofs.lemmas.List.{length-map, map-set, nil_from_length}
+use Rattle.std.proofs.lemmas.List.{length-map, length-set, length-replicate, map-set, nil_from_length, get_or-set_other}
 use Rattle.std.proofs.Math.ListN.{get_or-map}
 use Rattle.std.specs.FinMap as finite
 use Rattle.std.specs.FinMap.Entries.{find, is_sorted, below_all, put, by_order}
 use Rattle.db_value.specs.Value.{Value}
+use Rattle.db_value.specs.Schema.{most_relations}
+use Rattle.db_value.specs.declared.entry.Change.{Change}
 use Rattle.db_store.specs.Table.{Table, relation_at}
-use Rattle.db_store.specs.Overlay.{Overlay, overlay_at, is_touched, count_touched, touch, over, laid, own_widths, change_of, changes_from}
+use Rattle.db_store.specs.Overlay.{Overlay, overlay_at, is_touched, count_touched, touch, untouched, over, laid, own_widths, change_of, changes_from}
 use Rattle.db_store.specs.OverlayRules.{get_laid}
 use Rattle.db_store.proofs.OverlayLemmas.{laid_touched}
-use Rattle.branch_tx.specs.Keeping.{privately, is_among, with_key, keys_at, count_keys, state_in, states_from}
+use Rattle.branch_tx.specs.Keeping.{privately, over_table, is_among, with_key, keys_at, count_keys, state_in, states_from}
+use Rattle.branch_tx.specs.Merging.{put_all}
 use Rattle.branch_tx.specs.Laws.{keys_of, private_of}
 
 abbrev pub State : Type 0
@@ -165,3 +169,9 @@ work_touched t os r key st h w = record {
       let apart : j ≢ r = λ e. omega (arith, e, l, h) in
       ap (λ (o : Overlay). finite.get o other) (get_or-set_other os r j (finite.insert (overlay_at os r) key st) finite.empty apart) ∙ w.inside j other l;
 }
+
+pub work_all : (t : Table) (os : List Overlay) (cs : List Change) → list_all (λ c. nat_lt c.relation (length t)) cs ≡ true → IsWork t os → IsWork t (put_all (over_table t) os cs)
+work_all t os [] h w = w
+work_all t os (c ∷ cs) h w =
+    let two = and_parts (nat_lt c.relation (length t)) (list_all (λ c. nat_lt c.relation (length t)) cs) h in
+    work_all t (touch os c.relation c.key c.fields) cs two.1 (work_touched t os c.relation c.key c.fields (ltb-true c.relation (length t) two.0) w)

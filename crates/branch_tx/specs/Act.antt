@@ -121,10 +121,14 @@ module _ {W : Type 0} (k : Keeping W) where
   abbrev pub is_body : List Relation → Option VersionPlace → W → Bool
   is_body schema second work = nat_le (commit_size second (k.changes (all_widths schema) work)) most_entry
 
-  -- an accepted change sets one key and touches it, unless the entry would be too large
+  -- a working table with a second parent after a change or a merge, unless its entry would be too large
+  abbrev pub taken_to : List Relation → Tx W → Option VersionPlace → W → Outcome W
+  taken_to schema tx second work = unless tx (body_refusal (is_body schema second work)) (answered (record tx { work = work; second = second }) Done)
+
+  -- an accepted change sets one key and touches it
   abbrev pub changed_to : List Relation → Tx W → ℕ → ℕ → Option (List Value) → Option Refusal → Outcome W
   changed_to schema tx r key state (Some why) = refused tx why
-  changed_to schema tx r key state None = unless tx (body_refusal (is_body schema tx.second (k.put tx.work r key state))) (answered (record tx { work = k.put tx.work r key state }) Done)
+  changed_to schema tx r key state None = taken_to schema tx tx.second (k.put tx.work r key state)
 
   -- a change on a branch that isn't full
   abbrev pub insert_free : List Relation → Tx W → ℕ → List ℕ → ℕ → List Value → Outcome W

@@ -6,16 +6,14 @@ use Rattle.db_value.specs.declared.schema.Relation.{Relation}
 use Rattle.db_value.specs.declared.condition.Prefer.{Prefer}
 use Rattle.db_value.specs.declared.entry.Change.{Change}
 use Rattle.db_value.specs.declared.version.VersionPlace.{VersionPlace}
-use Rattle.db_value.specs.declared.reply.Reply.TheVariants.{Done}
 use Rattle.db_value.specs.declared.reply.Refusal.{Refusal}
 use Rattle.db_value.specs.declared.reply.Refusal.TheVariants.{Conflict, TableFull, Room}
 use Rattle.db_store.specs.Table.{Table, with_changes}
 use Rattle.db_store.specs.Adopt.{full_from}
-use Rattle.db_store.specs.Body.{commit_size, most_entry}
 use Rattle.db_store.specs.RowWidths.{all_widths}
 use Rattle.field_merge.specs.Merge.{Clash, least_clash, table_changes, table_clashes}
 use Rattle.branch_tx.specs.Keeping.{Keeping}
-use Rattle.branch_tx.specs.Act.{Tx, Outcome, Ground, body_refusal, refused, answered, unless_full}
+use Rattle.branch_tx.specs.Act.{Tx, Outcome, Ground, refused, unless_full, taken_to}
 
 -- the name of a relation, by its number
 abbrev pub relation_name : List Relation → ℕ → List ℕ
@@ -30,16 +28,16 @@ field_name schema r (Some c) = Some (get_or (columns_at schema r) c [])
 abbrev pub conflict_in : List Relation → Clash → Refusal
 conflict_in schema c = Conflict (relation_name schema c.relation) c.key (field_name schema c.relation c.field)
 
--- why a merge of a version is refused: by its least conflict, by the first relation that would have more keys than it can have, because its changes outnumber the room, or because they make too large an entry
-abbrev pub merge_refusal : List Relation → ℕ → VersionPlace → List Change → Option Clash → Option ℕ → Option Refusal
-merge_refusal schema room from changes (Some c) full = Some (conflict_in schema c)
-merge_refusal schema room from changes None (Some r) = Some (TableFull (relation_name schema r))
-merge_refusal schema room from changes None None = cond (nat_le (length changes) room) (body_refusal (nat_le (commit_size (Some from) changes) most_entry)) (Some (Room room))
+-- why a merge is refused: by its least conflict, by the first relation that would have more keys than it can have, or because its changes outnumber the room
+abbrev pub merge_refusal : List Relation → ℕ → ℕ → Option Clash → Option ℕ → Option Refusal
+merge_refusal schema room count (Some c) full = Some (conflict_in schema c)
+merge_refusal schema room count None (Some r) = Some (TableFull (relation_name schema r))
+merge_refusal schema room count None None = cond (nat_le count room) None (Some (Room room))
 
--- why the merge of three tables is refused, of which the right one stands at a place
-abbrev pub refusal_of_merge : List Relation → ℕ → VersionPlace → Prefer → Table → Table → Table → Option Refusal
-refusal_of_merge schema room from prefer base left right =
-    merge_refusal schema room from (table_changes (all_widths schema) prefer base left right) (least_clash (table_clashes prefer base left right)) (full_from 0 (with_changes left (table_changes (all_widths schema) prefer base left right)))
+-- why the merge of three tables is refused
+abbrev pub refusal_of_merge : List Relation → ℕ → Prefer → Table → Table → Table → Option Refusal
+refusal_of_merge schema room prefer base left right =
+    merge_refusal schema room (length (table_changes (all_widths schema) prefer base left right)) (least_clash (table_clashes prefer base left right)) (full_from 0 (with_changes left (table_changes (all_widths schema) prefer base left right)))
 
 module _ {W : Type 0} (k : Keeping W) where
   -- several keys set, from left to right, and touched
@@ -48,13 +46,13 @@ module _ {W : Type 0} (k : Keeping W) where
   put_all w (c ∷ cs) = put_all (k.put w c.relation c.key c.fields) cs
 
   -- an accepted merge sets the keys that change, and gives its second parent
-  abbrev pub merged_to : Tx W → VersionPlace → List Change → Option Refusal → Outcome W
-  merged_to tx from changes (Some why) = refused tx why
-  merged_to tx from changes None = answered (record tx { work = put_all tx.work changes; second = Some from }) Done
+  abbrev pub merged_to : List Relation → Tx W → VersionPlace → List Change → Option Refusal → Outcome W
+  merged_to schema tx from changes (Some why) = refused tx why
+  merged_to schema tx from changes None = taken_to k schema tx (Some from) (put_all tx.work changes)
 
   -- a merge of the right table, which stands at a place, into the left one
   abbrev pub merge_free : List Relation → Tx W → VersionPlace → Prefer → Table → Table → Table → Outcome W
-  merge_free schema tx from prefer base left right = merged_to tx from (table_changes (all_widths schema) prefer base left right) (refusal_of_merge schema tx.room from prefer base left right)
+  merge_free schema tx from prefer base left right = merged_to schema tx from (table_changes (all_widths schema) prefer base left right) (refusal_of_merge schema tx.room prefer base left right)
 
   abbrev pub merge_in : Ground → Tx W → VersionPlace → Prefer → Table → Table → Table → Outcome W
   merge_in g tx from prefer base left right = unless_full g tx (merge_free g.schema tx from prefer base left right)
