@@ -22,7 +22,7 @@ use Rattle.stmt_text.specs.declared.stmt.ScanOver.TheVariants.{Current, Named, H
 use Rattle.branch_tx.specs.Keeping.{Keeping}
 use Rattle.db_store.specs.Found.{plain}
 use Rattle.branch_tx.specs.Found.{Source, Own, Other, Lacking, first_lacking}
-use Rattle.branch_tx.specs.Act.{Tx, Outcome, Ground, refused, answered, unless, changed_to, insert_of, update_in, update_of, delete_of, get_from, source_at, get_of, marked, union_marked, pairs_of, unlike, contents_from, rows_from, scan_versions, scan_over, scan_of, join_in, join_with, join_of, minus_of, act}
+use Rattle.branch_tx.specs.Act.{Tx, Outcome, Ground, body_refusal, refused, answered, unless, is_body, changed_to, insert_of, update_in, update_of, delete_of, get_from, source_at, get_of, marked, union_marked, pairs_of, unlike, contents_from, rows_from, scan_versions, scan_over, scan_of, join_in, join_with, join_of, minus_of, act}
 use Rattle.line_needs.specs.Columns.{relation_named, resolved}
 use Rattle.line_needs.specs.Misfits.{sets_misfit}
 use Rattle.line_needs.specs.Early.{row_refusal, terms_refusal}
@@ -40,21 +40,21 @@ module _ {W : Type 0} (k : Keeping W) (n : ℕ) (tx : Tx W) (P : Outcome W → T
   cond_does true o p h l = h
   cond_does false o p h l = l
 
-  changed_does : (r key : ℕ) (state : Option (List Value)) (o : Option Refusal) → r < n → P (changed_to k tx r key state o)
-  changed_does r key state (Some why) h = refuses why
-  changed_does r key state None h = puts r key state h
-
   asked_does : (o : Option Refusal) (x : Outcome W) → P x → P (unless tx o x)
   asked_does None x h = h
   asked_does (Some why) x h = refuses why
 
+  changed_does : (schema : List Relation) (r key : ℕ) (state : Option (List Value)) (o : Option Refusal) → r < n → P (changed_to k schema tx r key state o)
+  changed_does schema r key state (Some why) h = refuses why
+  changed_does schema r key state None h = asked_does (body_refusal (is_body k schema tx.second (k.put tx.work r key state))) _ (puts r key state h)
+
   insert_does : (g : Ground) (name : List ℕ) (key : ℕ) (fields : List Value) (o : Option ℕ) → ((r : ℕ) → o ≡ Some r → r < n) → P (insert_of k g tx name key fields o)
   insert_does g name key fields None w = refuses _
-  insert_does g name key fields (Some r) w = asked_does (row_refusal g.schema name fields (Some r)) _ (cond_does g.full _ _ (refuses _) (changed_does r key (Some fields) _ (w r refl)))
+  insert_does g name key fields (Some r) w = asked_does (row_refusal g.schema name fields (Some r)) _ (cond_does g.full _ _ (refuses _) (changed_does g.schema r key (Some fields) _ (w r refl)))
 
   update_does : (g : Ground) (r : ℕ) (name : List ℕ) (key : ℕ) (sets : Result (List Set) (List ℕ)) (misfit : Option Refusal) → r < n → P (update_in k g tx r name key sets misfit)
   update_does g r name key (Err column) misfit h = refuses _
-  update_does g r name key (Ok sets) misfit h = asked_does misfit _ (cond_does g.full _ _ (refuses _) (changed_does r key _ _ h))
+  update_does g r name key (Ok sets) misfit h = asked_does misfit _ (cond_does g.full _ _ (refuses _) (changed_does g.schema r key _ _ h))
 
   update_of_does : (g : Ground) (name : List ℕ) (key : ℕ) (sets : List NamedSet) (o : Option ℕ) → ((r : ℕ) → o ≡ Some r → r < n) → P (update_of k g tx name key sets o)
   update_of_does g name key sets None w = refuses _
@@ -62,7 +62,7 @@ module _ {W : Type 0} (k : Keeping W) (n : ℕ) (tx : Tx W) (P : Outcome W → T
 
   delete_does : (g : Ground) (name : List ℕ) (key : ℕ) (o : Option ℕ) → ((r : ℕ) → o ≡ Some r → r < n) → P (delete_of k g tx name key o)
   delete_does g name key None w = refuses _
-  delete_does g name key (Some r) w = cond_does g.full _ _ (refuses _) (changed_does r key None _ (w r refl))
+  delete_does g name key (Some r) w = cond_does g.full _ _ (refuses _) (changed_does g.schema r key None _ (w r refl))
 
   from_does : (r key : ℕ) (s : Source) → P (get_from k tx r key s)
   from_does r key Own = tells _ refl
@@ -122,21 +122,21 @@ module _ {W : Type 0} (k : Keeping W) where
   cond_begun true o p o' p' e f = e
   cond_begun false o p o' p' e f = f
 
-  changed_begun : (tx : Tx W) (r key : ℕ) (state : Option (List Value)) (o : Option Refusal) → changed_to k (begun tx) r key state o ≡ done_begun (changed_to k tx r key state o)
-  changed_begun tx r key state (Some why) = refl
-  changed_begun tx r key state None = refl
-
   asked_begun : (tx : Tx W) (o : Option Refusal) (x' x : Outcome W) → x' ≡ done_begun x → unless (begun tx) o x' ≡ done_begun (unless tx o x)
   asked_begun tx None x' x e = e
   asked_begun tx (Some why) x' x e = refl
 
+  changed_begun : (schema : List Relation) (tx : Tx W) (r key : ℕ) (state : Option (List Value)) (o : Option Refusal) → changed_to k schema (begun tx) r key state o ≡ done_begun (changed_to k schema tx r key state o)
+  changed_begun schema tx r key state (Some why) = refl
+  changed_begun schema tx r key state None = asked_begun tx (body_refusal (is_body k schema tx.second (k.put tx.work r key state))) _ _ refl
+
   insert_begun : (g : Ground) (tx : Tx W) (name : List ℕ) (key : ℕ) (fields : List Value) (o : Option ℕ) → insert_of k g (begun tx) name key fields o ≡ done_begun (insert_of k g tx name key fields o)
   insert_begun g tx name key fields None = refl
-  insert_begun g tx name key fields (Some r) = asked_begun tx (row_refusal g.schema name fields (Some r)) _ _ (cond_begun g.full _ _ _ _ refl (changed_begun tx r key (Some fields) _))
+  insert_begun g tx name key fields (Some r) = asked_begun tx (row_refusal g.schema name fields (Some r)) _ _ (cond_begun g.full _ _ _ _ refl (changed_begun g.schema tx r key (Some fields) _))
 
   update_begun : (g : Ground) (tx : Tx W) (r : ℕ) (name : List ℕ) (key : ℕ) (sets : Result (List Set) (List ℕ)) (misfit : Option Refusal) → update_in k g (begun tx) r name key sets misfit ≡ done_begun (update_in k g tx r name key sets misfit)
   update_begun g tx r name key (Err column) misfit = refl
-  update_begun g tx r name key (Ok sets) misfit = asked_begun tx misfit _ _ (cond_begun g.full _ _ _ _ refl (changed_begun tx r key _ _))
+  update_begun g tx r name key (Ok sets) misfit = asked_begun tx misfit _ _ (cond_begun g.full _ _ _ _ refl (changed_begun g.schema tx r key _ _))
 
   update_of_begun : (g : Ground) (tx : Tx W) (name : List ℕ) (key : ℕ) (sets : List NamedSet) (o : Option ℕ) → update_of k g (begun tx) name key sets o ≡ done_begun (update_of k g tx name key sets o)
   update_of_begun g tx name key sets None = refl
@@ -144,7 +144,7 @@ module _ {W : Type 0} (k : Keeping W) where
 
   delete_begun : (g : Ground) (tx : Tx W) (name : List ℕ) (key : ℕ) (o : Option ℕ) → delete_of k g (begun tx) name key o ≡ done_begun (delete_of k g tx name key o)
   delete_begun g tx name key None = refl
-  delete_begun g tx name key (Some r) = cond_begun g.full _ _ _ _ refl (changed_begun tx r key None _)
+  delete_begun g tx name key (Some r) = cond_begun g.full _ _ _ _ refl (changed_begun g.schema tx r key None _)
 
   from_begun : (tx : Tx W) (r key : ℕ) (s : Source) → get_from k (begun tx) r key s ≡ done_begun (get_from k tx r key s)
   from_begun tx r key Own = refl

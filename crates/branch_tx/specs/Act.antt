@@ -1,5 +1,5 @@
 -- What a statement that reads or changes records does in a transaction.
-use Rattle.std.specs.Prelude.{ℕ, ◌||◌, nat_lt, cond, Bool, true, false, List, [], ◌∷◌, length, map, Option, Some, None, Result, Ok, Err}
+use Rattle.std.specs.Prelude.{ℕ, ◌||◌, nat_lt, nat_le, cond, Bool, true, false, List, [], ◌∷◌, length, map, Option, Some, None, Result, Ok, Err}
 use Rattle.std.specs.FinMap as finite
 use Rattle.std.specs.List.{filter}
 use Rattle.db_value.specs.Value.{Value}
@@ -14,9 +14,11 @@ use Rattle.db_value.specs.declared.version.VersionPlace.{VersionPlace}
 use Rattle.db_value.specs.declared.reply.Reply.{Reply}
 use Rattle.db_value.specs.declared.reply.Reply.TheVariants.{Done, One, Listed, Paired, Refused}
 use Rattle.db_value.specs.declared.reply.Refusal.{Refusal}
-use Rattle.db_value.specs.declared.reply.Refusal.TheVariants.{Line, InTransaction, NotFirst, NoRelation, NoColumn, KeyThere, KeyMissing, Room, VersionsFull, TableFull}
+use Rattle.db_value.specs.declared.reply.Refusal.TheVariants.{Line, InTransaction, NotFirst, NoRelation, NoColumn, KeyThere, KeyMissing, Room, VersionsFull, TableFull, BodyFull}
 use Rattle.db_store.specs.Table.{Contents, relation_at, rows_of}
 use Rattle.db_store.specs.Fits.{most_keys}
+use Rattle.db_store.specs.Body.{commit_size, most_entry}
+use Rattle.db_store.specs.RowWidths.{all_widths}
 use Rattle.db_store.specs.Work.{with_sets}
 pub use Rattle.db_store.specs.Rows.{marked}
 pub use Rattle.multi_scan.specs.Multi.{union_marked}
@@ -66,6 +68,11 @@ change_refusal name key room None free = Some (KeyMissing name key)
 change_refusal name key room (Some old) false = Some (Room room)
 change_refusal name key room (Some old) true = None
 
+-- what would make the transaction's entry too large is refused
+abbrev pub body_refusal : Bool → Option Refusal
+body_refusal true = None
+body_refusal false = Some BodyFull
+
 -- fields with new values
 abbrev pub updated : List Set → Option (List Value) → Option (List Value)
 updated sets None = None
@@ -110,23 +117,31 @@ module _ {W : Type 0} (k : Keeping W) where
   abbrev pub has_room : Tx W → ℕ → ℕ → Bool
   has_room tx r key = k.is_touched tx.work r key || nat_lt (k.touches tx.work) tx.room
 
+  -- the entry that a working table makes isn't too large
+  abbrev pub is_body : List Relation → Option VersionPlace → W → Bool
+  is_body schema second work = nat_le (commit_size second (k.changes (all_widths schema) work)) most_entry
+
+  -- a working table with a second parent after a change or a merge, unless its entry would be too large
+  abbrev pub taken_to : List Relation → Tx W → Option VersionPlace → W → Outcome W
+  taken_to schema tx second work = unless tx (body_refusal (is_body schema second work)) (answered (record tx { work = work; second = second }) Done)
+
   -- an accepted change sets one key and touches it
-  abbrev pub changed_to : Tx W → ℕ → ℕ → Option (List Value) → Option Refusal → Outcome W
-  changed_to tx r key state (Some why) = refused tx why
-  changed_to tx r key state None = answered (record tx { work = k.put tx.work r key state }) Done
+  abbrev pub changed_to : List Relation → Tx W → ℕ → ℕ → Option (List Value) → Option Refusal → Outcome W
+  changed_to schema tx r key state (Some why) = refused tx why
+  changed_to schema tx r key state None = taken_to schema tx tx.second (k.put tx.work r key state)
 
   -- a change on a branch that isn't full
-  abbrev pub insert_free : Tx W → ℕ → List ℕ → ℕ → List Value → Outcome W
-  insert_free tx r name key fields = changed_to tx r key (Some fields) (insert_refusal name key tx.room (fields_at tx r key) (has_space tx r) (has_room tx r key))
+  abbrev pub insert_free : List Relation → Tx W → ℕ → List ℕ → ℕ → List Value → Outcome W
+  insert_free schema tx r name key fields = changed_to schema tx r key (Some fields) (insert_refusal name key tx.room (fields_at tx r key) (has_space tx r) (has_room tx r key))
 
-  abbrev pub update_free : Tx W → ℕ → List ℕ → ℕ → List Set → Outcome W
-  update_free tx r name key sets = changed_to tx r key (updated sets (fields_at tx r key)) (change_refusal name key tx.room (fields_at tx r key) (has_room tx r key))
+  abbrev pub update_free : List Relation → Tx W → ℕ → List ℕ → ℕ → List Set → Outcome W
+  update_free schema tx r name key sets = changed_to schema tx r key (updated sets (fields_at tx r key)) (change_refusal name key tx.room (fields_at tx r key) (has_room tx r key))
 
-  abbrev pub delete_free : Tx W → ℕ → List ℕ → ℕ → Outcome W
-  delete_free tx r name key = changed_to tx r key None (change_refusal name key tx.room (fields_at tx r key) (has_room tx r key))
+  abbrev pub delete_free : List Relation → Tx W → ℕ → List ℕ → ℕ → Outcome W
+  delete_free schema tx r name key = changed_to schema tx r key None (change_refusal name key tx.room (fields_at tx r key) (has_room tx r key))
 
   abbrev pub insert_in : Ground → Tx W → ℕ → List ℕ → ℕ → List Value → Outcome W
-  insert_in g tx r name key fields = unless_full g tx (insert_free tx r name key fields)
+  insert_in g tx r name key fields = unless_full g tx (insert_free g.schema tx r name key fields)
 
   abbrev pub insert_of : Ground → Tx W → List ℕ → ℕ → List Value → Option ℕ → Outcome W
   insert_of g tx name key fields None = refused tx (NoRelation name)
@@ -134,7 +149,7 @@ module _ {W : Type 0} (k : Keeping W) where
 
   abbrev pub update_in : Ground → Tx W → ℕ → List ℕ → ℕ → Result (List Set) (List ℕ) → Option Refusal → Outcome W
   update_in g tx r name key (Err column) misfit = refused tx (NoColumn column)
-  update_in g tx r name key (Ok sets) misfit = unless tx misfit (unless_full g tx (update_free tx r name key sets))
+  update_in g tx r name key (Ok sets) misfit = unless tx misfit (unless_full g tx (update_free g.schema tx r name key sets))
 
   abbrev pub update_of : Ground → Tx W → List ℕ → ℕ → List NamedSet → Option ℕ → Outcome W
   update_of g tx name key sets None = refused tx (NoRelation name)
@@ -142,7 +157,7 @@ module _ {W : Type 0} (k : Keeping W) where
 
   abbrev pub delete_of : Ground → Tx W → List ℕ → ℕ → Option ℕ → Outcome W
   delete_of g tx name key None = refused tx (NoRelation name)
-  delete_of g tx name key (Some r) = unless_full g tx (delete_free tx r name key)
+  delete_of g tx name key (Some r) = unless_full g tx (delete_free g.schema tx r name key)
 
   abbrev pub get_from : Tx W → ℕ → ℕ → Source → Outcome W
   get_from tx r key Own = answered tx (One (record_with key (fields_at tx r key)))
