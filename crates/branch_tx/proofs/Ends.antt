@@ -26,8 +26,8 @@ use Rattle.branch_tx.specs.Keeping.{privately, over_table}
 use Rattle.branch_tx.specs.Act.{Tx}
 use Rattle.branch_tx.specs.Alone.{overlaid, has_changed, entry_made}
 use Rattle.branch_tx.specs.Laws.{TableLaw, EntryLaw}
-use Rattle.branch_tx.proofs.Private.{State, IsIn, changes_same}
-use Rattle.branch_tx.proofs.Alike.{IsWork, overlaid_work, head_table, few_relations, alone_same}
+use Rattle.branch_tx.proofs.Private.{State, IsIn, changes_same, IsWork}
+use Rattle.branch_tx.proofs.Alike.{overlaid_work, head_table, few_relations, alone_same}
 use Rattle.branch_tx.proofs.Tables.{change_fit}
 use Rattle.branch_tx.proofs.Fitting.{IsFitting, overlaid_fitting}
 

@@ -4,7 +4,7 @@ ghost use Rattle.db_value.specs.Text.{is_name};
 ghost use Rattle.db_core.specs.Order.{opening};
 ghost use Rattle.db_core.specs.Cores.{StandsIn, InEach, StaysIn};
 ghost use Rattle.csv_port.specs.Lines.{import_lines, insert_row, ReadsAs};
-ghost use Rattle.csv_port.specs.Import.{count_named, import_told, lines_told, stop_by, told_by, told_of, Tells};
+ghost use Rattle.csv_port.specs.Import.{import_told, lines_told, stop_by, told_by, told_of, widths_named, Tells};
 ghost use Rattle.csv_port.specs.Ran.{RanStmt, RunsToEnd, RunsFirst, StopsAs};
 ghost use Rattle.csv_port.specs.Laws.{CanImport};
 
@@ -12,7 +12,7 @@ use crate::rows::{MOST_ROWS, read_rows};
 use crate::stop::ImportStop;
 use db_core::Core;
 use db_store::Store;
-use db_value::{KeptFields, Name, Record, Records, Refusal, Reply, Schema};
+use db_value::{KeptFields, Name, Record, Records, Refusal, Reply, Schema, Widths};
 use entry_codec::Log;
 use std::alloc::{AllocError, Global};
 use stmt_text::{Line, Stmt};
@@ -74,6 +74,7 @@ fn stop_by(row: u64, reply: &Reply) -> Option<ImportStop>
             Refusal::KeyThere { .. } => Some(ImportStop::KeyThere { row }),
             Refusal::TableFull { .. } => Some(ImportStop::Full { row }),
             Refusal::VersionsFull { .. } => Some(ImportStop::Full { row }),
+            Refusal::BodyFull => Some(ImportStop::Full { row }),
             _ => None,
         },
         _ => None,
@@ -132,14 +133,14 @@ fn import_rows<St: Store, J: Log<St>>(
     told_by(count as u32, &reply)
 }
 
-// The number of a relation's columns.
-fn count_of(schema: &Schema, relation: &Name) -> Option<usize>
-    ensures value { result ≡ count_named schema.now relation.now }
-    ensures within { IfSome result (λ n. (0 < n) × (n ≤ 15)) }
+// The widths of a relation's columns.
+fn widths_of(schema: &Schema, relation: &Name) -> Option<Widths>
+    ensures value { result ≡ widths_named schema.now relation.now }
+    ensures within { IfSome result (λ ws. (0 < length ws) × (length ws ≤ 15)) }
 {
     match schema.relation(relation) {
         None => None,
-        Some(at) => Some(schema.relations()[at as usize].columns.as_slice().len()),
+        Some(at) => Some(schema.widths(at)),
     }
 }
 
@@ -161,10 +162,10 @@ pub fn import<St: Store, J: Log<St>>(
         (lines_told core.old.kept.state relation.now text.now)) }
     ensures stops { IfErr result (StopsAs J.faults core.old core.new) }
 {
-    let Some(columns) = count_of(core.schema(), relation) else {
+    let Some(widths) = widths_of(core.schema(), relation) else {
         return Err(ImportStop::NoRelation);
     };
-    match read_rows(alloc, columns, text) {
+    match read_rows(alloc, &widths, text) {
         Err(stop) => Err(stop),
         Ok(rows) => {
             if rows.len() == 0 {

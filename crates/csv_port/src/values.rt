@@ -2,7 +2,7 @@
 ghost use Rattle.std.specs.Prelude.{◌≡◌, ◌<◌, ◌≤◌, ◌+◌, ◌++◌, ◌∷◌, [], length, drop, OnOk};
 ghost use Rattle.std.specs.List.{flat_map};
 ghost use Rattle.std.specs.Fmt.{decimal, signed_decimal};
-ghost use Rattle.csv_port.specs.Written.{next_text};
+ghost use Rattle.csv_port.specs.Written.{has_comma, next_text, text_cell};
 
 use db_value::{Fields, Value};
 use itoa::write_digits;
@@ -66,9 +66,20 @@ fn push_number(out: &mut Vec<u8>, value: i64) -> Result<(), AllocError>
     out.extend_from_slice(&buffer[start..])
 }
 
-fn push_text(out: &mut Vec<u8>, text: &[u8]) -> Result<(), AllocError>
-    ensures { OnOk result (out.new.items ≡ out.old.items ++ 44 ∷ (34 ∷ text.now ++ 34 ∷ [])) }
+fn has_comma(text: &[u8]) -> bool
+    ensures { result ≡ has_comma text.now }
 {
+    text.iter().any(|b| *b == b',')
+}
+
+// Adds a comma and a text, which stands between double quotes if it has a comma.
+fn push_text(out: &mut Vec<u8>, text: &[u8]) -> Result<(), AllocError>
+    ensures { OnOk result (out.new.items ≡ out.old.items ++ 44 ∷ text_cell text.now) }
+{
+    if !has_comma(text) {
+        out.push(b',')?;
+        return out.extend_from_slice(text);
+    }
     out.extend_from_slice(b",\"")?;
     out.extend_from_slice(text)?;
     out.extend_from_slice(b"\"")

@@ -13,7 +13,8 @@ use Rattle.db_value.specs.declared.entry.Change.{Change}
 use Rattle.db_store.specs.Fits.{is_before, first_is_before, ascends}
 use Rattle.entry_codec.specs.Pushed.{Pushes, PushesForm}
 use Rattle.entry_codec.specs.Grammar.{form_in, row_of, change_of, is_change, change_in, changes_in, onto}
-use Rattle.entry_codec.specs.Spelling.{has_text, any_text, row_form, field_count, fields_bytes, change_bytes, are_met, is_met, change_size, changes_size}
+use Rattle.db_store.specs.Body.{has_text, any_text, change_size, changes_size}
+use Rattle.entry_codec.specs.Spelling.{row_form, field_count, fields_bytes, change_bytes, are_met, is_met}
 
 -- changes in front of others
 abbrev pub ahead : List Change → List Change → List Change

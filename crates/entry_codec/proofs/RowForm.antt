@@ -9,8 +9,9 @@ use Rattle.db_value.specs.Widths.{meets}
 use Rattle.db_value.specs.RowForm.{row_size, row_bytes, row_in, is_row}
 use Rattle.db_value.proofs.RowForms.{size_of_row_bytes, row_again, row_spelled}
 use Rattle.entry_codec.specs.Wide.{wide_in}
-use Rattle.entry_codec.specs.Spelling.{number_widths, is_of_texts, row_form}
-use Rattle.entry_codec.specs.Grammar.{form_in, form_size, row_of}
+use Rattle.db_store.specs.Body.{is_of_texts, form_size}
+use Rattle.entry_codec.specs.Spelling.{number_widths, row_form}
+use Rattle.entry_codec.specs.Grammar.{form_in, row_of}
 use Rattle.entry_codec.proofs.WideForms.{AreSmall, again_both, spelled_all, size_of_wide}
 
 -- ---- columns of numbers

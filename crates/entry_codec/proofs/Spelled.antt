@@ -14,7 +14,8 @@ use Rattle.db_value.specs.declared.entry.Change.{Change}
 use Rattle.db_value.specs.declared.entry.Entry.{Entry}
 use Rattle.db_value.specs.declared.entry.Entry.TheVariants.{Commit, Branch}
 use Rattle.db_store.specs.Fits.{ascends, makes_version}
-use Rattle.entry_codec.specs.Spelling.{place_bytes, second_bytes, have_texts, has_text, any_text, field_count, fields_bytes, change_bytes, changes_bytes, kind_of, spelling, spellings, second_size, change_size, changes_size, entry_size}
+use Rattle.db_store.specs.Body.{have_texts, has_text, any_text, second_size, change_size, changes_size}
+use Rattle.entry_codec.specs.Spelling.{place_bytes, second_bytes, field_count, fields_bytes, change_bytes, changes_bytes, kind_of, spelling, spellings, entry_size}
 use Rattle.entry_codec.specs.Grammar.{most_changes, u32_in, place_of, place_in, second_in, form_in, row_of, if_some, change_of, is_change, change_in, onto, changes_in, are_of_kind, commit_of, counted_in, commit_in, branch_in, entry_in, onto_entries, entries_from, entries_in}
 use Rattle.entry_codec.specs.Laws.{AreBytes, IsPlace, IsPlaceIfAny, AreFields, IsChange, AreChanges, IsCommit, IsEntry, AreEntries}
 use Rattle.entry_codec.proofs.RowForm.{IsForm, form_spelled}

@@ -9,7 +9,8 @@ use Rattle.db_value.specs.Width.{is_width}
 use Rattle.db_value.specs.Widths.{meets, fits_width}
 use Rattle.db_value.specs.RowForm.{field_size, field_bytes, field_in, is_field}
 use Rattle.db_value.proofs.RowForms.{both, size_of_field_bytes, field_again, field_spelled}
-use Rattle.entry_codec.specs.Wide.{wide_bytes, wide_size, is_wide, onto, widths_in, wide_in, are_wide, first_width, ahead}
+use Rattle.db_store.specs.Body.{wide_size}
+use Rattle.entry_codec.specs.Wide.{wide_bytes, is_wide, onto, widths_in, wide_in, are_wide, first_width, ahead}
 
 -- each number is one of 8 bits
 abbrev pub AreSmall : List ℕ → Type 0

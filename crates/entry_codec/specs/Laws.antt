@@ -13,7 +13,7 @@ use Rattle.db_store.specs.Dataset.{Dataset}
 use Rattle.db_store.specs.Sound.{IsSound}
 use Rattle.db_store.specs.Counted.{IsCounted}
 use Rattle.db_store.specs.Fits.{fits, ascends, makes_version}
-use Rattle.entry_codec.specs.Spelling.{spelling, spellings, entry_size}
+use Rattle.entry_codec.specs.Spelling.{spelling, spellings, entry_size, HasMetChanges}
 use Rattle.entry_codec.specs.Grammar.{entry_in, entries_in, most_changes}
 
 -- each number is a byte
@@ -93,7 +93,7 @@ FittingLaw = (d : Dataset) (e : Entry) → IsSound d → IsCounted d → fits d 
 -- What is spelled is read, and what is read was spelled so: an entry has one spelling. No spelling is a proper front of another, and the entries of a body are those that it spells.
 pub record CodecLaws : Type 0 where
   pub back : (e : Entry) (rest : List ℕ) → IsEntry e → entry_in (spelling e ++ rest) ≡ Some e
-  pub size : (e : Entry) → length (spelling e) ≡ entry_size e
+  pub size : (e : Entry) → HasMetChanges e → length (spelling e) ≡ entry_size e
   pub no_front : (e f : Entry) (rest : List ℕ) → IsEntry e → IsEntry f → spelling e ++ rest ≡ spelling f → (e ≡ f) × (rest ≡ [])
   pub all : (es : List Entry) → AreEntries es → entries_in (spellings es) ≡ Some es
   pub spelled : (b : List ℕ) (e : Entry) → AreBytes b → entry_in b ≡ Some e → (b ≡ spelling e ++ drop (entry_size e) b) × IsEntry e

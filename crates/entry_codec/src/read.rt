@@ -3,13 +3,15 @@ ghost use Rattle.std.specs.Prelude.{◌≡◌, ◌+◌, ◌-◌, ◌≤◌, ◌<
 ghost use Rattle.std.specs.Int.{w64, from_le_bytes};
 ghost use Rattle.db_value.specs.PackedChanges.{change_here};
 ghost use Rattle.db_store.specs.Fits.{is_before, ascends};
-ghost use Rattle.entry_codec.specs.Grammar.{u32_in, place_in, second_in, form_in, form_size, row_of, change_in, changes_in, commit_of, counted_in, commit_in, branch_in, entry_in};
+ghost use Rattle.db_store.specs.Body.{form_size, second_size, changes_size};
+ghost use Rattle.entry_codec.specs.Grammar.{u32_in, place_in, second_in, form_in, row_of, change_in, changes_in, commit_of, counted_in, commit_in, branch_in, entry_in};
 ghost use Rattle.entry_codec.specs.Laws.{IsEntry};
-ghost use Rattle.entry_codec.specs.Spelling.{BeginsWith, second_size, changes_size, entry_size};
+ghost use Rattle.entry_codec.specs.Spelling.{BeginsWith, entry_size};
 ghost use Rattle.entry_codec.specs.Pushed.{Pushes, PushesForm};
 
 use crate::wide_read::{first_widths, take_wide};
 use crate::write::any_text;
+use db_store::tally::size_of_second;
 use db_value::{Changes, Entry, Fields, Name, Record, VersionPlace, Widths};
 use std::alloc::{AllocError, Global};
 use thiserror::Error;
@@ -82,15 +84,6 @@ fn first_second(b: &[u8]) -> Option<Option<VersionPlace>>
                 Some(at) => Some(Some(at)),
             }
         }
-    }
-}
-
-fn size_of_second(second: &Option<VersionPlace>) -> usize
-    ensures { result ≡ second_size second.now }
-{
-    match second {
-        None => 1,
-        Some(_) => 9,
     }
 }
 

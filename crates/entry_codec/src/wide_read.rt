@@ -2,7 +2,8 @@
 ghost use Rattle.std.specs.Prelude.{◌≡◌, ◌<◌, ◌≤◌, ◌+◌, true, length, take, drop, None, Some, IfSome, IfNone};
 ghost use Rattle.std.proofs.Common.{suc};
 ghost use Rattle.db_value.specs.RowForm.{field_size, field_in, is_field};
-ghost use Rattle.entry_codec.specs.Wide.{wide_size, widths_in, wide_in, are_wide, first_width};
+ghost use Rattle.db_store.specs.Body.{wide_size};
+ghost use Rattle.entry_codec.specs.Wide.{widths_in, wide_in, are_wide, first_width};
 
 use db_value::row_form::{field_of, size_of_field};
 use db_value::{Fields, Value};

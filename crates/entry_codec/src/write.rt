@@ -1,15 +1,17 @@
 //! The bytes of an entry.
 ghost use Rattle.std.specs.Prelude.{◌≡◌, ◌++◌, ◌∷◌, ◌<◌, ◌^◌, [], true, length, OnOk, IfOk};
-ghost use Rattle.std.specs.List.{AllByRecursion, list_all, list_any};
+ghost use Rattle.std.specs.List.{AllByRecursion, list_all};
 ghost use Rattle.std.specs.Int.{w32, w64, to_le_bytes};
 ghost use Rattle.db_value.specs.Value.{IsValue};
 ghost use Rattle.db_value.specs.Widths.{meets};
 ghost use Rattle.db_value.specs.PackedChanges.{change_here};
-ghost use Rattle.entry_codec.specs.Spelling.{place_bytes, second_bytes, is_of_texts, have_texts, any_text, row_form, is_met, change_bytes, changes_bytes, kind_of, spelling, HasFewChanges, HasMetChanges};
+ghost use Rattle.db_store.specs.Body.{have_texts, any_text};
+ghost use Rattle.entry_codec.specs.Spelling.{place_bytes, second_bytes, row_form, is_met, change_bytes, changes_bytes, kind_of, spelling, HasFewChanges, HasMetChanges};
 ghost use Rattle.entry_codec.specs.Laws.{AreValuesIfAny, AreRanged, HasRanges};
 ghost use Rattle.db_value.specs.declared.entry.Entry.TheVariants.{Commit, Branch};
 
 use crate::wide_write::{push_row, push_wide};
+use db_store::tally::any_of_texts;
 use db_value::{Changes, Entry, Fields, ListOf, Name, Record, VersionPlace, Widths};
 use std::alloc::{AllocError, Global};
 
@@ -54,25 +56,7 @@ fn put_second(out: &mut Vec<u8>, second: &Option<VersionPlace>) -> Result<(), Al
     }
 }
 
-fn is_of_texts(width: u8) -> bool
-    ensures { result ≡ is_of_texts width }
-{
-    width != 0
-}
-
-// Is one of these columns of texts?
-fn any_of_texts(widths: &[u8]) -> bool
-    ensures { result ≡ list_any is_of_texts widths.now }
-{
-    for at in 0..widths.len() {
-        if is_of_texts(widths[at]) {
-            return true;
-        }
-    }
-    false
-}
-
-// The same of a change, which may have none.
+// Is one of these columns of texts? A deletion has none.
 fn have_texts(widths: &Option<Widths>) -> bool
     ensures { result ≡ have_texts widths.now }
 {

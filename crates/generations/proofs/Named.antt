@@ -5,7 +5,8 @@ use Rattle.db_value.specs.Text.{is_name}
 use Rattle.db_value.specs.declared.entry.Entry.{Entry}
 use Rattle.db_value.specs.declared.entry.Entry.TheVariants.{Commit, Branch}
 use Rattle.db_store.specs.Fits.{ascends, makes_version}
-use Rattle.entry_codec.specs.Spelling.{second_size, entry_size}
+use Rattle.db_store.specs.Body.{second_size}
+use Rattle.entry_codec.specs.Spelling.{entry_size}
 use Rattle.entry_codec.specs.Grammar.{u32_in, place_in, second_in, are_of_kind, commit_of, counted_in, commit_in, branch_in, entry_in, onto_entries, entries_from, entries_in}
 use Rattle.db_image.specs.Imaged.{IsNamed}
 

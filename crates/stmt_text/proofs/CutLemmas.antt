@@ -1,5 +1,5 @@
 -- The parts of a statement, one after another, and the statement again.
-use Rattle.std.proofs.Common.{◌≡◌, ℕ, suc, ◌+◌, ◌-◌, ◌≤◌, Bool, true, false, cond, List, [], ◌∷◌, ◌++◌, map, take, drop, refl, ap, sym, ◌∙◌, arith, append_assoc, Bor, Some, None}
+use Rattle.std.proofs.Common.{◌≡◌, ℕ, suc, ◌+◌, ◌-◌, ◌≤◌, Bool, true, false, cond, List, [], ◌∷◌, ◌++◌, map, take, drop, refl, ap, ap₂, sym, ◌∙◌, arith, append_assoc, Bor, Some, None}
 use Rattle.std.specs.Prelude.{◌==◌, not}
 use Rattle.std.specs.List.{onto_first}
 use Rattle.std.proofs.lemmas.Bool.{eqb-true}
@@ -50,7 +50,8 @@ at_by false inside k i b bs more e =
     let h = more e in
     let below = h.0 in
     let one : suc (i - (k + 1)) ≡ i - k = omega (arith, below) in
-    (omega (arith, below), ap (onto_first b) h.1 ∙ ap (λ (n : ℕ). take n (b ∷ bs) ∷ parts_from false (drop (n + 1) (b ∷ bs))) one)
+    let two : suc (i - (k + 1) + 1) ≡ i - k + 1 = omega (arith, below) in
+    (omega (arith, below), ap (onto_first b) h.1 ∙ ap₂ (λ (m n : ℕ). take m (b ∷ bs) ∷ parts_from false (drop n (b ∷ bs))) one two)
 
 cut_known : (k i : ℕ) (inside : Bool) (bs : List ℕ) → cut_from k inside bs ≡ Some i → IsCutAt k i inside bs
 cut_known k i inside [] e = absurd cc

@@ -59,9 +59,11 @@ fn head_place<St: Store>(store: &St) -> VersionPlace
 fn one_set() -> Sets
     ensures { result ≡ first_set ∷ [] }
 {
-    let (column, value) = (0, 5);
     let mut sets = Sets::new();
-    sets.push(Set { column, value });
+    sets.push(Set {
+        column: 0,
+        value: Value::Number { value: 5 },
+    });
     sets
 }
 

@@ -3,7 +3,7 @@ use Rattle.std.proofs.lemmas.List.{take_rest}
 use Rattle.std.proofs.lemmas.List.Elements.{All-from_get_or, All-drop}
 use Rattle.entry_codec.specs.Grammar.{counted_in, commit_of}
 use Rattle.entry_codec.specs.Laws.{AreBytes}
-use Rattle.entry_codec.specs.Spelling.{changes_size}
+use Rattle.db_store.specs.Body.{changes_size}
 use Rattle.entry_codec.proofs.Spelled.{commit_size}
 use Rattle.entry_codec.proofs.read.first_commit.Goals as goal
 

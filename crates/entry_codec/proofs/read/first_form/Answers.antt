@@ -3,7 +3,8 @@ use Rattle.std.specs.Prelude.{IfSome, IfNone}
 use Rattle.std.proofs.lemmas.Bool.{lt-leb, le-leb}
 use Rattle.db_value.specs.RowForm.{row_size}
 use Rattle.entry_codec.specs.Spelling.{number_widths}
-use Rattle.entry_codec.specs.Grammar.{form_in, form_size}
+use Rattle.db_store.specs.Body.{form_size}
+use Rattle.entry_codec.specs.Grammar.{form_in}
 use Rattle.entry_codec.proofs.RowForm.{number_size, taken_zeros}
 use Rattle.entry_codec.proofs.read.first_form.Goals as goal
 

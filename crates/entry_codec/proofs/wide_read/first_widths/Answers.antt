@@ -1,7 +1,8 @@
 use Rattle.std.proofs.Common.{rules, arith, ◌≡◌, ◌≤◌, ◌+◌, ◌-◌, ◌++◌, ◌∷◌, [], suc, ap, ap₂, sym, ◌∙◌, length, take, drop, set, None, Some, List, ℕ, Option, option_map}
 use Rattle.std.proofs.lemmas.List.{take_rest, take_more_set, length-set, drop-drop, length-drop}
 use Rattle.db_value.specs.RowForm.{field_size}
-use Rattle.entry_codec.specs.Wide.{wide_size, widths_in, ahead, first_width}
+use Rattle.db_store.specs.Body.{wide_size}
+use Rattle.entry_codec.specs.Wide.{widths_in, ahead, first_width}
 use Rattle.entry_codec.proofs.WideForms.{widths_stop, widths_go, ahead_onto, size_further}
 use Rattle.entry_codec.proofs.wide_read.first_widths.Goals as goal
 

@@ -1,5 +1,6 @@
 use Rattle.std.proofs.Common.{◌≡◌, ◌≤◌, ◌-◌, length, take, drop, option_map}
-use Rattle.entry_codec.specs.Wide.{wide_size, widths_in, ahead}
+use Rattle.db_store.specs.Body.{wide_size}
+use Rattle.entry_codec.specs.Wide.{widths_in, ahead}
 use Rattle.entry_codec.proofs.wide_read.first_widths.Given as goal
 
 -- the widths so far, and those that are left

@@ -3,7 +3,7 @@ use Rattle.std.specs.Prelude.{◌||◌}
 use Rattle.std.proofs.lemmas.List.{drop_all}
 use Rattle.db_value.specs.PackedChanges.{change_here}
 use Rattle.db_value.specs.declared.entry.Change.{Change}
-use Rattle.entry_codec.specs.Spelling.{have_texts, has_text, any_text}
+use Rattle.db_store.specs.Body.{have_texts, has_text, any_text}
 use Rattle.entry_codec.proofs.Lists.{text_next}
 use Rattle.entry_codec.proofs.write.any_text.Goals as goal
 

@@ -1,5 +1,5 @@
 use Rattle.std.proofs.Common.{◌≡◌, drop}
-use Rattle.entry_codec.specs.Spelling.{any_text}
+use Rattle.db_store.specs.Body.{any_text}
 use Rattle.entry_codec.proofs.write.any_text.Given as goal
 
 -- what is asked of all changes is left to those that are left

@@ -5,7 +5,7 @@ use Rattle.db_value.specs.Relations.{widths_at}
 use Rattle.db_store.specs.Overlay.{Overlay}
 use Rattle.db_store.specs.Work.{fields_at, updated}
 use Rattle.db_store.specs.WorkState.{working_of}
-use Rattle.line_needs.proofs.SetLemmas.{AreNumbers}
+use Rattle.line_needs.proofs.SetLemmas.{AreFitting}
 use Rattle.branch_tx.specs.Act.{Outcome}
 use Rattle.branch_tx.specs.Granted.{Granted, with_work}
 use Rattle.branch_tx.proofs.KnownLines.{update_stopped, update_is}
@@ -39,9 +39,9 @@ update-requires-clause-meets g c =
     let work = c.self.inside.work in
     let there = subst (λ (x : Granted). r < length x.schema) (sym c.self.view_is) is.0 in
     let sets = c.sets_of-sets.result in
-    let named = subst (AreNumbers (widths_at c.args.self.now.schema r)) (sym c.sets_of-sets.ensures) is.3 in
-    let numbers = subst (λ (x : Granted). AreNumbers (widths_at x.schema r) sets) (sym c.self.view_is) named in
-    let new = updated_at_meets schema work c.self.invariant.0 c.self.invariant.4 r c.args.key sets there numbers in
+    let named = subst (AreFitting (widths_at c.args.self.now.schema r)) (sym c.sets_of-sets.ensures) is.3 in
+    let fitting = subst (λ (x : Granted). AreFitting (widths_at x.schema r) sets) (sym c.self.view_is) named in
+    let new = updated_at_meets schema work c.self.invariant.0 c.self.invariant.4 r c.args.key sets there fitting in
     subst (λ (ws : List ℕ). IfSome (updated sets (fields_at (working_of work) r c.args.key)) (λ fields. meets ws fields ≡ true)) (sym (own_are schema work r c.self.invariant.3 c.self.invariant.0 there))
     (fields_meet (widths_at schema r) (updated sets (fields_at (working_of work) r c.args.key)) new)
 
@@ -53,9 +53,9 @@ invariant_of-self g c =
     let work = c.self.inside.work in
     let there = subst (λ (x : Granted). r < length x.schema) (sym c.self.view_is) is.0 in
     let sets = c.sets_of-sets.result in
-    let named = subst (AreNumbers (widths_at c.args.self.now.schema r)) (sym c.sets_of-sets.ensures) is.3 in
-    let numbers = subst (λ (x : Granted). AreNumbers (widths_at x.schema r) sets) (sym c.self.view_is) named in
-    let new = updated_at_meets schema work c.self.invariant.0 c.self.invariant.4 r c.args.key sets there numbers in
+    let named = subst (AreFitting (widths_at c.args.self.now.schema r)) (sym c.sets_of-sets.ensures) is.3 in
+    let fitting = subst (λ (x : Granted). AreFitting (widths_at x.schema r) sets) (sym c.self.view_is) named in
+    let new = updated_at_meets schema work c.self.invariant.0 c.self.invariant.4 r c.args.key sets there fitting in
     holds_put schema c.update.result _ c.self.inside.lent.1 work c.update.new.self r c.args.key (updated sets (fields_at (working_of work) r c.args.key))
     c.update.ensures.stays c.update.ensures.changed c.update.ensures.err there new c.self.invariant
 

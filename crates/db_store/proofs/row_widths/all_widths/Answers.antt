@@ -2,7 +2,7 @@ use Rattle.std.proofs.Common.{◌≡◌, ◌+◌, ◌-◌, ◌++◌, ◌∷◌, 
 use Rattle.db_value.specs.declared.schema.Relation.{Relation}
 use Rattle.db_store.specs.RowWidths.{widths_or, widths_from, all_widths}
 use Rattle.db_store.proofs.WidthLemmas.{widths_next}
-use Rattle.db_store.proofs.work.all_widths.Goals as goal
+use Rattle.db_store.proofs.row_widths.all_widths.Goals as goal
 
 pub loop-relation-preserved : goal.loop-relation-preserved
 loop-relation-preserved c =

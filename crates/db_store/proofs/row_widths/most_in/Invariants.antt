@@ -1,6 +1,6 @@
 use Rattle.std.proofs.Common.{◌≡◌, drop}
 use Rattle.db_store.specs.RowWidths.{most_from}
-use Rattle.db_store.proofs.work.most_in.Given as goal
+use Rattle.db_store.proofs.row_widths.most_in.Given as goal
 
 -- the most so far, with the relations that are left, gives the most of all
 abbrev pub invariant-loop-widths : goal.invariant-loop-widths

@@ -3,7 +3,7 @@ use Rattle.std.proofs.lemmas.Bool.{lt-ltb, le-ltb}
 use Rattle.std.proofs.lemmas.List.{drop_all}
 use Rattle.db_store.specs.RowWidths.{most_from}
 use Rattle.db_store.proofs.WidthLemmas.{most_next}
-use Rattle.db_store.proofs.work.most_in.Goals as goal
+use Rattle.db_store.proofs.row_widths.most_in.Goals as goal
 
 pub loop-widths-preserved-then-most-own : goal.loop-widths-preserved-then-most-own
 loop-widths-preserved-then-most-own c =

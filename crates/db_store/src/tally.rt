@@ -1,0 +1,135 @@
+//! How many bytes the changes of a transaction have in its entry, counted as they come.
+ghost use Rattle.std.specs.Prelude.{◌≡◌, ◌≤◌, ◌<◌, ◌+◌, ◌^◌, nat_le, nat_lt, true, cond, Some, None, length, map};
+ghost use Rattle.std.specs.List.{list_all};
+ghost use Rattle.db_store.specs.Body.{is_of_texts, any_of_texts, second_size, most_entry};
+ghost use Rattle.db_store.specs.Tally.{no_tally, weight, exchanged, size_in, tally_of, with_own};
+
+use db_value::row_form::size_of_row;
+use db_value::{Changes, VersionPlace, Widths};
+
+/// The most bytes of an entry.
+pub const MOST_ENTRY: u64 = 16_777_216;
+
+fn is_of_texts(width: u8) -> bool
+    ensures { result ≡ is_of_texts width }
+{
+    width != 0
+}
+
+/// Is one of these columns of texts?
+pub fn any_of_texts(widths: &[u8]) -> bool
+    ensures { result ≡ any_of_texts widths.now }
+{
+    for at in 0..widths.len() {
+        if is_of_texts(widths[at]) {
+            return true;
+        }
+    }
+    false
+}
+
+/// How many bytes an entry has for a second parent, or for none.
+pub fn size_of_second(second: &Option<VersionPlace>) -> usize
+    ensures { result ≡ second_size second.now }
+{
+    match second {
+        None => 1,
+        Some(_) => 9,
+    }
+}
+
+/// How many bytes changes have in an entry without texts and in one with texts, and how many of them
+/// have a text.
+#[derive(Clone, Copy)]
+pub struct Tally {
+    plain: u64,
+    wide: u64,
+    texts: u64,
+}
+
+impl Tally {
+    /// No changes.
+    pub fn none() -> Tally
+        ensures { result ≡ no_tally }
+    {
+        Tally {
+            plain: 0,
+            wide: 0,
+            texts: 0,
+        }
+    }
+
+    /// The change of a key of a relation with these widths. It puts a record or deletes it.
+    pub fn of_change(widths: &Widths, puts: bool) -> Tally
+        ensures weight { result ≡ weight (cond puts (Some widths.now) None) }
+        ensures plain { result.plain ≤ 4000 }
+        ensures wide { result.wide ≤ 4000 }
+        ensures texts { result.texts ≤ 1 }
+    {
+        if !puts {
+            return Tally {
+                plain: 10,
+                wide: 10,
+                texts: 0,
+            };
+        }
+        let own = widths.as_slice();
+        let size = size_of_row(own) as u64;
+        Tally {
+            plain: 10 + size,
+            wide: 10 + (own.len() as u64 + size),
+            texts: any_of_texts(own) as u64,
+        }
+    }
+
+    /// These changes, one of which has something else than before. The numbers are far below their
+    /// limit.
+    pub fn exchange(&self, old: &Tally, new: &Tally) -> Tally
+        requires plain { old.now.plain ≤ self.now.plain }
+        requires wide { old.now.wide ≤ self.now.wide }
+        requires texts { old.now.texts ≤ self.now.texts }
+        requires small { (self.now.plain < 2 ^ 62) × ((self.now.wide < 2 ^ 62) × (self.now.texts < 2 ^ 62)) }
+        requires more { (new.now.plain < 2 ^ 62) × ((new.now.wide < 2 ^ 62) × (new.now.texts < 2 ^ 62)) }
+        ensures { result ≡ exchanged self.now old.now new.now }
+    {
+        Tally {
+            plain: self.plain - old.plain + new.plain,
+            wide: self.wide - old.wide + new.wide,
+            texts: self.texts - old.texts + new.texts,
+        }
+    }
+
+    // How many bytes the changes have.
+    fn size(&self) -> u64
+        ensures { result ≡ size_in self.now }
+    {
+        if self.texts > 0 {
+            self.wide
+        } else {
+            self.plain
+        }
+    }
+
+    /// Can an entry with this second parent take the changes?
+    pub fn fits(&self, second: &Option<VersionPlace>) -> bool
+        ensures { result
+            ≡ nat_le (9 + second_size second.now + size_in self.now) most_entry }
+    {
+        self.size() <= MOST_ENTRY - (9 + size_of_second(second) as u64)
+    }
+}
+
+/// What changes have, each with the widths of its relation.
+pub fn tally_of(changes: &Changes, widths: &[Widths]) -> Tally
+    requires few { length changes.now < 2 ^ 32 }
+    requires relations { list_all (λ c. nat_lt c.relation (length widths.now)) changes.now ≡ true }
+    ensures { result ≡ tally_of (map (with_own widths.now) changes.now) }
+{
+    let none = Tally::none();
+    let mut tally = none;
+    for at in 0..changes.len() {
+        let widths = &widths[changes.relation(at) as usize];
+        tally = tally.exchange(&none, &Tally::of_change(widths, changes.puts(at)));
+    }
+    tally
+}

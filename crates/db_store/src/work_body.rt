@@ -1,0 +1,76 @@
+//! Whether an entry can take the changes of a working table.
+ghost use Rattle.std.specs.Prelude.{◌≡◌, ◌<◌, ◌≤◌, true, false, is_some, Some, length, IfSome};
+ghost use Rattle.std.specs.List.{list_all};
+ghost use Rattle.std.specs.FinMap as finite;
+ghost use Rattle.db_store.specs.Adopt.{touched_by, AreAdoptable};
+ghost use Rattle.db_store.specs.Overlay.{own_widths, overlay_at, changes_from, untouched};
+ghost use Rattle.db_store.specs.Tally.{tally_of, weight_at};
+ghost use Rattle.db_store.specs.Touched.{touch_of};
+ghost use Rattle.db_store.specs.Work.{has_room, is_body, touched_with, with_parent};
+
+use crate::View;
+use crate::tally::{Tally, tally_of};
+use crate::work::Work;
+use db_value::{Changes, Record, VersionPlace};
+
+impl<V: View> Work<V> {
+    ghost use Rattle.db_store.specs.WorkState.{under_of, overlays_of, room_of, widths_of, working_of};
+
+    // What the change of a key has now.
+    fn tally_at(&self, relation: u8, key: u64) -> Tally
+        requires { relation < length (V.table (under_of self.now)) }
+        ensures { result ≡ weight_at (own_widths (widths_of self.now) relation)
+            (finite.get (overlay_at (overlays_of self.now) relation) key) }
+    {
+        match self.touched.place_of(relation, key) {
+            None => Tally::none(),
+            Some(place) => {
+                Tally::of_change(&self.widths[relation as usize], self.touched.is_live(place))
+            }
+        }
+    }
+
+    // The tally after a touch for which there is room, if an entry can take the changes then.
+    pub(crate) fn tally_with(&self, relation: u8, row: &Record, live: bool) -> Option<Tally>
+        requires relation { relation < length (V.table (under_of self.now)) }
+        requires room { has_room (working_of self.now) relation row.now.key ≡ true }
+        ensures fits { is_some result ≡ is_body (working_of self.now)
+            (touched_with (working_of self.now) (touch_of relation row.now live)) }
+        ensures tally { IfSome result (λ tally. self.now.sure ≡ false
+            → tally ≡ tally_of (changes_from (widths_of self.now) 0
+            (touched_with (working_of self.now) (touch_of relation row.now live)))) }
+    {
+        // An entry takes all changes that there is room for.
+        if self.sure {
+            return Some(self.tally);
+        }
+        let old = self.tally_at(relation, row.key);
+        let new = Tally::of_change(&self.widths[relation as usize], live);
+        let tally = self.tally.exchange(&old, &new);
+        if !tally.fits(&self.second) {
+            return None;
+        }
+        Some(tally)
+    }
+
+    // The tally after all changes of a merge, for which there is room, if an entry can take them.
+    pub(crate) fn tally_by(&self, from: VersionPlace, changes: &Changes) -> Option<Tally>
+        requires untouched { overlays_of self.now ≡ untouched }
+        requires changes { AreAdoptable (length (V.table (under_of self.now))) changes.now }
+        requires room { length changes.now ≤ room_of self.now }
+        ensures fits { is_some result ≡ is_body (with_parent (working_of self.now) from)
+            (touched_by (overlays_of self.now) changes.now) }
+        ensures tally { IfSome result (λ tally. self.now.sure ≡ false
+            → tally ≡ tally_of (changes_from (widths_of self.now) 0
+            (touched_by (overlays_of self.now) changes.now))) }
+    {
+        if self.sure {
+            return Some(self.tally);
+        }
+        let tally = tally_of(changes, &self.widths);
+        if !tally.fits(&Some(from)) {
+            return None;
+        }
+        Some(tally)
+    }
+}
