@@ -1,8 +1,8 @@
 #!/usr/bin/env python3
 """What `import` and `export` of a table cost in the built program, beside sqlite3 if it is installed: bench/tables.py [PROGRAM [RUNS]].
 
-The table has 65,536 rows of four columns. Files are in memory, so that a sync costs nothing: of each figure the least of some runs counts, and
-of the time the median is told too.
+One table has 65,536 rows of four numbers, the other one of a name of at most 12 bytes and two numbers. Files are in memory, so that a sync costs nothing: of each figure
+the least of some runs counts, and of the time the median is told too.
 """
 import os, random, shutil, subprocess, sys, tempfile, time
 
@@ -38,18 +38,33 @@ def removed(*paths):
             os.unlink(path)
 
 
-def main():
+def numbers(source):
+    return ["%d" % source.randrange(-10 ** 6, 10 ** 6) for _ in range(4)]
+
+
+def named(source):
+    """Names of small letters, of which each tenth has a comma."""
+    name = "".join(source.choice("abcdefghijklmnopqrstuvwxyz") for _ in range(source.randrange(4, 13)))
+    return ['"%s,%s"' % (name[:2], name[3:]) if source.random() < 0.1 else name] + ["%d" % source.randrange(-10 ** 6, 10 ** 6) for _ in range(2)]
+
+
+# What a table has, its columns, those of sqlite3, and the fields of a row.
+TABLES = (("four numbers", "a b c d", "a integer, b integer, c integer, d integer", numbers),
+          ("a name and two numbers", "name:12 a b", "name text, a integer, b integer", named))
+
+
+def time_table(kind, columns, theirs, fields):
     source = random.Random(5)
     folder = tempfile.mkdtemp(dir="/dev/shm")
     try:
         table, base, out, db = (os.path.join(folder, name) for name in ("rows.csv", "base", "out.csv", "db"))
         with open(table, "w") as f:
             for key in source.sample(range(10 ** 9), ROWS):
-                f.write("%d,%d,%d,%d,%d\n" % (key, *(source.randrange(-10 ** 6, 10 ** 6) for _ in range(4))))
-        print("a table of %d rows of four columns: %d bytes" % (ROWS, os.path.getsize(table)))
+                f.write("%d,%s\n" % (key, ",".join(fields(source))))
+        print("a table of %d rows of %s: %d bytes" % (ROWS, kind, os.path.getsize(table)))
         schema = os.path.join(folder, "schema")
         with open(schema, "w") as f:
-            f.write("relation t a b c d\nend\n")
+            f.write("relation t %s\nend\n" % columns)
         imports, exports, peers, answers = [], [], [], []
         for _ in range(RUNS):
             removed(base + ".0", base + ".1", db)
@@ -57,7 +72,7 @@ def main():
             imports.append(run([PROGRAM, "import", base, "t"], table, os.devnull, settings("import")))
             exports.append(run([PROGRAM, "export", base, "t", "master"], os.devnull, out, settings("export")))
             if shutil.which("sqlite3"):
-                subprocess.run(["sqlite3", db, "create table t (key integer primary key, a integer, b integer, c integer, d integer)"], check=True)
+                subprocess.run(["sqlite3", db, "create table t (key integer primary key, %s)" % theirs], check=True)
                 peers.append(run(["sqlite3", db, ".mode csv", ".import %s t" % table], os.devnull, os.devnull))
                 answers.append(run(["sqlite3", db, ".mode csv", "select * from t order by key"], os.devnull, out + ".peer"))
         least("import", imports)
@@ -70,6 +85,11 @@ def main():
                 print("the same rows: %s" % (ours.read() == theirs.read().replace(b"\r\n", b"\n")))
     finally:
         shutil.rmtree(folder)
+
+
+def main():
+    for table in TABLES:
+        time_table(*table)
 
 
 main()
