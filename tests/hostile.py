@@ -267,11 +267,14 @@ def large(base):
         room = LONGEST - len(schema)
         return schema + line * (room // len(line)) + b"\n" * (room % len(line))
     longest = b"1 insert items 1 1 1" + b" " * 4075 + b"\n"
+    quotes = b"1 insert items 1 " + b'" ' * 2039 + b"\n"
+    texts = b"1 update items 1 a=" + b'"' + b"x, y = z" * 8 + b'" b="' + b" " * 64 + b'"\n'
     sessions = b"".join(b"1 branch b%d of master\n" % n for n in range(1, 65))
     sessions += b"".join(b"%d on b%d\n%d begin 65536\n%d insert items 1 %d 0\n" % (n, n, n, n, n) for n in range(1, 65))
     sessions += b"".join(b"%d commit\n" % n for n in range(1, 65)) + b"1 scan items in heads\n"
     for name, given, lines in (
         ("lines as long as they can be", filled(longest), (LONGEST - len(schema)) // 4096), ("empty lines", filled(b"\n"), 0),
+        ("lines of quotes", filled(quotes), (LONGEST - len(schema)) // len(quotes)), ("lines of texts", filled(texts), (LONGEST - len(schema)) // len(texts)),
         ("comments", filled(b"# nothing\n"), 0), ("lines of one byte", filled(b"x\n"), (LONGEST - len(schema)) // 2),
         ("64 sessions with all room", schema + sessions, 64 * 5 + 1),
     ):
