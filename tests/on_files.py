@@ -10,7 +10,7 @@ SCHEMA = worked.USUAL
 RELATIONS = [(b"items", [b"a", b"b"])]
 TAGS = b"relation tags name:8 n\nend\n"
 TAGGED = [(b"tags", [b"name:8", b"n"])]
-KILLED, COMMITS, LAYOUTS = 100, 2000, 300
+KILLED, COMMITS, LAYOUTS = 100, 2000, 400
 ONE = files.record(files.commit(0, [(0, 1, (1, 1))]))  # the record of `insert items 1 1 1`
 
 
@@ -427,10 +427,10 @@ def last_generation(base):
 
 
 def layouts(base):
-    """Random scripts with a checkpoint at their ends: the image is that of the model's segments, and that of what it is read as."""
+    """Random scripts, three of four with texts, with a checkpoint at their ends: the image is that of the model's segments, and that of what it is read as."""
     source, wrong, size = random.Random(12), [], 0
     for turn in range(LAYOUTS):
-        given = random_scripts.random_script(source)
+        given = random_scripts.random_script(source, texts=turn % 4 > 0)
         schema, lines = model.lines_of(given)
         said = model.Model(schema)
         for line in lines:

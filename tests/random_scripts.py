@@ -1,10 +1,10 @@
 #!/usr/bin/env python3
 """Random scripts, and comparisons of them.
 
-    tests/random_scripts.py [N] [--seed S] [--built STAGE,.. | all] [--body BYTES] [--program PATH]
+    tests/random_scripts.py [N] [--seed S] [--built STAGE,.. | all] [--texts] [--body BYTES] [--program PATH]
 
 runs N scripts (1,000) through the model of tests/model.py and through the machine of tests/machine.py, whose bytes must be equal; with
---program through the model and `PATH try`. With --body an entry may have so many bytes alone, so that small transactions are refused by 20.
+--program through the model and `PATH try`. With --texts each schema has a column of texts. With --body an entry may have so many bytes alone, so that small transactions are refused by 20.
 The first script that differs is printed, cut down to the lines that matter.
 """
 import argparse, collections, random, re, subprocess, sys, time
@@ -48,11 +48,26 @@ STAGE_OF = {"scan_where": "questions", "scan_in": "questions", "scan_heads": "qu
             "merge": "merges", "merge_side": "merges", "graph": "merges", "segments": "segments"}
 
 
+def widened(source, schema):
+    """The schema with texts in about half of its columns, and in one at least: of any width, a small one or the greatest."""
+    columns = [(r, c) for r, relation in enumerate(schema) for c in range(1, len(relation))]
+    chosen = set(source.sample(columns, source.randrange(1, len(columns) + 1)))
+
+    def column(r, c, word):
+        if c == 0:
+            return word
+        width = b":%d" % source.choice((1, 2, 3, source.randrange(1, 65), source.randrange(1, 65), 64)) if (r, c) in chosen else b""
+        return word.partition(b":")[0] + width
+    return tuple(tuple(column(r, c, word) for c, word in enumerate(relation)) for r, relation in enumerate(schema))
+
+
 class Script:
     """A script in the making, which knows what its lines so far have made."""
 
-    def __init__(self, source, sessions=None):
+    def __init__(self, source, sessions=None, texts=False):
         self.source, self.schema = source, source.choice(SCHEMAS)
+        if texts or source.random() < 0.3:
+            self.schema = widened(source, self.schema)
         self.model = model.Model({name: list(columns) for name, *columns in self.schema}, model.STAGES)
         count = source.choice((1, 1, 2, 2, 2, 3, 3, 4, 5, 6, 7, 8))
         self.sessions = source.sample(range(1, 65), count) if source.random() < 0.3 else list(range(1, count + 1))
@@ -179,9 +194,10 @@ class Script:
         return line
 
 
-def random_script(source, built=model.BUILT, sessions=None, lines=None):
-    """An input: a schema of one to eight relations, and mostly 40 to 80 lines of 1 to 8 sessions on 1 to 20 branches, or so many sessions and lines. `source` is a random.Random."""
-    script, count = Script(source, sessions), lines
+def random_script(source, built=model.BUILT, sessions=None, lines=None, texts=False):
+    """An input: a schema of one to eight relations, and mostly 40 to 80 lines of 1 to 8 sessions on 1 to 20 branches, or so many sessions and lines. `source` is a random.Random.
+    About half of the schemas have columns of texts, or all of them."""
+    script, count = Script(source, sessions, texts), lines
     script.model.built = set(built)
     lines = [b" ".join((b"relation",) + relation) for relation in script.schema] + [b"end"]
     for _ in range(count or (source.randrange(40, 81) if source.random() < 0.9 else source.randrange(200, 401))):
@@ -214,6 +230,7 @@ def main():
     words.add_argument("count", nargs="?", type=int, default=1000)
     words.add_argument("--seed", type=int, default=1)
     words.add_argument("--built", type=model.built_of, default=model.BUILT)
+    words.add_argument("--texts", action="store_true")
     words.add_argument("--body", type=int, default=model.BODY)
     words.add_argument("--program")
     words = words.parse_args()
@@ -230,7 +247,7 @@ def main():
 
     source, refused, lines, started = random.Random(words.seed), collections.Counter(), 0, time.monotonic()
     for script in range(words.count):
-        given = random_script(source, words.built)
+        given = random_script(source, words.built, texts=words.texts)
         written = model.output_of(given, words.built)
         refused.update(int(number) for number in re.findall(rb"^refused (\d+)", written, re.MULTILINE))
         lines += written.count(b"\n> ") + 1

@@ -153,14 +153,14 @@ def one_script(base, other, given):
 
 
 def at_random(base):
-    """Random scripts of eight and of 64 sessions."""
+    """Random scripts of eight and of 64 sessions, each second one with texts."""
     place = os.path.join(base.folder, "other")
     os.mkdir(place)
     other = on_files.Base(base.program, place)
     source, moved = random.Random(14), 0
     for sessions, lines in ((8, None), (64, 320)):
         for script in range(SCRIPTS):
-            given = random_scripts.random_script(source, model.BUILT, sessions, lines)
+            given = random_scripts.random_script(source, model.BUILT, sessions, lines, texts=script % 2 == 1)
             wrong, places = one_script(base, other, given)
             moved += places
             yield "random script %d of %d sessions on threads" % (script, sessions), wrong, []
