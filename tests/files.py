@@ -64,6 +64,22 @@ def commit(branch, changes, second=None):
     return out + b"".join(bytes([r, len(values)]) + struct.pack("<Q", key) + b"".join(field_of(v, is_wide) for v in values) for r, key, values in changes)
 
 
+def entry_of(state, entry):
+    """The bytes of an entry of a state of tests/model.py."""
+    numbers, relations = {name: n for n, name in enumerate(state.branches)}, list(state.schema)
+    kind, branch, place, *changes = entry
+    place = place and (numbers[place[0]], place[1])
+    if kind == "branch":
+        return b"\x02" + named(branch) + u32(*place)
+    put = [(relations.index(relation), key, tuple(Text(v, w) if w else v for v, w in zip(values or (), state.widths[relation]))) for relation, key, values in changes[0]]
+    return commit(numbers[branch], sorted(put, key=lambda change: change[:2]), place)
+
+
+def journal_of(state):
+    """The records that a script leaves, each of one entry."""
+    return b"".join(record(entry_of(state, entry)) for entry in state.entries)
+
+
 class Reader:
     def __init__(self, data):
         self.data, self.at = data, 0

@@ -231,6 +231,7 @@ class State:
         # the versions of each branch by position, branches in the order made; at 0 stands the one from which the branch was made
         self.branches = {b"master": [root]}
         self.made = [root]  # in the order made
+        self.entries = []  # a new branch with the place from which it was made, or a branch with the second parent and the touched keys with what they have
         self.layout = layout.Layout(schema)
 
     def found(self, of):
@@ -251,11 +252,14 @@ class State:
 
     def branch(self, new, of):
         origin = self.found(of)
+        self.entries.append(("branch", new, self.place(of)))
         self.layout.branch(new, *self.place(of))
         self.branches[new] = [origin]
 
     def commit(self, branch, second, tables, touched):
-        self.layout.commit(branch, [(relation, key, tables[relation].get(key)) for relation, key in touched])
+        changes = [(relation, key, tables[relation].get(key)) for relation, key in touched]
+        self.entries.append(("commit", branch, second, changes))
+        self.layout.commit(branch, changes)
         versions = self.branches[branch]
         made = Version(b"%s@%d" % (branch, len(versions)), [versions[-1]] + ([self.found(second)] if second else []), tables, second)
         versions.append(made)

@@ -427,8 +427,9 @@ def last_generation(base):
 
 
 def layouts(base):
-    """Random scripts, three of four with texts, with a checkpoint at their ends: the image is that of the model's segments, and that of what it is read as."""
-    source, wrong, size = random.Random(12), [], 0
+    """Random scripts, three of four with texts, with a checkpoint at their ends: the image is that of the model's segments, and that of what it is read as. If a script has no
+    checkpoint before, its file has the entries of the model, byte by byte."""
+    source, wrong, size, journals = random.Random(12), [], 0, 0
     for turn in range(LAYOUTS):
         given = random_scripts.random_script(source, texts=turn % 4 > 0)
         schema, lines = model.lines_of(given)
@@ -441,6 +442,10 @@ def layouts(base):
         base.removed()
         base.run("create", given[:given.index(b"\nend\n") + 5])
         base.run("script", b"".join(line + b"\n" for line in lines))
+        if not any(b"checkpoint" in line for line in lines):
+            journals += 1
+            if base.read(0) != files.new_file(list(schema.items()))[:-1] + files.journal_of(said.state) + b"\0":
+                wrong.append((turn, given))
         base.run("script", b"1 checkpoint\n")
         entries, found = base.told()[1], [base.read(0), base.read(1)]
         base.run("script", b"1 checkpoint\n")
@@ -449,7 +454,8 @@ def layouts(base):
         if files.image_in(found[counted]) != image or files.image_in(again[1 - counted]) != image or again[counted] != found[counted] or not entries.endswith(b" entries 0\n"):
             wrong.append((turn, given))
     print("tests/run: %d random layouts, images of %d bytes in all" % (LAYOUTS, size), flush=True)
-    yield "the images of random layouts", [turn for turn, _ in wrong], []
+    yield "the images and entries of random layouts", [turn for turn, _ in wrong], []
+    yield "the entries of many of them", journals > LAYOUTS // 4, True
 
 
 def killed_at_checkpoints(base):

@@ -8,7 +8,8 @@ import os, random, re, subprocess, tempfile, time
 import files, model, on_files, random_scripts, worked
 
 SCHEMA = worked.USUAL
-SCRIPTS, KILLED, SESSIONS, COMMITS = 50, 50, 8, 100
+KILLED, SESSIONS, COMMITS = 50, 8, 100
+SCRIPTS = ((8, None, 300), (64, 320, 100))  # of so many sessions and lines, so many scripts
 
 
 def session_of(line):
@@ -153,18 +154,18 @@ def one_script(base, other, given):
 
 
 def at_random(base):
-    """Random scripts of eight and of 64 sessions, each second one with texts."""
+    """Random scripts of eight and of 64 sessions, three of four with texts."""
     place = os.path.join(base.folder, "other")
     os.mkdir(place)
     other = on_files.Base(base.program, place)
     source, moved = random.Random(14), 0
-    for sessions, lines in ((8, None), (64, 320)):
-        for script in range(SCRIPTS):
-            given = random_scripts.random_script(source, model.BUILT, sessions, lines, texts=script % 2 == 1)
+    for sessions, lines, count in SCRIPTS:
+        for script in range(count):
+            given = random_scripts.random_script(source, model.BUILT, sessions, lines, texts=script % 4 > 0)
             wrong, places = one_script(base, other, given)
             moved += places
             yield "random script %d of %d sessions on threads" % (script, sessions), wrong, []
-    print("tests/run: in %d random scripts on threads %d lines stood at another place than in the input" % (2 * SCRIPTS, moved), flush=True)
+    print("tests/run: in %d random scripts on threads %d lines stood at another place than in the input" % (sum(count for _, _, count in SCRIPTS), moved), flush=True)
 
 
 def comments_and_bad_lines(base):
