@@ -84,6 +84,7 @@ def over_others(base):
 def bad_schemas(base):
     for name, given, line in (("empty", b"", 1), ("no end", b"relation items a\n", 2), ("a column twice", b"relation items a a\nend\n", 1),
                               ("a comment and no end", b"relation items a\n# no end\n", 3),
+                              ("a width of 65", b"relation items a:64 b:65\nend\n", 1), ("no width behind its sign", b"relation items a\nrelation notes b:\nend\n", 2),
                               ("a line after the end", SCHEMA + b"# a comment\n\n1 scan items\n", 5),
                               ("a line after the end and a comment", b"relation items a\nend\n\n# a comment\n1 begin\n", 5)):
         yield "create by a schema: " + name, base.run("create", given), (11, b"", b"decibel: bad line %d\n" % line)
