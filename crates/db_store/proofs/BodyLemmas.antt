@@ -1,5 +1,5 @@
 -- How many bytes the changes of overlays have, and what a touch makes of them.
-use Rattle.std.proofs.Common.{◌≡◌, ◌⊎◌, inl, inr, ℕ, zero, suc, ◌+◌, ◌-◌, ◌*◌, ◌^◌, ◌<◌, ◌≤◌, ◌==◌, Bool, true, false, cond, ◌&&◌, ◌||◌, not, nat_lt, nat_le, T, is_some, List, [], ◌∷◌, ◌++◌, map, length, set, drop, Option, Some, None, Ordering, Less, Equal, Greater, refl, ap, sym, ◌∙◌, subst, arith, add-zero}
+use Rattle.std.proofs.Common.{◌≡◌, ◌⊎◌, inl, inr, ℕ, zero, suc, ◌+◌, ◌-◌, ◌*◌, ◌/◌, ◌^◌, ◌<◌, ◌≤◌, ◌==◌, Bool, true, false, cond, ◌&&◌, ◌||◌, not, nat_lt, nat_le, T, is_some, List, [], ◌∷◌, ◌++◌, map, length, set, drop, Option, Some, None, Ordering, Less, Equal, Greater, refl, ap, sym, ◌∙◌, subst, arith, add-zero}
 use Rattle.std.specs.List.{list_all, list_any}
 use Rattle.std.specs.Ordering.{nat_cmp, is_lt, is_eq, eq_by_cmp}
 use Rattle.std.specs.Cmp.{ranked}
@@ -7,6 +7,7 @@ use Rattle.std.proofs.lemmas.Cmp.{nat_cmp_total}
 use Rattle.std.proofs.lemmas.Bool.{and_parts, and_from, not-true, lt-ltb, ltb-true, le-leb, lt-leb, leb-true, ne_eqb, cases_lt, false≢true}
 use Rattle.std.proofs.lemmas.List.{length-set, drop_more}
 use Rattle.std.proofs.lemmas.Nat.{mul-le}
+use Rattle.std.proofs.Math.Nat.{div-mul-le_self}
 use Rattle.std.specs.FinMap as finite
 use Rattle.std.specs.FinMap.Entries.{find, put, by_order, is_sorted, below_all}
 use Rattle.db_value.specs.Value.{Value}
@@ -162,6 +163,14 @@ tally_small wss os room few wide small =
 pub second_most : (second : Option VersionPlace) → second_size second ≤ 9
 second_most None = omega arith
 second_most (Some at) = omega arith
+
+-- so few keys have so few bytes
+pub sure_enough : (room most : ℕ) → nat_le room ((16777216 - 18) / (9 + most)) ≡ true → 18 + room * (9 + most) ≤ most_entry
+sure_enough room most e =
+    let le = leb-true room ((16777216 - 18) / (9 + most)) e in
+    let product = mul-le room (9 + most) ((16777216 - 18) / (9 + most)) (9 + most) le (omega arith) in
+    let whole = div-mul-le_self (16777216 - 18) (9 + most) in
+    omega (arith, product, whole)
 
 -- how many keys are touched after a touch for which there is room
 pub count_after : (os : List Overlay) (r key : ℕ) (st : Option (List Value)) (room : ℕ) → r < length os → count_touched os ≤ room → (is_touched os r key || nat_lt (count_touched os) room) ≡ true → count_touched (touch os r key st) ≤ room

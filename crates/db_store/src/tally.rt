@@ -1,5 +1,5 @@
 //! How many bytes the changes of a transaction have in its entry, counted as they come.
-ghost use Rattle.std.specs.Prelude.{◌≡◌, ◌≤◌, ◌<◌, ◌+◌, ◌^◌, nat_le, nat_lt, true, cond, Some, None, length, map};
+ghost use Rattle.std.specs.Prelude.{◌≡◌, ◌≤◌, ◌<◌, ◌+◌, ◌*◌, ◌^◌, nat_le, nat_lt, true, cond, Some, None, length, map};
 ghost use Rattle.std.specs.List.{list_all};
 ghost use Rattle.db_store.specs.Body.{is_of_texts, any_of_texts, second_size, most_entry};
 ghost use Rattle.db_store.specs.Tally.{no_tally, weight, exchanged, size_in, tally_of, with_own};
@@ -130,6 +130,13 @@ impl Tally {
     {
         self.size() <= MOST_ENTRY - (9 + size_of_second(second) as u64)
     }
+}
+
+/// Takes an entry surely all changes of so many keys, whose rows take at most so many bytes?
+pub fn is_sure(room: u32, most: u16) -> bool
+    ensures { result ≡ true → 18 + room * (9 + most) ≤ most_entry }
+{
+    room as u64 <= (MOST_ENTRY - 18) / (9 + most as u64)
 }
 
 /// What changes have, each with the widths of its relation.
