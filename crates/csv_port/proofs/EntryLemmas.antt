@@ -4,6 +4,7 @@ use Rattle.std.specs.Prelude.{is_some}
 use Rattle.std.specs.FinMap as finite
 use Rattle.std.specs.List.{AllByRecursion, list_any}
 use Rattle.std.proofs.lemmas.Bool.{eq-eqb, false≢true, ne_eqb}
+use Rattle.std.proofs.lemmas.Cmp.{nat_cmp_total}
 use Rattle.db_value.specs.Value.{Value}
 use Rattle.db_value.specs.declared.entry.Change.{Change}
 use Rattle.db_store.specs.Body.{any_of_texts, any_text, changes_size, commit_size, fields_size, form_size, has_text, have_texts}
@@ -56,7 +57,7 @@ with_key_all P key (k ∷ ks) p h = by (nat_lt key k) (key == k) (with_key_all P
 
 module _ (cs : Contents) (key : ℕ) (fields : List Value) where
   found : (k : ℕ) → finite.get (finite.insert cs key fields) k ≡ cond (k == key) (Some fields) (finite.get cs k)
-  found k = finite.get-insert finite.nat_cmp_total cs key fields k ∙ ap (λ (q : Bool). cond q (Some fields) (finite.get cs k)) (same_key k key)
+  found k = finite.get-insert nat_cmp_total cs key fields k ∙ ap (λ (q : Bool). cond q (Some fields) (finite.get cs k)) (same_key k key)
 
   pub there_now : is_some (finite.get (finite.insert cs key fields) key) ≡ true
   there_now = ap is_some (found key ∙ ap (λ (q : Bool). cond q (Some fields) (finite.get cs key)) (eq-eqb key key refl))
@@ -73,12 +74,12 @@ module _ (cs : Contents) (key : ℕ) (fields : List Value) where
 
 none_counted : (m : ℕ) → count_keys (replicate m []) ≡ 0
 none_counted zero = refl
-none_counted (suc m) = none_counted m
+none_counted (suc m) = let z = none_counted m in omega (arith, z)
 
 pub only_counted : (m r : ℕ) (ks : List ℕ) → r < m → count_keys (only m r ks) ≡ length ks
 only_counted zero r ks h = absurd (omega (arith, h))
 only_counted (suc m) zero ks h = let z = none_counted m in omega (arith, z)
-only_counted (suc m) (suc r) ks h = only_counted m r ks (omega (arith, h))
+only_counted (suc m) (suc r) ks h = let z = only_counted m r ks (omega (arith, h)) in omega (arith, z)
 
 pub only_none : (m r : ℕ) → replicate m [] ≡ only m r []
 only_none zero r = refl

@@ -1,11 +1,22 @@
 -- Texts that are written one after another.
-use Rattle.std.proofs.Common.{◌≡◌, ℕ, ◌+◌, ◌≤◌, List, [], ◌∷◌, ◌++◌, length, drop, Some, sym, ap, ◌∙◌, append_assoc, append-nil, arith}
+use Rattle.std.proofs.Common.{◌≡◌, ℕ, ◌+◌, ◌≤◌, Bool, true, false, cond, List, [], ◌∷◌, ◌++◌, length, drop, Some, sym, ap, ◌∙◌, append_assoc, append-nil, arith}
 use Rattle.std.specs.Prelude.{slice_get}
 use Rattle.std.specs.List.{flat_map}
 use Rattle.std.proofs.lemmas.List.{drop_more}
 use Rattle.std.proofs.lemmas.Option.{get_or_from_slice_get, slice_get_within}
 use Rattle.db_value.specs.Value.{Value}
-use Rattle.csv_port.specs.Written.{next_text}
+use Rattle.csv_port.specs.Written.{has_comma, next_text, text_cell}
+
+-- ---- one text as a cell
+
+pub bare_cell : (out before new t : List ℕ) (q : Bool) → q ≡ has_comma t → q ≡ false → before ≡ out ++ 44 ∷ [] → new ≡ before ++ t → new ≡ out ++ 44 ∷ text_cell t
+bare_cell out before new t q is no a b =
+    b ∙ ap (λ (u : List ℕ). u ++ t) a ∙ append_assoc out (44 ∷ []) t ∙ ap (λ (r : Bool). out ++ 44 ∷ cond r (34 ∷ t ++ 34 ∷ []) t) (sym (sym is ∙ no))
+
+pub quoted_cell : (out new t : List ℕ) (q : Bool) → q ≡ has_comma t → q ≡ true → new ≡ out ++ 44 ∷ (34 ∷ t ++ 34 ∷ []) → new ≡ out ++ 44 ∷ text_cell t
+quoted_cell out new t q is yes e = e ∙ ap (λ (r : Bool). out ++ 44 ∷ cond r (34 ∷ t ++ 34 ∷ []) t) (sym (sym is ∙ yes))
+
+-- ---- values and rows
 
 -- one text more
 pub next_part : {A : Type 0} (f : A → List ℕ) (out new total : List ℕ) (x : A) (all rest : List A) → all ≡ x ∷ rest → new ≡ out ++ f x → out ++ flat_map f all ≡ total → new ++ flat_map f rest ≡ total

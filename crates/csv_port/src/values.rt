@@ -72,17 +72,26 @@ fn has_comma(text: &[u8]) -> bool
     text.iter().any(|b| *b == b',')
 }
 
-// Adds a comma and a text, which stands between double quotes if it has a comma.
-fn push_text(out: &mut Vec<u8>, text: &[u8]) -> Result<(), AllocError>
-    ensures { OnOk result (out.new.items ≡ out.old.items ++ 44 ∷ text_cell text.now) }
+fn push_quoted(out: &mut Vec<u8>, text: &[u8]) -> Result<(), AllocError>
+    ensures { OnOk result (out.new.items ≡ out.old.items ++ 44 ∷ (34 ∷ text.now ++ 34 ∷ [])) }
 {
-    if !has_comma(text) {
-        out.push(b',')?;
-        return out.extend_from_slice(text);
-    }
     out.extend_from_slice(b",\"")?;
     out.extend_from_slice(text)?;
     out.extend_from_slice(b"\"")
+}
+
+// Adds a comma and a text, which stands between double quotes if it has a comma.
+#[tactic(auto, using(crate::proofs::ValueLemmas::bare_cell, crate::proofs::ValueLemmas::quoted_cell))]
+fn push_text(out: &mut Vec<u8>, text: &[u8]) -> Result<(), AllocError>
+    ensures { OnOk result (out.new.items ≡ out.old.items ++ 44 ∷ text_cell text.now) }
+{
+    if has_comma(text) {
+        push_quoted(out, text)?;
+        return Ok(());
+    }
+    out.push(b',')?;
+    out.extend_from_slice(text)?;
+    Ok(())
 }
 
 // Adds a comma and a value.
