@@ -8,6 +8,7 @@ ghost use Rattle.db_value.specs.Padded.{padded};
 ghost use Rattle.db_value.specs.RowForm.{field_bytes, row_bytes};
 ghost use Rattle.entry_codec.specs.Wide.{wide_bytes};
 
+use db_value::row_form::{put_row, size_of_row};
 use db_value::{Fields, Value};
 use std::alloc::AllocError;
 
@@ -71,8 +72,8 @@ pub fn push_row(widths: &[u8], fields: &Fields, out: &mut Vec<u8>) -> Result<(),
         (out.new.items ≡ out.old.items ++ row_bytes widths.now fields.now) }
     ensures are { OnOk result (AllByRecursion IsValue fields.now) }
 {
-    for at in 0..widths.len() {
-        push_field(widths[at], &fields.get(at as u8), out)?;
-    }
+    let from = out.len();
+    out.resize(from + size_of_row(widths), 0)?;
+    put_row(widths, fields, &mut out[from..]);
     Ok(())
 }
