@@ -64,16 +64,21 @@ pub fn push_wide(widths: &[u8], fields: &Fields, out: &mut Vec<u8>) -> Result<()
     Ok(())
 }
 
-/// Adds fields, which meet the widths.
-pub fn push_row(widths: &[u8], fields: &Fields, out: &mut Vec<u8>) -> Result<(), AllocError>
+/// Adds fields, which meet the widths. They are put together in a space for the longest row.
+pub fn push_row(
+    widths: &[u8],
+    fields: &Fields,
+    space: &mut [u8; 960],
+    out: &mut Vec<u8>,
+) -> Result<(), AllocError>
     requires few { length widths.now ≤ 15 }
+    requires room { row_size widths.now ≤ MOST_ROW }
     requires meets { meets widths.now fields.now ≡ true }
     ensures bytes { OnOk result
         (out.new.items ≡ out.old.items ++ row_bytes widths.now fields.now) }
     ensures are { OnOk result (AllByRecursion IsValue fields.now) }
 {
-    let from = out.len();
-    out.resize(from + size_of_row(widths), 0)?;
-    put_row(widths, fields, &mut out[from..]);
+    put_row(widths, fields, space);
+    out.extend_from_slice(&space[..size_of_row(widths)])?;
     Ok(())
 }
