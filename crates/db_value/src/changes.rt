@@ -1,11 +1,12 @@
 //! Lists of changes, packed.
 ghost use Rattle.std.specs.Prelude.{◌≡◌, ◌<◌, ◌≤◌, ◌+◌, ◌^◌, ◌++◌, ◌∷◌, [], Some, None, true, false, length, map, is_some, OnOk, OnErr, IfOk, IfSome};
+ghost use Rattle.db_value.specs.Widths.{meets};
 ghost use Rattle.db_value.specs.PackedChanges.{change_here, AreKept};
 
 use crate::entry::Change;
 use crate::record::Record;
 use crate::records::{Slot, part_of};
-use crate::widths::Widths;
+use crate::widths::{Widths, packed_meet};
 use std::alloc::{AllocError, Global};
 use std::marker::Model;
 
@@ -104,6 +105,17 @@ impl Changes {
         ensures { result ≡ is_some (change_here self.now index).fields }
     {
         self.kept[index].live
+    }
+
+    /// Do the fields that a change puts meet widths? They are not read for it.
+    pub fn meets(&self, index: usize, widths: &Widths) -> bool
+        requires { index < length self.now }
+        ensures { IfSome (change_here self.now index).fields (λ fields. result ≡ meets widths.now fields) }
+    {
+        packed_meet(
+            widths.as_slice(),
+            part_of(&self.bytes, self.kept[index].row),
+        )
     }
 
     /// Does a change put a record? If so, the record is read.

@@ -2,10 +2,10 @@
 ghost use Rattle.std.specs.Prelude.{◌≡◌, ◌<◌, ◌≤◌, ◌↔◌, ◌+◌, true, length, IsSome, IfSome, slice_get, Some};
 ghost use Rattle.std.specs.List.{list_all};
 ghost use Rattle.db_value.specs.Widths.{are_widths, is_width, meets, fits_width};
-ghost use Rattle.db_value.specs.Spelling.{first_in};
+ghost use Rattle.db_value.specs.Spelling.{fields_in, first_in};
 
 use crate::fields::{Fields, MOST_FIELDS};
-use crate::packing::{after_first, body_of, first_text};
+use crate::packing::{after_first, body_of, count_in, first_text};
 use std::marker::Model;
 
 /// The most bytes of a text column.
@@ -83,6 +83,38 @@ fn first_fits(width: u8, values: &[u8]) -> bool
     }
 }
 
+/// Do the fields that bytes spell meet widths?
+pub(crate) fn packed_meet(widths: &[u8], packed: &[u8]) -> bool
+    ensures { result ≡ meets widths.now (fields_in packed.now) }
+{
+    if count_in(packed) != widths.len() {
+        return false;
+    }
+    let mut rest = body_of(packed);
+    for at in 0..widths.len() {
+        if !first_fits(widths[at], rest) {
+            return false;
+        }
+        rest = after_first(rest);
+    }
+    true
+}
+
+// Are they the same, one by one?
+fn are_equal(mine: &[u8], others: &[u8]) -> bool
+    ensures { (result ≡ true) ↔ (mine.now ≡ others.now) }
+{
+    if mine.len() != others.len() {
+        return false;
+    }
+    for at in 0..mine.len() {
+        if mine[at] != others[at] {
+            return false;
+        }
+    }
+    true
+}
+
 impl Widths {
     /// These widths, where they are one to 15 and none is above 64.
     pub fn of(widths: &[u8]) -> Option<Widths>
@@ -110,7 +142,7 @@ impl Widths {
     pub fn are_same(&self, other: &Widths) -> bool
         ensures { (result ≡ true) ↔ (self.now ≡ other.now) }
     {
-        self.as_slice() == other.as_slice()
+        are_equal(self.as_slice(), other.as_slice())
     }
 
     /// Does a row meet the widths? It has a number at each width 0, and at each other width a text of
@@ -118,17 +150,6 @@ impl Widths {
     pub fn meets(&self, fields: &Fields) -> bool
         ensures { result ≡ meets self.now fields.now }
     {
-        let widths = self.as_slice();
-        if fields.count() != widths.len() {
-            return false;
-        }
-        let mut rest = body_of(fields.packed());
-        for at in 0..widths.len() {
-            if !first_fits(widths[at], rest) {
-                return false;
-            }
-            rest = after_first(rest);
-        }
-        true
+        packed_meet(self.as_slice(), fields.packed())
     }
 }

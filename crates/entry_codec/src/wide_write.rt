@@ -8,7 +8,8 @@ ghost use Rattle.db_value.specs.Padded.{padded};
 ghost use Rattle.db_value.specs.RowForm.{field_bytes, row_bytes};
 ghost use Rattle.entry_codec.specs.Wide.{wide_bytes};
 
-use db_value::{Fields, Value};
+use db_value::row_form::{put_row, size_of_row};
+use db_value::{Fields, Value, Widths};
 use std::alloc::AllocError;
 
 #[tactic(auto, unfolding(db_value::specs::Spelling::number_bytes))]
@@ -64,15 +65,14 @@ pub fn push_wide(widths: &[u8], fields: &Fields, out: &mut Vec<u8>) -> Result<()
 }
 
 /// Adds fields, which meet the widths.
-pub fn push_row(widths: &[u8], fields: &Fields, out: &mut Vec<u8>) -> Result<(), AllocError>
-    requires few { length widths.now ≤ 15 }
-    requires meets { meets widths.now fields.now ≡ true }
+pub fn push_row(widths: &Widths, fields: &Fields, out: &mut Vec<u8>) -> Result<(), AllocError>
+    requires { meets widths.now fields.now ≡ true }
     ensures bytes { OnOk result
         (out.new.items ≡ out.old.items ++ row_bytes widths.now fields.now) }
     ensures are { OnOk result (AllByRecursion IsValue fields.now) }
 {
-    for at in 0..widths.len() {
-        push_field(widths[at], &fields.get(at as u8), out)?;
-    }
+    let mut row = [0u8; 960];
+    put_row(widths.as_slice(), fields, &mut row);
+    out.extend_from_slice(&row[..size_of_row(widths.as_slice())])?;
     Ok(())
 }

@@ -25,13 +25,6 @@ fn put_u32(out: &mut Vec<u8>, n: u32) -> Result<(), AllocError>
     Ok(())
 }
 
-fn put_u64(out: &mut Vec<u8>, n: u64) -> Result<(), AllocError>
-    ensures { OnOk result (out.new.items ≡ out.old.items ++ to_le_bytes w64 n) }
-{
-    out.extend_from_slice(&n.to_le_bytes())?;
-    Ok(())
-}
-
 fn put_place(out: &mut Vec<u8>, at: &VersionPlace) -> Result<(), AllocError>
     ensures { OnOk result (out.new.items ≡ out.old.items ++ place_bytes at.now) }
 {
@@ -92,7 +85,18 @@ fn put_fields(
     if wide {
         return push_wide(widths.as_slice(), fields, out);
     }
-    push_row(widths.as_slice(), fields, out)
+    push_row(widths, fields, out)
+}
+
+// What stands before the fields of a change: its relation, how many they are, and its key.
+fn put_head(out: &mut Vec<u8>, relation: u8, count: u8, key: u64) -> Result<(), AllocError>
+    ensures ranged { OnOk result (key < 2 ^ 64) }
+    ensures bytes { OnOk result (out.new.items
+        ≡ out.old.items ++ relation ∷ (count ∷ to_le_bytes w64 key)) }
+{
+    let [a, b, c, d, e, f, g, h] = key.to_le_bytes();
+    out.extend_from_slice(&[relation, count, a, b, c, d, e, f, g, h])?;
+    Ok(())
 }
 
 // A change that deletes a record.
@@ -101,10 +105,7 @@ fn put_deletion(out: &mut Vec<u8>, relation: u8, key: u64) -> Result<(), AllocEr
     ensures bytes { OnOk result (out.new.items
         ≡ out.old.items ++ relation ∷ (0 ∷ (to_le_bytes w64 key ++ []))) }
 {
-    out.push(relation)?;
-    out.push(0)?;
-    put_u64(out, key)?;
-    Ok(())
+    put_head(out, relation, 0, key)
 }
 
 // A change that puts a record, which meets the widths.
@@ -122,9 +123,7 @@ fn put_record(
         ≡ out.old.items ++ relation ∷ (length row.now.fields
         ∷ (to_le_bytes w64 row.now.key ++ row_form wide widths.now row.now.fields))) }
 {
-    out.push(relation)?;
-    out.push(row.fields.count() as u8)?;
-    put_u64(out, row.key)?;
+    put_head(out, relation, row.fields.count() as u8, row.key)?;
     put_fields(out, wide, widths, &row.fields)?;
     Ok(())
 }

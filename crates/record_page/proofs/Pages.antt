@@ -9,8 +9,9 @@ use Rattle.std.proofs.lemmas.Grind.{flat_map-append}
 use Rattle.std.proofs.Math.Nat.{mod-lt, div-mul-le_self, mul-le-mul_right, mul-le-mul_left}
 use borrow.Rule.Slice.PartMut.{put_mid}
 use Rattle.db_value.specs.declared.record.Record.{Record}
-use Rattle.db_value.specs.Widths.{are_widths, is_width}
-use Rattle.db_value.specs.RowForm.{are_zeros, row_size}
+use Rattle.db_value.specs.Widths.{are_widths}
+use Rattle.db_value.specs.RowForm.{are_zeros}
+use Rattle.db_value.proofs.RowForms.{row_few}
 use Rattle.record_page.specs.Spelling.{record_bytes, record_size, record_in, records_in, is_record, are_records}
 use Rattle.record_page.specs.Page.{Rows, IsRecord, IsPaged, with_record, record_at, capacity, count_bytes, page_head, page_bytes, count_in, fields_in, rows_in, end_in, is_page, page_in}
 use Rattle.record_page.specs.Laws.{AreBytes, IsSpelled, AgainLaw, ReadLaw, OneLaw}
@@ -69,21 +70,8 @@ record_big [] h = absurd (omega (arith, h))
 record_big (zero ∷ ws) h = omega arith
 record_big (suc w ∷ ws) h = omega arith
 
-size_few : (ws : List ℕ) → list_all is_width ws ≡ true → row_size ws ≤ 64 * length ws
-size_few [] h = omega arith
-size_few (zero ∷ ws) h = let r : row_size ws ≤ 64 * length ws = size_few ws (both (is_width 0) (list_all is_width ws) h).1 in omega (arith, r)
-size_few (suc w ∷ ws) h =
-    let p = both (is_width (suc w)) (list_all is_width ws) h in
-    let b = leb-true (suc w) 64 p.0 in
-    let r : row_size ws ≤ 64 * length ws = size_few ws p.1 in
-    omega (arith, b, r)
-
 record_few : (ws : List ℕ) → are_widths ws ≡ true → record_size ws ≤ 968
-record_few ws h =
-    let few = (some_column ws h).1 in
-    let a = both (nat_lt 0 (length ws)) (nat_le (length ws) 15 && list_all is_width ws) h in
-    let r : row_size ws ≤ 64 * length ws = size_few ws (both (nat_le (length ws) 15) (list_all is_width ws) a.1).1 in
-    omega (arith, few, r)
+record_few ws h = let few = row_few ws h in omega (arith, few)
 
 -- a page holds a record
 pub capacity_some : (ws : List ℕ) → are_widths ws ≡ true → 0 < capacity ws

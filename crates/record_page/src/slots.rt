@@ -1,12 +1,12 @@
 //! The records in the bytes of a page.
-ghost use Rattle.std.specs.Prelude.{◌≡◌, ◌↔◌, ◌+◌, ◌*◌, ◌<◌, ◌≤◌, [], length, IfOk, true};
+ghost use Rattle.std.specs.Prelude.{◌≡◌, ◌+◌, ◌*◌, ◌<◌, ◌≤◌, [], length, IfOk, true};
 ghost use Rattle.db_value.specs.Widths.{are_widths, meets};
 ghost use Rattle.record_page.specs.Page.{capacity, record_at, rows_in, is_page, page_bytes, with_record};
 ghost use Rattle.record_page.specs.Spelling.{record_size};
 ghost use Rattle.record_page.specs.Laws.{IsSpelled};
 
-use crate::head::{HEAD_BYTES, PAGE_BYTES, capacity_of, count_of, put_count};
-use crate::spelling::{put_record, read_record, size_of};
+use crate::head::{HEAD_BYTES, PAGE_BYTES, count_of, put_count};
+use crate::spelling::{put_record, read_record};
 use db_value::Record;
 use std::alloc::{AllocError, Global};
 
@@ -49,43 +49,32 @@ pub(crate) fn spelled<'a>(widths: &[u8], bytes: &'a [u8]) -> &'a [u8]
 }
 
 // Where the record in a slot stands.
-fn place_of(widths: &[u8], bytes: &[u8], slot: u16) -> usize
-    requires are { are_widths widths.now ≡ true }
-    requires few { length widths.now ≤ 15 }
+fn place_of(widths: &[u8], size: u16, bytes: &[u8], slot: u16) -> usize
+    requires size { size ≡ record_size widths.now }
     requires page { is_page widths.now bytes.now ≡ true }
     requires room { slot < capacity widths.now }
     ensures value { result ≡ 16 + slot * record_size widths.now }
     ensures room { result + record_size widths.now ≤ length bytes.now }
 {
-    HEAD_BYTES + slot as usize * size_of(widths)
+    HEAD_BYTES + slot as usize * size as usize
 }
 
-/// Reads the record in a slot.
-pub(crate) fn read_slot(widths: &[u8], bytes: &[u8], slot: u16, into: &mut Record)
-    requires are { are_widths widths.now ≡ true }
+/// Reads the record in a slot, where each has so many bytes.
+pub(crate) fn read_slot(widths: &[u8], size: u16, bytes: &[u8], slot: u16, into: &mut Record)
+    requires size { size ≡ record_size widths.now }
     requires some { 0 < length widths.now }
     requires few { length widths.now ≤ 15 }
     requires page { is_page widths.now bytes.now ≡ true }
     requires there { slot < length (rows_in widths.now bytes.now).records }
     ensures { into.new ≡ record_at (rows_in widths.now bytes.now).records slot }
 {
-    let at = place_of(widths, bytes, slot);
+    let at = place_of(widths, size, bytes, slot);
     read_record(&bytes[at..], widths, into);
 }
 
-/// Whether there are as many records as the page holds.
-pub(crate) fn is_full(widths: &[u8], bytes: &[u8]) -> bool
-    requires are { are_widths widths.now ≡ true }
-    requires few { length widths.now ≤ 15 }
-    requires page { is_page widths.now bytes.now ≡ true }
-    ensures { (result ≡ true) ↔ (capacity widths.now
-        ≤ length (rows_in widths.now bytes.now).records) }
-{
-    many_in(widths, bytes) as usize >= capacity_of(widths)
-}
-
-/// Puts a record after the others.
-pub(crate) fn push_record(widths: &[u8], bytes: &mut [u8], row: &Record)
+/// Puts a record after the others, where each has so many bytes.
+pub(crate) fn push_record(widths: &[u8], size: u16, bytes: &mut [u8], row: &Record)
+    requires size { size ≡ record_size widths.now }
     requires are { are_widths widths.now ≡ true }
     requires few { length widths.now ≤ 15 }
     requires page { is_page widths.now bytes.old ≡ true }
@@ -96,7 +85,7 @@ pub(crate) fn push_record(widths: &[u8], bytes: &mut [u8], row: &Record)
         ≡ with_record (rows_in widths.now bytes.old) row.now }
 {
     let count = many_in(widths, bytes);
-    let at = place_of(widths, bytes, count);
+    let at = place_of(widths, size, bytes, count);
     put_record(row, widths, &mut bytes[at..]);
     put_count(count + 1, bytes);
 }

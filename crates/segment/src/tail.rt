@@ -165,7 +165,7 @@ impl Tail {
         ensures rows { OnOk result (rows_in self.new ≡ rows_in self.old ++ row.now ∷ []) }
         ensures widths { self.new.widths ≡ self.old.widths }
     {
-        if (self.last.len() as usize) >= capacity_of(self.widths.as_slice()) {
+        if self.last.is_full() {
             self.turn()?;
         }
         self.put(row);

@@ -9,7 +9,7 @@ ghost use Rattle.store_catalogue.specs.Entries.{branch_of, name_of, origin_of};
 ghost use Rattle.db_store.specs.Counts.{recounted};
 
 use crate::KeyedTable;
-use db_value::{Changes, Entry, Name, Record, Schema, VersionPlace, Widths};
+use db_value::{Changes, Entry, Name, Schema, VersionPlace, Widths};
 
 /// The most changes of an entry.
 const MOST_CHANGES: usize = 65_536;
@@ -105,27 +105,20 @@ fn stands_before_next(changes: &Changes, at: usize) -> bool
     first < second || (first == second && changes.key(at) < changes.key(next))
 }
 
-// Does a change put fields that meet these widths, and tell the same widths, or does it delete? The row
-// is one to read into.
-fn change_meets(widths: &Widths, changes: &Changes, at: usize, row: &mut Record) -> bool
+// Does a change put fields that meet these widths, and tell the same widths, or does it delete?
+fn change_meets(widths: &Widths, changes: &Changes, at: usize) -> bool
     requires { at < length changes.now }
     ensures { result ≡ (has_fields widths.now (change_here changes.now at).fields && has_widths
         widths.now (change_here changes.now at).fields (change_here changes.now at).widths) }
 {
-    let puts = changes.read(at, row);
+    let puts = changes.puts(at);
     let Some(own) = changes.widths(at) else {
         return !puts;
     };
-    if !puts {
-        return false;
-    }
-    if !own.are_same(widths) {
-        return false;
-    }
-    widths.meets(&row.fields)
+    puts && own.are_same(widths) && changes.meets(at, widths)
 }
 
-fn change_fits(schema: &Schema, changes: &Changes, at: usize, row: &mut Record) -> bool
+fn change_fits(schema: &Schema, changes: &Changes, at: usize) -> bool
     requires { at < length changes.now }
     ensures { result ≡ change_fits schema.now (change_here changes.now at) }
 {
@@ -133,7 +126,7 @@ fn change_fits(schema: &Schema, changes: &Changes, at: usize, row: &mut Record) 
     if relation as usize >= schema.relations().len() {
         return false;
     }
-    change_meets(&schema.widths(relation), changes, at, row)
+    change_meets(&schema.widths(relation), changes, at)
 }
 
 // Do changes ascend, and does each fit a schema? It goes over them once.
@@ -141,12 +134,11 @@ fn change_fits(schema: &Schema, changes: &Changes, at: usize, row: &mut Record) 
 fn ascend_and_fit(schema: &Schema, changes: &Changes) -> bool
     ensures { result ≡ (ascends changes.now && list_all (change_fits schema.now) changes.now) }
 {
-    let mut row = Record::blank();
     for at in 0..changes.len() {
         if !stands_before_next(changes, at) {
             return false;
         }
-        if !change_fits(schema, changes, at, &mut row) {
+        if !change_fits(schema, changes, at) {
             return false;
         }
     }

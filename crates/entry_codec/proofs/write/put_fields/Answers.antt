@@ -1,6 +1,5 @@
 use Rattle.std.proofs.Common.{◌≡◌, ◌++◌, Bool, List, ℕ, subst, sym}
 use Rattle.std.specs.Prelude.{OnOk}
-use Rattle.db_value.specs.RowForm.{row_bytes}
 use Rattle.entry_codec.specs.Wide.{wide_bytes}
 use Rattle.entry_codec.specs.Spelling.{row_form}
 use Rattle.entry_codec.proofs.write.put_fields.Goals as goal
@@ -13,4 +12,4 @@ returns-then-wide-clause-bytes c =
 pub returns-clause-bytes : goal.returns-clause-bytes
 returns-clause-bytes c =
     subst (λ (w : Bool). OnOk c.push_row.result (c.push_row.new.out.items ≡ c.args.out.now.items ++ row_form w c.args.widths.now c.args.fields.now)) (sym c.if-wide.false)
-    (subst (λ (ws : List ℕ). OnOk c.push_row.result (c.push_row.new.out.items ≡ c.args.out.now.items ++ row_bytes ws c.args.fields.now)) c.as_slice-2.ensures.value c.push_row.ensures.bytes)
+    c.push_row.ensures.bytes
