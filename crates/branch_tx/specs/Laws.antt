@@ -13,7 +13,7 @@ use Rattle.stmt_text.specs.declared.stmt.Stmt.{Stmt}
 use Rattle.stmt_text.specs.declared.stmt.Stmt.TheVariants.{Begin}
 use Rattle.branch_tx.specs.Keeping.{Private, privately, over_table}
 use Rattle.branch_tx.specs.Act.{Tx}
-use Rattle.branch_tx.specs.Alone.{alone, overlaid, reply_alone, reply_after, entry_of}
+use Rattle.branch_tx.specs.Alone.{alone, overlaid, reply_alone, reply_after, entry_of, IsShort}
 
 -- the touched keys of a relation, ascending
 abbrev pub keys_of : Overlay → List ℕ
@@ -54,3 +54,8 @@ AllRoomy (x ∷ xs) = IsRoomy x × AllRoomy xs
 abbrev pub EntryLaw : Type 0
 EntryLaw = (d : Dataset) (b : ℕ) (xs : List Stmt) (e : Entry) → IsSound d → IsCounted d → b < length d.branches → AllRoomy xs
     → entry_of (over_table (head_of d b)) d.schema b (overlaid d b xs) ≡ Some e → fits d e ≡ true
+
+-- the entry of a transaction isn't too large
+abbrev pub ShortLaw : Type 0
+ShortLaw = (d : Dataset) (b : ℕ) (xs : List Stmt) (e : Entry) → IsSound d → IsCounted d → b < length d.branches → AllRoomy xs
+    → entry_of (over_table (head_of d b)) d.schema b (overlaid d b xs) ≡ Some e → IsShort e
