@@ -14,7 +14,7 @@ use Rattle.db_value.specs.declared.entry.Entry.{Entry}
 use Rattle.db_value.specs.declared.entry.Entry.TheVariants.{Commit as CommitEntry, Branch as BranchEntry}
 use Rattle.db_store.specs.Table.{Table, relation_at, with_changes}
 use Rattle.db_store.specs.Overlay.{Overlay, overlay_at, over, laid, own_widths, change_of, changes_from, count_touched}
-use Rattle.db_store.specs.Body.{commit_size, most_entry}
+use Rattle.db_store.specs.Body.{commit_size, most_entry, IsShort}
 use Rattle.db_store.specs.RowWidths.{all_widths}
 use Rattle.db_store.specs.OverlayRules.{get_laid}
 use Rattle.db_store.specs.Dataset.{Dataset, branch_at, head_of}
@@ -25,7 +25,7 @@ use Rattle.db_store.proofs.OverlayLemmas.{length_laid, length_changes, with_over
 use Rattle.db_store.proofs.WidthLemmas.{widths_here}
 use Rattle.branch_tx.specs.Keeping.{privately, over_table}
 use Rattle.branch_tx.specs.Act.{Tx}
-use Rattle.branch_tx.specs.Alone.{overlaid, has_changed, entry_made, IsShort}
+use Rattle.branch_tx.specs.Alone.{overlaid, has_changed, entry_made}
 use Rattle.branch_tx.specs.Laws.{TableLaw, EntryLaw, ShortLaw}
 use Rattle.branch_tx.proofs.Private.{State, IsIn, changes_same, IsWork}
 use Rattle.branch_tx.proofs.Alike.{overlaid_work, head_table, few_relations, alone_same}

@@ -1,5 +1,5 @@
 -- One transaction run alone on a dataset, on a branch b. Lists of lines are newest first.
-use Rattle.std.specs.Prelude.{ℕ, ◌≤◌, ◌||◌, nat_lt, nat_le, is_some, cond, Bool, true, false, List, [], ◌∷◌, length, Option, Some, None}
+use Rattle.std.specs.Prelude.{ℕ, ◌||◌, nat_lt, nat_le, is_some, cond, Bool, true, false, List, [], ◌∷◌, length, Option, Some, None}
 use Rattle.db_value.specs.declared.condition.Prefer.{Prefer}
 use Rattle.db_value.specs.declared.schema.Relation.{Relation}
 use Rattle.db_value.specs.declared.version.VersionPlace.{VersionPlace}
@@ -10,7 +10,6 @@ use Rattle.db_value.specs.declared.reply.Reply.TheVariants.{Done, Made}
 use Rattle.db_value.specs.declared.reply.Refusal.{Refusal}
 use Rattle.db_value.specs.declared.reply.Refusal.TheVariants.{NoBranch as RefusedBranch, InTransaction, NoTransaction, NotFirst, BranchThere, BranchesFull}
 use Rattle.db_store.specs.Overlay.{Overlay, untouched}
-use Rattle.db_store.specs.Body.{commit_size, most_entry}
 use Rattle.db_store.specs.RowWidths.{all_widths}
 use Rattle.db_store.specs.Table.{Table}
 use Rattle.db_store.specs.Dataset.{Dataset, branch_at, branch_named, head_of, head_place, table_at}
@@ -133,11 +132,6 @@ module _ {W : Type 0} (k : Keeping W) where
   -- the entry of a transaction that ends
   abbrev pub entry_of : List Relation → ℕ → Tx W → Option Entry
   entry_of schema b tx = entry_made schema b tx tx.made
-
--- an entry that isn't too large: a commit by the size of its changes, and each new branch
-abbrev pub IsShort : Entry → Type 0
-IsShort (CommitEntry b second changes) = commit_size second changes ≤ most_entry
-IsShort (BranchEntry name origin) = Unit {0}
 
 -- a transaction's lines on a whole private table, which is a copy of the branch's head
 abbrev pub alone : Dataset → ℕ → List Stmt → Tx Private

@@ -4,6 +4,7 @@ use Rattle.std.specs.FinMap as finite
 use Rattle.db_value.specs.declared.entry.Entry.{Entry}
 use Rattle.db_store.specs.Table.{Table, with_changes}
 use Rattle.db_store.specs.Overlay.{Overlay, laid, untouched}
+use Rattle.db_store.specs.Body.{IsShort}
 use Rattle.db_store.specs.RowWidths.{all_widths}
 use Rattle.db_store.specs.Dataset.{Dataset, head_of}
 use Rattle.db_store.specs.Fits.{fits}
@@ -13,7 +14,7 @@ use Rattle.stmt_text.specs.declared.stmt.Stmt.{Stmt}
 use Rattle.stmt_text.specs.declared.stmt.Stmt.TheVariants.{Begin}
 use Rattle.branch_tx.specs.Keeping.{Private, privately, over_table}
 use Rattle.branch_tx.specs.Act.{Tx}
-use Rattle.branch_tx.specs.Alone.{alone, overlaid, reply_alone, reply_after, entry_of, IsShort}
+use Rattle.branch_tx.specs.Alone.{alone, overlaid, reply_alone, reply_after, entry_of}
 
 -- the touched keys of a relation, ascending
 abbrev pub keys_of : Overlay → List ℕ

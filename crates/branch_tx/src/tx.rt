@@ -1,11 +1,12 @@
 //! A granted transaction.
-ghost use Rattle.std.specs.Prelude.{◌≡◌, ◌++◌, ◌∷◌, [], None, Some, length, IfOk, IfSome, OnOk, OnErr};
+ghost use Rattle.std.specs.Prelude.{◌≡◌, ◌++◌, ◌∷◌, [], None, Some, length, IfOk, OnOk, OnErr};
+ghost use Rattle.db_store.specs.Body.{IsShortIf};
 ghost use Rattle.db_store.specs.Overlay.{laid, untouched};
 ghost use Rattle.db_store.specs.Parts.{IsViewable};
 ghost use Rattle.db_store.specs.RowWidths.{all_widths};
 ghost use Rattle.db_store.specs.WorkState.{under_of, overlays_of, room_of, widths_of, second_of};
 ghost use Rattle.branch_tx.specs.Keeping.{over_table};
-ghost use Rattle.branch_tx.specs.Alone.{commit_entry, IsShort};
+ghost use Rattle.branch_tx.specs.Alone.{commit_entry};
 ghost use Rattle.branch_tx.specs.Granted.{ungranted, tx_in, has_done, lent_table, views_of};
 ghost use Rattle.branch_tx.specs.Shown.{parts_by, ViewsAgree};
 
@@ -183,7 +184,7 @@ impl<St: Store> Tx<St> {
     pub fn entry(&self, branch: u32) -> Result<Option<Entry>, AllocError>
         ensures entry { IfOk result (λ e.
             e ≡ commit_entry (over_table self.now.head) self.now.schema branch (tx_in self.now)) }
-        ensures short { IfOk result (λ e. IfSome e IsShort) }
+        ensures short { IfOk result (λ e. IsShortIf e) }
     {
         if !self.has_done() {
             return Ok(None);
