@@ -122,7 +122,7 @@ module _ {W : Type 0} (k : Keeping W) where
   cond_begun true o p o' p' e f = e
   cond_begun false o p o' p' e f = f
 
-  asked_begun : (tx : Tx W) (o : Option Refusal) (x' x : Outcome W) → x' ≡ done_begun x → unless (begun tx) o x' ≡ done_begun (unless tx o x)
+  pub asked_begun : (tx : Tx W) (o : Option Refusal) (x' x : Outcome W) → x' ≡ done_begun x → unless (begun tx) o x' ≡ done_begun (unless tx o x)
   asked_begun tx None x' x e = e
   asked_begun tx (Some why) x' x e = refl
 

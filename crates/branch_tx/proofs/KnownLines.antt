@@ -6,11 +6,14 @@ use Rattle.db_value.specs.Relations.{columns_at, widths_at}
 use Rattle.db_value.specs.Widths.{meets}
 use Rattle.db_value.specs.Condition.{holds}
 use Rattle.db_value.specs.Pred.{stop_by, condition_stop}
+use Rattle.db_value.specs.declared.record.Record.{Record}
 use Rattle.db_value.specs.declared.condition.Set.{Set}
 use Rattle.db_value.specs.declared.condition.Term.{Term}
 use Rattle.db_value.specs.declared.version.VersionName.{VersionName}
 use Rattle.db_value.specs.declared.reply.Refusal.{Refusal}
 use Rattle.db_store.specs.Overlay.{Overlay}
+use Rattle.db_store.specs.Work.{fields_at, insert_stop, change_stop, updated as updated_with}
+use Rattle.db_store.specs.declared.work.WorkStop.{WorkStop}
 use Rattle.stmt_text.specs.declared.stmt.Stmt.{Stmt}
 use Rattle.stmt_text.specs.declared.stmt.Stmt.TheVariants.{Insert, Update, Delete, Get, Scan, Join, Minus}
 use Rattle.stmt_text.specs.declared.stmt.NamedSet.{NamedSet}
@@ -23,10 +26,11 @@ use Rattle.line_needs.proofs.MisfitLemmas.{met_refusal}
 use Rattle.line_needs.proofs.SetLemmas.{AreFitting}
 use Rattle.line_needs.proofs.Knowing.{Stops, AreAsked, relation_is, known_insert, known_update, known_scan, known_join, relation_stops, insert_stops, update_stops, scan_stops, join_stops}
 use Rattle.branch_tx.specs.Keeping.{over_table}
-use Rattle.branch_tx.specs.Act.{Outcome, refused, unless, insert_in, insert_of, update_in, update_of, delete_of, source_at, get_of, scan_of, join_with, join_of, minus_of}
+use Rattle.branch_tx.specs.Act.{Outcome, refused, unless, unless_full, insert_in, insert_of, update_in, update_of, delete_of, source_at, get_of, scan_of, join_with, join_of, minus_of}
 use Rattle.branch_tx.specs.Granted.{Granted, ground_in, source_in, names_or_none, tx_in, has_done, known_in, acted, looked_up, scanned, joined, told_apart}
 use Rattle.branch_tx.proofs.Images.{named_within}
 use Rattle.branch_tx.proofs.EarlyLines.{act_known}
+use Rattle.branch_tx.proofs.Stopping.{working_in, changed_by, insert_by, update_by, delete_by}
 
 -- ---- a statement that is refused
 
@@ -62,24 +66,30 @@ module _ (g : Granted) (k : Known) where
 -- ---- any other statement: its relation is there, and this is what it does
 
 module _ (g : Granted) where
-  -- what an insertion and an update do, once their relation is known
-  abbrev pub inserted : ℕ → List ℕ → ℕ → List Value → Outcome (List Overlay)
-  inserted r name key fields = insert_in (over_table g.head) (ground_in g) (tx_in g) r name key fields
+  -- what a change of a key does, once its relation is known and nothing but the working table stops it
+  abbrev pub changed : ℕ → List ℕ → ℕ → Option (List Value) → Option WorkStop → Outcome (List Overlay)
+  changed r name key state stop = unless_full (ground_in g) (tx_in g) (changed_by g r name key state stop)
 
+  -- an insertion
+  abbrev pub inserted : ℕ → List ℕ → Record → Outcome (List Overlay)
+  inserted r name row = changed r name row.key (Some row.fields) (insert_stop (working_in g) r row)
+
+  -- an update
   abbrev pub updated : ℕ → List ℕ → ℕ → List Set → Outcome (List Overlay)
-  updated r name key sets = update_in (over_table g.head) (ground_in g) (tx_in g) r name key (Ok sets) None
+  updated r name key sets = changed r name key (updated_with sets (fields_at (working_in g) r key)) (change_stop (working_in g) r key (updated_with sets (fields_at (working_in g) r key)))
 
-  -- a deletion likewise
+  -- a deletion
   abbrev pub deleted : ℕ → List ℕ → ℕ → Outcome (List Overlay)
-  deleted r name key = delete_of (over_table g.head) (ground_in g) (tx_in g) name key (Some r)
+  deleted r name key = changed r name key None (change_stop (working_in g) r key None)
 
   pub insert_is : (name : List ℕ) (key : ℕ) (fields : List Value) (r : ℕ) → known_in g (Insert name key fields) ≡ Of r
-      → (r < length g.schema) × (acted g (Insert name key fields) ≡ inserted r name key fields) × (meets (widths_at g.schema r) fields ≡ true)
+      → (r < length g.schema) × (acted g (Insert name key fields) ≡ inserted r name (record { key = key; fields = fields })) × (meets (widths_at g.schema r) fields ≡ true)
   insert_is name key fields r e =
       let is = known_insert g.schema true (has_done g) name key fields r e in (
         named_within g.schema name r is.0,
         ap (insert_of (over_table g.head) (ground_in g) (tx_in g) name key fields) is.0
-            ∙ ap (λ (o : Option Refusal). unless (tx_in g) o (inserted r name key fields)) (sym (met_refusal g.schema name fields r is.1)),
+            ∙ ap (λ (o : Option Refusal). unless (tx_in g) o (insert_in (over_table g.head) (ground_in g) (tx_in g) r name key fields)) (sym (met_refusal g.schema name fields r is.1))
+            ∙ ap (unless_full (ground_in g) (tx_in g)) (insert_by g r name (record { key = key; fields = fields })),
         is.1,
       )
 
@@ -90,14 +100,18 @@ module _ (g : Granted) where
         named_within g.schema name r is.0,
         is.1.long,
         ap (update_of (over_table g.head) (ground_in g) (tx_in g) name key named) is.0
-            ∙ (λ i. update_in (over_table g.head) (ground_in g) (tx_in g) r name key (is.1.found i) (is.1.taken i)),
+            ∙ (λ i. update_in (over_table g.head) (ground_in g) (tx_in g) r name key (is.1.found i) (is.1.taken i))
+            ∙ ap (unless_full (ground_in g) (tx_in g)) (update_by g r name key (sets_at columns named)),
         is.1.fitting,
       )
 
   pub delete_is : (name : List ℕ) (key r : ℕ) → known_in g (Delete name key) ≡ Of r → (r < length g.schema) × (acted g (Delete name key) ≡ deleted r name key)
   delete_is name key r e =
       let is = relation_is name (relation_named g.schema name) r e in
-      (named_within g.schema name r is, ap (delete_of (over_table g.head) (ground_in g) (tx_in g) name key) is)
+      (
+        named_within g.schema name r is,
+        ap (delete_of (over_table g.head) (ground_in g) (tx_in g) name key) is ∙ ap (unless_full (ground_in g) (tx_in g)) (delete_by g r name key),
+      )
 
   pub get_is : (name : List ℕ) (key : ℕ) (at : Option VersionName) (r : ℕ) → known_in g (Get name key at) ≡ Of r
       → (r < length g.schema) × (acted g (Get name key at) ≡ looked_up g r key (source_at (over_table g.head) (source_in g) at))

@@ -25,6 +25,7 @@ use Rattle.branch_tx.specs.Act.{Outcome, body_refusal, refused, answered, unless
 use Rattle.branch_tx.specs.Merging.{relation_name, conflict_in, merge_refusal, put_all, merged_to}
 use Rattle.branch_tx.specs.Granted.{Granted, ground_in, tx_in, merged, adopted}
 use Rattle.branch_tx.proofs.Fitting.{put_all_is}
+use Rattle.branch_tx.proofs.Stopping.{working_in}
 
 -- the name of a column among the names of all
 pub name_at : (columns : List Column) (i : ℕ) (d : Column) → i < length columns → (get_or columns i d).name ≡ get_or (map (λ c. c.name) columns) i []
@@ -75,7 +76,7 @@ full_within n (m ∷ ms) r e = by (nat_le (finite.len m) most_keys) (λ q. full_
 -- ---- a transaction that has touched nothing
 
 abbrev pub stop_in : Granted → VersionPlace → List Change → Option WorkStop
-stop_in g from cs = adopt_stop (record { below = g.head; overlays = g.overlays; room = g.room; widths = all_widths g.schema; second = g.second }) from cs
+stop_in g from cs = adopt_stop (working_in g) from cs
 
 -- why it refuses a merge that has no conflict, but for want of space in the entry
 abbrev pub given : Granted → List Change → Option Refusal

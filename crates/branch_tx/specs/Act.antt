@@ -19,7 +19,7 @@ use Rattle.db_store.specs.Table.{Contents, relation_at, rows_of}
 use Rattle.db_store.specs.Fits.{most_keys}
 use Rattle.db_store.specs.Body.{commit_size, most_entry}
 use Rattle.db_store.specs.RowWidths.{all_widths}
-use Rattle.db_store.specs.Work.{with_sets}
+pub use Rattle.db_store.specs.Work.{updated}
 pub use Rattle.db_store.specs.Rows.{marked}
 pub use Rattle.multi_scan.specs.Multi.{union_marked}
 pub use Rattle.version_join.specs.Join.{pairs_of, unlike}
@@ -72,11 +72,6 @@ change_refusal name key room (Some old) true = None
 abbrev pub body_refusal : Bool → Option Refusal
 body_refusal true = None
 body_refusal false = Some BodyFull
-
--- fields with new values
-abbrev pub updated : List Set → Option (List Value) → Option (List Value)
-updated sets None = None
-updated sets (Some old) = Some (with_sets old sets)
 
 -- the record of a key with these fields, if it has any
 abbrev pub record_with : ℕ → Option (List Value) → Option Record

@@ -1,30 +1,37 @@
 -- How many bytes the changes of overlays have, and what a touch makes of them.
-use Rattle.std.proofs.Common.{◌≡◌, ◌⊎◌, inl, inr, ℕ, zero, suc, ◌+◌, ◌-◌, ◌*◌, ◌^◌, ◌<◌, ◌≤◌, ◌==◌, Bool, true, false, cond, ◌&&◌, ◌||◌, not, nat_lt, nat_le, T, is_some, List, [], ◌∷◌, ◌++◌, map, length, set, drop, Option, Some, None, Ordering, Less, Equal, Greater, refl, ap, sym, ◌∙◌, subst, arith, add-zero}
+use Rattle.std.proofs.Common.{◌≡◌, ◌⊎◌, inl, inr, ℕ, zero, suc, ◌+◌, ◌-◌, ◌*◌, ◌/◌, ◌^◌, ◌<◌, ◌≤◌, ◌==◌, Bool, true, false, cond, ◌&&◌, ◌||◌, not, nat_lt, nat_le, T, is_some, List, [], ◌∷◌, ◌++◌, map, length, set, drop, Option, Some, None, Ordering, Less, Equal, Greater, refl, ap, sym, ◌∙◌, subst, arith, add-zero}
 use Rattle.std.specs.List.{list_all, list_any}
 use Rattle.std.specs.Ordering.{nat_cmp, is_lt, is_eq, eq_by_cmp}
 use Rattle.std.specs.Cmp.{ranked}
 use Rattle.std.proofs.lemmas.Cmp.{nat_cmp_total}
-use Rattle.std.proofs.lemmas.Bool.{and_parts, not-true, lt-ltb, ltb-true, le-leb, leb-true, ne_eqb, cases_lt, false≢true}
+use Rattle.std.proofs.lemmas.Bool.{and_parts, and_from, not-true, lt-ltb, ltb-true, le-leb, lt-leb, leb-true, ne_eqb, cases_lt, false≢true}
 use Rattle.std.proofs.lemmas.List.{length-set, drop_more}
 use Rattle.std.proofs.lemmas.Nat.{mul-le}
+use Rattle.std.proofs.Math.Nat.{div-mul-le_self}
 use Rattle.std.specs.FinMap as finite
 use Rattle.std.specs.FinMap.Entries.{find, put, by_order, is_sorted, below_all}
 use Rattle.db_value.specs.Value.{Value}
 use Rattle.db_value.specs.RowForm.{row_size}
 use Rattle.db_value.specs.PackedChanges.{change_here}
+use Rattle.db_value.specs.Relations.{widths_at}
+use Rattle.db_value.proofs.Same.{bytes_is}
+use Rattle.db_value.specs.declared.schema.Relation.{Relation}
 use Rattle.db_value.specs.declared.version.VersionPlace.{VersionPlace}
 use Rattle.db_value.specs.declared.entry.Change.{Change}
+use Rattle.work_region.specs.declared.rows.RowFrame.{RowFrame as Touch}
 use Rattle.db_store.specs.declared.tally.Tally.{Tally}
-use Rattle.db_store.specs.RowWidths.{most_of, most_from}
+use Rattle.db_store.specs.Touched.{state_of}
+use Rattle.db_store.specs.Fits.{has_fields, has_widths, change_fits}
+use Rattle.db_store.specs.RowWidths.{all_widths, most_of, most_from}
 use Rattle.db_store.specs.Body.{any_of_texts, have_texts, has_text, any_text, wide_size, form_size, fields_size, change_size, changes_size, second_size, commit_size, most_entry}
 use Rattle.db_store.specs.Tally.{text_count, tally_of, no_tally, weight, weight_at, exchanged, size_in, with_own}
 use Rattle.db_store.specs.Overlay.{Overlay, untouched, overlay_at, is_touched, count_touched, touch, own_widths, widths_if, change_of, changes_in, changes_from}
 use Rattle.db_store.specs.OverlayRules.{two_true, less_is}
 use Rattle.db_store.specs.TouchRules.{same_key}
 use Rattle.db_store.specs.Adopt.{is_of_key, keys_differ, touched_by}
-use Rattle.db_store.proofs.OverlayLemmas.{count_untouched, length_changes}
-use Rattle.db_store.proofs.WidthLemmas.{most_more, most_here}
-use Rattle.db_store.proofs.AdoptLemmas.{AreFresh, fresh_untouched, fresh_after, touch_length, count_by}
+use Rattle.db_store.proofs.OverlayLemmas.{count_untouched, count_touch, length_changes}
+use Rattle.db_store.proofs.WidthLemmas.{most_more, most_here, widths_here}
+use Rattle.db_store.proofs.AdoptLemmas.{AreFresh, fresh_untouched, fresh_after, touch_length, next_change}
 
 -- the sum of a number that each change has by its widths
 abbrev pub weigh : (Option (List ℕ) → ℕ) → List Change → ℕ
@@ -47,14 +54,14 @@ texts_are [] = refl
 texts_are (c ∷ cs) = ap (λ n. text_by c.widths + n) (texts_are cs)
 
 pub weigh_then : (h : Option (List ℕ) → ℕ) (cs ds : List Change) → weigh h (cs ++ ds) ≡ weigh h cs + weigh h ds
-weigh_then h [] ds = refl
+weigh_then h [] ds = omega arith
 weigh_then h (c ∷ cs) ds = let e = weigh_then h cs ds in omega (arith, e)
 
 -- ---- the form of an entry
 
 some_text : (b : Bool) (n : ℕ) → (b || nat_lt 0 n) ≡ nat_lt 0 (cond b 1 0 + n)
 some_text true n = sym (lt-ltb 0 (1 + n) (omega arith))
-some_text false n = refl
+some_text false n = let same : n ≡ 0 + n = omega arith in ap (λ m. nat_lt 0 m) same
 
 -- a change has a text where their count isn't 0
 pub any_is : (cs : List Change) → any_text cs ≡ nat_lt 0 (text_count cs)
@@ -153,9 +160,26 @@ tally_small wss os room few wide small =
     let c = texts_most wss os in
     record { plain = omega (arith, a, product); wide = omega (arith, b, product); texts = omega (arith, c, few, wide) }
 
-second_most : (second : Option VersionPlace) → second_size second ≤ 9
+pub second_most : (second : Option VersionPlace) → second_size second ≤ 9
 second_most None = omega arith
 second_most (Some at) = omega arith
+
+-- so few keys have so few bytes
+pub sure_enough : (room most : ℕ) → nat_le room ((16777216 - 18) / (9 + most)) ≡ true → 18 + room * (9 + most) ≤ most_entry
+sure_enough room most e =
+    let le = leb-true room ((16777216 - 18) / (9 + most)) e in
+    let product = mul-le room (9 + most) ((16777216 - 18) / (9 + most)) (9 + most) le (omega arith) in
+    let whole = div-mul-le_self (16777216 - 18) (9 + most) in
+    omega (arith, product, whole)
+
+-- how many keys are touched after a touch for which there is room
+pub count_after : (os : List Overlay) (r key : ℕ) (st : Option (List Value)) (room : ℕ) → r < length os → count_touched os ≤ room → (is_touched os r key || nat_lt (count_touched os) room) ≡ true → count_touched (touch os r key st) ≤ room
+count_after os r key st room l few h = by (is_touched os r key) (nat_lt (count_touched os) room) refl h (count_touch os r key st l)
+  where
+    by : (b q : Bool) → nat_lt (count_touched os) room ≡ q → (b || q) ≡ true → count_touched (touch os r key st) ≡ cond b (count_touched os) (count_touched os + 1) → count_touched (touch os r key st) ≤ room
+    by true q e h is = omega (arith, is, few)
+    by false true e h is = let less = ltb-true (count_touched os) room e in omega (arith, is, less)
+    by false false e h is = absurd (false≢true h)
 
 -- an entry takes the changes of so few keys
 pub sure_short : (second : Option VersionPlace) (wss : List (List ℕ)) (os : List Overlay) (room most : ℕ) → most ≡ most_from 10 wss → count_touched os ≤ room → 18 + room * (9 + most) ≤ most_entry → commit_size second (changes_from wss 0 os) ≤ most_entry
@@ -164,6 +188,14 @@ sure_short second wss os room most is few enough =
     let b = mul-le (count_touched os) (9 + most_from 10 wss) room (9 + most) few (omega (arith, is)) in
     let c = second_most second in
     omega (arith, a, b, c, enough)
+
+-- an entry takes what is left beside its other parts
+pub fits_is : (a b m : ℕ) → b ≤ m → nat_le a (m - b) ≡ nat_le (b + a) m
+fits_is a b m l = by (cases_lt m (b + a))
+  where
+    by : (m < b + a) ⊎ (b + a ≤ m) → nat_le a (m - b) ≡ nat_le (b + a) m
+    by (inl h) = lt-leb a (m - b) (omega (arith, l, h)) ∙ sym (lt-leb (b + a) m h)
+    by (inr h) = le-leb a (m - b) (omega (arith, l, h)) ∙ sym (le-leb (b + a) m h)
 
 -- ---- a touch
 
@@ -193,9 +225,6 @@ none_under k x (e ∷ es) h s =
     ap (λ (b : Bool). cond b (Some e.1) (find nat_cmp k es)) (same_key k e.0 ∙ ne_eqb k e.0 (λ q. omega (arith, h, less, q))) ∙ none_under k x es h two.1
 
 module _ (h : Option (List ℕ) → ℕ) (ws : List ℕ) (n : ℕ) (k : ℕ) (st : Option (List Value)) where
-  sum_of : List (ℕ × Option (List Value)) → ℕ
-  sum_of es = weigh h (map (change_of ws n) es)
-
   put_entries : (es : List (ℕ × Option (List Value))) → T (is_sorted nat_cmp es) → Exchanges (had h ws (find nat_cmp k es)) (h (widths_if ws st)) (weigh h (map (change_of ws n) es)) (weigh h (map (change_of ws n) (put nat_cmp k st es)))
   put_entries [] s = record { rest = 0; before = refl; after = omega arith }
   put_entries (e ∷ es) s = by (nat_cmp k e.0) refl
@@ -248,6 +277,13 @@ touched_weigh h wss os r key st l =
     (touched_from h wss 0 os r key st l)
 
 -- ---- the tally after a touch
+
+-- tallies with the same numbers
+pub same_tally : (t u : Tally) → t.plain ≡ u.plain → t.wide ≡ u.wide → t.texts ≡ u.texts → t ≡ u
+same_tally t u p w x =
+    ap (λ n. let y : Tally = record { plain = n; wide = t.wide; texts = t.texts } in y) p
+    ∙ ap (λ n. let y : Tally = record { plain = u.plain; wide = n; texts = t.texts } in y) w
+    ∙ ap (λ n. let y : Tally = record { plain = u.plain; wide = u.wide; texts = n } in y) x
 
 -- what the old tally has of a key
 pub record IsPartOf (old t : Tally) : Type 0 where
@@ -303,12 +339,35 @@ tally_touched wss os r key st l =
     let t : Tally = tally_of (changes_from wss 0 os) in
     let u : Tally = tally_of (changes_from wss 0 (touch os r key st)) in
     same_tally (exchanged t old new) u (less_more _ _ _ _ (sized false wss os r key st l)) (less_more _ _ _ _ (sized true wss os r key st l)) (less_more _ _ _ _ (texted wss os r key st l))
-  where
-    same_tally : (t u : Tally) → t.plain ≡ u.plain → t.wide ≡ u.wide → t.texts ≡ u.texts → t ≡ u
-    same_tally t u p w x =
-        ap (λ n. let y : Tally = record { plain = n; wide = t.wide; texts = t.texts } in y) p
-        ∙ ap (λ n. let y : Tally = record { plain = u.plain; wide = n; texts = t.texts } in y) w
-        ∙ ap (λ n. let y : Tally = record { plain = u.plain; wide = u.wide; texts = n } in y) x
+
+-- the widths beside the final state of a key
+pub live_widths : (ws : List ℕ) (t : Touch) → cond t.live (Some ws) None ≡ widths_if ws (state_of t)
+live_widths ws t = elim t.live as (λ b. cond b (Some ws) None ≡ widths_if ws (cond b (Some t.row.fields) None)) [ true ↦ refl | false ↦ refl ]
+
+-- and beside fields
+pub widths_beside : (ws : List ℕ) (fields : Option (List Value)) → cond (is_some fields) (Some ws) None ≡ widths_if ws fields
+widths_beside ws None = refl
+widths_beside ws (Some vs) = refl
+
+-- what a tally is that was kept
+pub old_part : (wss : List (List ℕ)) (os : List Overlay) (r key : ℕ) (t old : Tally) → r < length os → t ≡ tally_of (changes_from wss 0 os) → old ≡ weight_at (own_widths wss r) (finite.get (overlay_at os r) key) → IsPartOf old t
+old_part wss os r key t old l is e = subst (λ (x : Tally). IsPartOf x t) (sym e) (subst (λ (x : Tally). IsPartOf (weight_at (own_widths wss r) (finite.get (overlay_at os r) key)) x) (sym is) (part_of wss os r key l))
+
+pub small_part : (wss : List (List ℕ)) (os : List Overlay) (room : ℕ) (t : Tally) → t ≡ tally_of (changes_from wss 0 os) → count_touched os ≤ room → room < 2 ^ 32 → most_from 10 wss < 2 ^ 16 → IsSmall t
+small_part wss os room t is few wide small = subst IsSmall (sym is) (tally_small wss os room few wide small)
+
+-- and what it becomes
+pub new_tally : (wss : List (List ℕ)) (os : List Overlay) (r key : ℕ) (st : Option (List Value)) (t old : Tally) (ws : Option (List ℕ)) → r < length os → t ≡ tally_of (changes_from wss 0 os) → old ≡ weight_at (own_widths wss r) (finite.get (overlay_at os r) key) → ws ≡ widths_if (own_widths wss r) st
+    → exchanged t old (weight ws) ≡ tally_of (changes_from wss 0 (touch os r key st))
+new_tally wss os r key st t old ws l is e own =
+    ap (λ (x : Tally). exchanged x old (weight ws)) is
+    ∙ ap (λ (x : Tally). exchanged (tally_of (changes_from wss 0 os)) x (weight ws)) e
+    ∙ ap (λ (x : Option (List ℕ)). exchanged (tally_of (changes_from wss 0 os)) (weight_at (own_widths wss r) (finite.get (overlay_at os r) key)) (weight x)) own
+    ∙ tally_touched wss os r key st l
+
+-- whether an entry can take changes
+pub body_tallied : (second : Option VersionPlace) (cs : List Change) (t : Tally) → t ≡ tally_of cs → nat_le (9 + second_size second + size_in t) most_entry ≡ nat_le (commit_size second cs) most_entry
+body_tallied second cs t is = ap (λ n. nat_le n most_entry) (ap (λ (x : Tally). 9 + second_size second + size_in x) is ∙ sym (commit_tallied second cs))
 
 -- ---- all changes of a merge
 
@@ -343,6 +402,22 @@ none_weigh h wss = by (changes_from wss 0 untouched) (length_none wss)
     by [] e = refl
     by (c ∷ cs) e = absurd (omega (arith, e))
 
+pub tally_untouched : (wss : List (List ℕ)) → tally_of (changes_from wss 0 untouched) ≡ no_tally
+tally_untouched wss =
+    let none : List Change = changes_from wss 0 untouched in
+    let plain : changes_size false none ≡ 0 = size_is false none ∙ none_weigh (size_by false) wss in
+    let wide : changes_size true none ≡ 0 = size_is true none ∙ none_weigh (size_by true) wss in
+    let texts : text_count none ≡ 0 = texts_are none ∙ none_weigh text_by wss in
+    ap (λ n. let y : Tally = record { plain = n; wide = changes_size true none; texts = text_count none } in y) plain
+    ∙ ap (λ n. let y : Tally = record { plain = 0; wide = n; texts = text_count none } in y) wide
+    ∙ ap (λ n. let y : Tally = record { plain = 0; wide = 0; texts = n } in y) texts
+
+pub short_untouched : (second : Option VersionPlace) (wss : List (List ℕ)) → commit_size second (changes_from wss 0 untouched) ≤ most_entry
+short_untouched second wss =
+    let none = size_is (any_text (changes_from wss 0 untouched)) (changes_from wss 0 untouched) ∙ none_weigh (size_by (any_text (changes_from wss 0 untouched))) wss in
+    let few = second_most second in
+    omega (arith, none, few)
+
 -- the tally of a merge
 pub tally_merged : (wss : List (List ℕ)) (cs : List Change) → list_all (λ c. nat_lt c.relation 8) cs ≡ true → keys_differ cs ≡ true → tally_of (map (with_own wss) cs) ≡ tally_of (changes_from wss 0 (touched_by untouched cs))
 tally_merged wss cs w d =
@@ -360,3 +435,62 @@ tally_merged wss cs w d =
         let none = none_weigh h wss in
         let by = weigh_by h wss untouched cs w d (fresh_untouched cs) in
         omega (arith, none, by)
+
+-- ---- one change more
+
+-- with one change more the tally has what it has
+pub record AddsNext (t u : Tally) (wss : List (List ℕ)) (cs : List Change) (i : ℕ) : Type 0 where
+  pub plain : u.plain + changes_size false (map (with_own wss) (drop (i + 1) cs)) ≡ t.plain + changes_size false (map (with_own wss) (drop i cs))
+  pub wide : u.wide + changes_size true (map (with_own wss) (drop (i + 1) cs)) ≡ t.wide + changes_size true (map (with_own wss) (drop i cs))
+  pub texts : u.texts + text_count (map (with_own wss) (drop (i + 1) cs)) ≡ t.texts + text_count (map (with_own wss) (drop i cs))
+
+pub next_tally : (t none u : Tally) (ws : Option (List ℕ)) (wss : List (List ℕ)) (cs : List Change) (i : ℕ) → i < length cs → none ≡ no_tally → u ≡ exchanged t none (weight ws) → ws ≡ widths_if (own_widths wss (change_here cs i).relation) (change_here cs i).fields → AddsNext t u wss cs i
+next_tally t none u ws wss cs i h zeros is own =
+    let one : Change = with_own wss (change_here cs i) in
+    let sum : u ≡ exchanged t no_tally (weight one.widths) = is ∙ ap (λ (x : Tally). exchanged t x (weight ws)) zeros ∙ ap (λ (x : Option (List ℕ)). exchanged t no_tally (weight x)) own in
+    let next : drop i cs ≡ change_here cs i ∷ drop (i + 1) cs = next_change cs i h in
+    record {
+      plain = omega (arith, ap (λ (x : Tally). x.plain) sum, ap (λ (ds : List Change). changes_size false (map (with_own wss) ds)) next);
+      wide = omega (arith, ap (λ (x : Tally). x.wide) sum, ap (λ (ds : List Change). changes_size true (map (with_own wss) ds)) next);
+      texts = omega (arith, ap (λ (x : Tally). x.texts) sum, ap (λ (ds : List Change). text_count (map (with_own wss) ds)) next);
+    }
+
+-- ---- changes that fit
+
+-- widths that fit beside fields
+pub widths_fit : (ws : List ℕ) (fields : Option (List Value)) (widths : Option (List ℕ)) → has_widths ws fields widths ≡ true → widths_if ws fields ≡ widths
+widths_fit ws None None e = refl
+widths_fit ws None (Some us) e = absurd (false≢true e)
+widths_fit ws (Some fields) None e = absurd (false≢true e)
+widths_fit ws (Some fields) (Some us) e = ap (λ (vs : List ℕ). Some vs) (sym (bytes_is us ws e))
+
+pub fits_own : (schema : List Relation) (c : Change) → length schema ≤ 8 → change_fits schema c ≡ true → with_own (all_widths schema) c ≡ c
+fits_own schema c few fit =
+    let within = and_parts (nat_lt c.relation (length schema)) (has_fields (widths_at schema c.relation) c.fields && has_widths (widths_at schema c.relation) c.fields c.widths) fit in
+    let own = and_parts (has_fields (widths_at schema c.relation) c.fields) (has_widths (widths_at schema c.relation) c.fields c.widths) within.1 in
+    let l : c.relation < length schema = ltb-true c.relation (length schema) within.0 in
+    ap (λ (ws : Option (List ℕ)). let d : Change = record { relation = c.relation; key = c.key; fields = c.fields; widths = ws } in d)
+    (ap (λ (ws : List ℕ). widths_if ws c.fields) (widths_here schema c.relation l (omega (arith, l, few))) ∙ widths_fit (widths_at schema c.relation) c.fields c.widths own.1)
+
+all_own : (schema : List Relation) (cs : List Change) → length schema ≤ 8 → list_all (change_fits schema) cs ≡ true → map (with_own (all_widths schema)) cs ≡ cs
+all_own schema [] few fit = refl
+all_own schema (c ∷ cs) few fit =
+    let two = and_parts (change_fits schema c) (list_all (change_fits schema) cs) fit in
+    ap (λ (d : Change). d ∷ map (with_own (all_widths schema)) cs) (fits_own schema c few two.0) ∙ ap (λ (ds : List Change). c ∷ ds) (all_own schema cs few two.1)
+
+fit_within : (schema : List Relation) (cs : List Change) → length schema ≤ 8 → list_all (change_fits schema) cs ≡ true → list_all (λ c. nat_lt c.relation 8) cs ≡ true
+fit_within schema [] few fit = refl
+fit_within schema (c ∷ cs) few fit =
+    let two = and_parts (change_fits schema c) (list_all (change_fits schema) cs) fit in
+    let within = and_parts (nat_lt c.relation (length schema)) (has_fields (widths_at schema c.relation) c.fields && has_widths (widths_at schema c.relation) c.fields c.widths) two.0 in
+    let l : c.relation < length schema = ltb-true c.relation (length schema) within.0 in
+    and_from (nat_lt c.relation 8) (list_all (λ c. nat_lt c.relation 8) cs) (lt-ltb c.relation 8 (omega (arith, l, few))) (fit_within schema cs few two.1)
+
+-- an entry has as many bytes with the changes of a merge as with what is touched by them
+pub merged_size : (schema : List Relation) (second : Option VersionPlace) (cs : List Change) → length schema ≤ 8 → list_all (change_fits schema) cs ≡ true → keys_differ cs ≡ true
+    → commit_size second (changes_from (all_widths schema) 0 (touched_by untouched cs)) ≡ commit_size second cs
+merged_size schema second cs few fit differ =
+    commit_tallied second (changes_from (all_widths schema) 0 (touched_by untouched cs))
+    ∙ ap (λ (t : Tally). 9 + second_size second + size_in t)
+    (sym (tally_merged (all_widths schema) cs (fit_within schema cs few fit) differ) ∙ ap tally_of (all_own schema cs few fit))
+    ∙ sym (commit_tallied second cs)

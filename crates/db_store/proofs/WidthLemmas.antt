@@ -61,7 +61,7 @@ most_first most ws wss = by (cases_lt most (most_of ws))
         other true = most_more (most_of ws) wss
         other false = let m = most_more most wss in omega (arith, l, m)
 
-most_here : (most r : ℕ) (wss : List (List ℕ)) → r < length wss → most_of (own_widths wss r) ≤ most_from most wss
+pub most_here : (most r : ℕ) (wss : List (List ℕ)) → r < length wss → most_of (own_widths wss r) ≤ most_from most wss
 most_here most r [] h = absurd (omega (arith, h))
 most_here most zero (ws ∷ wss) h = most_first most ws wss
 most_here most (suc r) (ws ∷ wss) h = most_here (cond (nat_lt most (most_of ws)) (most_of ws) most) r wss (omega (arith, h))

@@ -1,9 +1,11 @@
 -- How many bytes the entry of a commit has. They follow from the widths of its changes: a number has 8 bytes, and a text as many as its column is wide. If one of the changes has a text, the width of its column stands before each field.
-use Rattle.std.specs.Prelude.{ℕ, suc, ◌+◌, ◌==◌, not, Bool, true, false, List, [], ◌∷◌, Option, Some, None}
+use Rattle.std.specs.Prelude.{ℕ, suc, ◌+◌, ◌≤◌, ◌==◌, not, Bool, true, false, List, [], ◌∷◌, Option, Some, None}
 use Rattle.std.specs.List.{list_any}
 use Rattle.db_value.specs.RowForm.{field_size, row_size}
 use Rattle.db_value.specs.declared.version.VersionPlace.{VersionPlace}
 use Rattle.db_value.specs.declared.entry.Change.{Change}
+use Rattle.db_value.specs.declared.entry.Entry.{Entry}
+use Rattle.db_value.specs.declared.entry.Entry.TheVariants.{Commit, Branch}
 
 -- the most bytes of an entry
 abbrev pub most_entry : ℕ
@@ -60,3 +62,13 @@ second_size (Some at) = 9
 -- a commit has a kind, the number of its branch, a second parent or none, the number of its changes, and these
 abbrev pub commit_size : Option VersionPlace → List Change → ℕ
 commit_size second cs = 9 + second_size second + changes_size (any_text cs) cs
+
+-- a commit has no more bytes than an entry can have; a new branch never has
+abbrev pub IsShort : Entry → Type 0
+IsShort (Commit branch second changes) = commit_size second changes ≤ most_entry
+IsShort (Branch name origin) = Unit {0}
+
+-- the same of an entry that may not be there
+abbrev pub IsShortIf : Option Entry → Type 0
+IsShortIf None = Unit {0}
+IsShortIf (Some e) = IsShort e

@@ -1,5 +1,5 @@
 //! How many bytes the changes of a transaction have in its entry, counted as they come.
-ghost use Rattle.std.specs.Prelude.{◌≡◌, ◌≤◌, ◌<◌, ◌+◌, ◌^◌, nat_le, nat_lt, true, cond, Some, None, length, map};
+ghost use Rattle.std.specs.Prelude.{◌≡◌, ◌≤◌, ◌<◌, ◌+◌, ◌*◌, ◌^◌, nat_le, nat_lt, true, cond, Some, None, length, map};
 ghost use Rattle.std.specs.List.{list_all};
 ghost use Rattle.db_store.specs.Body.{is_of_texts, any_of_texts, second_size, most_entry};
 ghost use Rattle.db_store.specs.Tally.{no_tally, weight, exchanged, size_in, tally_of, with_own};
@@ -28,9 +28,16 @@ pub fn any_of_texts(widths: &[u8]) -> bool
     false
 }
 
+fn one_if(holds: bool) -> u64
+    ensures { result ≡ cond holds 1 0 }
+{
+    if holds { 1 } else { 0 }
+}
+
 /// How many bytes an entry has for a second parent, or for none.
 pub fn size_of_second(second: &Option<VersionPlace>) -> usize
-    ensures { result ≡ second_size second.now }
+    ensures size { result ≡ second_size second.now }
+    ensures few { result ≤ 9 }
 {
     match second {
         None => 1,
@@ -78,20 +85,26 @@ impl Tally {
         Tally {
             plain: 10 + size,
             wide: 10 + (own.len() as u64 + size),
-            texts: any_of_texts(own) as u64,
+            texts: one_if(any_of_texts(own)),
         }
     }
 
-    /// These changes, one of which has something else than before. The numbers are far below their
-    /// limit.
-    pub fn exchange(&self, old: &Tally, new: &Tally) -> Tally
+    /// These changes, one of which is now that of a key of a relation with these widths. It puts a
+    /// record or deletes it.
+    pub fn exchange(&self, old: &Tally, widths: &Widths, puts: bool) -> Tally
         requires plain { old.now.plain ≤ self.now.plain }
         requires wide { old.now.wide ≤ self.now.wide }
         requires texts { old.now.texts ≤ self.now.texts }
-        requires small { (self.now.plain < 2 ^ 62) × ((self.now.wide < 2 ^ 62) × (self.now.texts < 2 ^ 62)) }
-        requires more { (new.now.plain < 2 ^ 62) × ((new.now.wide < 2 ^ 62) × (new.now.texts < 2 ^ 62)) }
-        ensures { result ≡ exchanged self.now old.now new.now }
+        requires small_plain { self.now.plain < 2 ^ 62 }
+        requires small_wide { self.now.wide < 2 ^ 62 }
+        requires small_texts { self.now.texts < 2 ^ 62 }
+        ensures tally { result
+            ≡ exchanged self.now old.now (weight (cond puts (Some widths.now) None)) }
+        ensures more_plain { result.plain ≤ self.now.plain + 4000 }
+        ensures more_wide { result.wide ≤ self.now.wide + 4000 }
+        ensures more_texts { result.texts ≤ self.now.texts + 4000 }
     {
+        let new = Tally::of_change(widths, puts);
         Tally {
             plain: self.plain - old.plain + new.plain,
             wide: self.wide - old.wide + new.wide,
@@ -119,6 +132,13 @@ impl Tally {
     }
 }
 
+/// Takes an entry surely all changes of so many keys, whose rows take at most so many bytes?
+pub fn is_sure(room: u32, most: u16) -> bool
+    ensures { result ≡ true → 18 + room * (9 + most) ≤ most_entry }
+{
+    room as u64 <= (MOST_ENTRY - 18) / (9 + most as u64)
+}
+
 /// What changes have, each with the widths of its relation.
 pub fn tally_of(changes: &Changes, widths: &[Widths]) -> Tally
     requires few { length changes.now < 2 ^ 32 }
@@ -128,8 +148,8 @@ pub fn tally_of(changes: &Changes, widths: &[Widths]) -> Tally
     let none = Tally::none();
     let mut tally = none;
     for at in 0..changes.len() {
-        let widths = &widths[changes.relation(at) as usize];
-        tally = tally.exchange(&none, &Tally::of_change(widths, changes.puts(at)));
+        let relation = changes.relation(at) as usize;
+        tally = tally.exchange(&none, &widths[relation], changes.puts(at));
     }
     tally
 }

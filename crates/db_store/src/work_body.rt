@@ -11,10 +11,18 @@ ghost use Rattle.db_store.specs.Work.{has_room, is_body, touched_with, with_pare
 use crate::View;
 use crate::tally::{Tally, tally_of};
 use crate::work::Work;
-use db_value::{Changes, Record, VersionPlace};
+use db_value::{Changes, Record, VersionPlace, Widths};
 
 impl<V: View> Work<V> {
     ghost use Rattle.db_store.specs.WorkState.{under_of, overlays_of, room_of, widths_of, working_of};
+
+    // The widths of a relation.
+    fn own_widths(&self, relation: u8) -> Widths
+        requires { relation < length (V.table (under_of self.now)) }
+        ensures { result ≡ own_widths (widths_of self.now) relation }
+    {
+        self.widths[relation as usize]
+    }
 
     // What the change of a key has now.
     fn tally_at(&self, relation: u8, key: u64) -> Tally
@@ -25,7 +33,7 @@ impl<V: View> Work<V> {
         match self.touched.place_of(relation, key) {
             None => Tally::none(),
             Some(place) => {
-                Tally::of_change(&self.widths[relation as usize], self.touched.is_live(place))
+                Tally::of_change(&self.own_widths(relation), self.touched.is_live(place))
             }
         }
     }
@@ -45,8 +53,8 @@ impl<V: View> Work<V> {
             return Some(self.tally);
         }
         let old = self.tally_at(relation, row.key);
-        let new = Tally::of_change(&self.widths[relation as usize], live);
-        let tally = self.tally.exchange(&old, &new);
+        let own = self.own_widths(relation);
+        let tally = self.tally.exchange(&old, &own, live);
         if !tally.fits(&self.second) {
             return None;
         }

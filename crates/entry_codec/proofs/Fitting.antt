@@ -1,7 +1,8 @@
 -- An entry that fits a dataset is within the rules of spelling.
-use Rattle.std.proofs.Common.{◌≡◌, ◌∙◌, ℕ, ◌<◌, ◌≤◌, ◌&&◌, nat_lt, nat_le, true, List, [], ◌∷◌, length, refl, ap, arith, Option, Some, None}
+use Rattle.std.proofs.Common.{◌≡◌, ◌∙◌, ℕ, ◌<◌, ◌≤◌, ◌&&◌, nat_lt, nat_le, not, true, List, [], ◌∷◌, length, refl, ap, arith, Option, Some, None}
 use Rattle.std.specs.List.{list_all}
 use Rattle.std.proofs.lemmas.Bool.{and_parts, and_from, ltb-true, leb-true, false≢true}
+use Rattle.db_value.specs.Text.{is_name, is_name_byte, starts_with_letter, is_reserved}
 use Rattle.db_value.specs.Value.{Value}
 use Rattle.db_value.specs.Width.{are_widths}
 use Rattle.db_value.specs.Widths.{meets}
@@ -18,8 +19,10 @@ use Rattle.db_store.specs.Sound.{IsSound}
 use Rattle.db_store.specs.Counted.{IsCounted}
 use Rattle.db_store.specs.Fits.{fits, ascends, change_fits, has_fields, has_widths, changes_fit, second_fits, most_branches, most_versions}
 use Rattle.db_store.specs.Growth.{CommitFits, commit_parts, made_from}
-use Rattle.entry_codec.specs.Spelling.{are_met, is_met, HasFewChanges, HasMetChanges}
+use Rattle.db_store.specs.Body.{IsShort, most_entry}
+use Rattle.entry_codec.specs.Spelling.{spelling, are_met, is_met, HasFewChanges, HasMetChanges}
 use Rattle.entry_codec.specs.Laws.{IsPlace, IsPlaceIfAny, AreValuesIfAny, AreFields, IsChange, AreChanges, AreRanged, HasRanges, IsNamed, IsEntry, FittingLaw}
+use Rattle.entry_codec.proofs.Back.{size_is}
 
 -- the widths of a change are those of its relation
 fields_are : (ws : List ℕ) (fields : Option (List Value)) (widths : Option (List ℕ)) → are_widths ws ≡ true → has_fields ws fields ≡ true → has_widths ws fields widths ≡ true → AreValuesIfAny fields → AreFields fields widths
@@ -88,3 +91,20 @@ fitting d (Commit b second changes) s counted fit ranged named =
       ascending = few.1;
     }
 fitting d (Branch name origin) s counted fit ranged named = (named, place_is d origin s (made_from d origin (and_parts _ _ fit).1))
+
+name_short : (name : List ℕ) → is_name name ≡ true → length name ≤ 32
+unfolding is_name
+name_short name e =
+    let a = and_parts (nat_le (length name) 32 && starts_with_letter name && list_all is_name_byte name) (not (is_reserved name)) e in
+    let b = and_parts (nat_le (length name) 32 && starts_with_letter name) (list_all is_name_byte name) a.0 in
+    leb-true (length name) 32 (and_parts (nat_le (length name) 32) (starts_with_letter name) b.0).0
+
+-- so a batch can take the spelling of one
+pub short_fit : (d : Dataset) (e : Entry) → fits d e ≡ true → IsNamed e → IsShort e → length (spelling e) ≤ most_entry
+short_fit d (Commit b second changes) fit named short =
+    let size = size_is (Commit b second changes) (met_fit d (Commit b second changes) fit) in
+    omega (arith, size, short)
+short_fit d (Branch name origin) fit named short =
+    let size = size_is (Branch name origin) tt in
+    let few = name_short name named in
+    omega (arith, size, few)

@@ -13,7 +13,7 @@ use Rattle.db_value.specs.declared.entry.Change.{Change}
 use Rattle.db_store.specs.Fits.{is_before, first_is_before, ascends}
 use Rattle.entry_codec.specs.Pushed.{Pushes, PushesForm}
 use Rattle.entry_codec.specs.Grammar.{form_in, row_of, change_of, is_change, change_in, changes_in, onto}
-use Rattle.db_store.specs.Body.{has_text, any_text, change_size, changes_size}
+use Rattle.db_store.specs.Body.{has_text, any_text, form_size, change_size, changes_size}
 use Rattle.entry_codec.specs.Spelling.{row_form, field_count, fields_bytes, change_bytes, are_met, is_met}
 
 -- changes in front of others
@@ -137,6 +137,6 @@ pushed_none true old new r key b e = (refl, e)
 pushed_none false old new r key b e = subst (λ (o : Option (List ℕ)). PushesForm false old new r key 0 b o (Some 0)) (sym (ap (λ (q : Bool). cond q (Some []) None) (le-leb 0 (length b) (omega arith)))) (refl, e)
 
 -- a record that is put
-pub pushed_some : (wide : Bool) (old new : List Change) (r key n : ℕ) (b ws : List ℕ) (size : ℕ) → 0 < n → size ≡ length (row_form wide ws (row_of wide ws b)) → new ≡ old ++ record { relation = r; key = key; fields = Some (row_of wide ws b); widths = Some ws } ∷ [] → PushesForm wide old new r key n b (Some ws) (Some size)
+pub pushed_some : (wide : Bool) (old new : List Change) (r key n : ℕ) (b ws : List ℕ) (size : ℕ) → 0 < n → size ≡ form_size wide ws → new ≡ old ++ record { relation = r; key = key; fields = Some (row_of wide ws b); widths = Some ws } ∷ [] → PushesForm wide old new r key n b (Some ws) (Some size)
 pushed_some wide old new r key zero b ws size h e p = absurd (omega (arith, h))
 pushed_some wide old new r key (suc n) b ws size h e p = (ap (λ (k : ℕ). Some k) e, p)

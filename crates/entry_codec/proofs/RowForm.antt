@@ -9,8 +9,8 @@ use Rattle.db_value.specs.Widths.{meets}
 use Rattle.db_value.specs.RowForm.{row_size, row_bytes, row_in, is_row}
 use Rattle.db_value.proofs.RowForms.{size_of_row_bytes, row_again, row_spelled}
 use Rattle.entry_codec.specs.Wide.{wide_in}
-use Rattle.db_store.specs.Body.{is_of_texts, form_size}
-use Rattle.entry_codec.specs.Spelling.{number_widths, row_form}
+use Rattle.db_store.specs.Body.{is_of_texts, form_size, fields_size}
+use Rattle.entry_codec.specs.Spelling.{number_widths, row_form, fields_bytes, are_met}
 use Rattle.entry_codec.specs.Grammar.{form_in, row_of}
 use Rattle.entry_codec.proofs.WideForms.{AreSmall, again_both, spelled_all, size_of_wide}
 
@@ -65,7 +65,7 @@ pub record IsForm (wide : Bool) (n : ℕ) (ws b : List ℕ) : Type 0 where
   pub values : AllByRecursion IsValue (row_of wide ws b)
   pub many : length ws ≡ n
   pub kind : wide ≡ false → list_any is_of_texts ws ≡ false
-  pub same : b ≡ row_form wide ws (row_of wide ws b) ++ drop (length (row_form wide ws (row_of wide ws b))) b
+  pub same : b ≡ row_form wide ws (row_of wide ws b) ++ drop (form_size wide ws) b
 
 some_is : {T : Type 0} (x y : T) → Some x ≡ Some y → x ≡ y
 some_is x y is = cc is
@@ -84,7 +84,7 @@ form_spelled true n ws b small is =
       values = read.values;
       many = read.many;
       kind = λ e. absurd (false≢true (sym e));
-      same = sym (ap (λ k. row_form true ws (wide_in ws b) ++ drop k b) (size_of_wide ws (wide_in ws b) read.meets) ∙ read.same);
+      same = sym read.same;
     }
 form_spelled false n ws b small is =
     let held = tested (nat_le (row_size (number_widths n)) (length b)) (Some (number_widths n)) ws is in
@@ -96,7 +96,7 @@ form_spelled false n ws b small is =
       values = read.1.1;
       many = length-replicate n 0;
       kind = λ e. no_texts n;
-      same = sym (ap (λ k. row_bytes (number_widths n) (row_in (number_widths n) b) ++ drop k b) (size_of_row_bytes (number_widths n) (row_in (number_widths n) b) read.1.0) ∙ read.0);
+      same = sym read.0;
     })
 
 -- numbers that were read stand there
@@ -111,13 +111,20 @@ taken_zeros zero k h = refl
 taken_zeros (suc n) zero h = absurd (omega (arith, h))
 taken_zeros (suc n) (suc k) h = ap (λ (us : List ℕ). 0 ∷ us) (taken_zeros n k (omega (arith, h)))
 
--- the size of a form is that of the fields that were read
-pub read_size : (wide : Bool) (n : ℕ) (ws b : List ℕ) → AreSmall b → form_in wide n b ≡ Some ws → form_size wide ws ≡ length (row_form wide ws (row_of wide ws b))
-read_size true n ws b small is = sym (size_of_wide ws (wide_in ws b) (spelled_all n ws b small is).meets)
-read_size false n ws b small is = sym (size_of_row_bytes ws (row_in ws b) (form_spelled false n ws b small is).meets)
-
 pub read_widths : (wide : Bool) (n : ℕ) (ws b : List ℕ) → AreSmall b → form_in wide n b ≡ Some ws → 0 < n → n ≤ 15 → are_widths ws ≡ true
 read_widths wide n ws b small is some few =
     let form = form_spelled wide n ws b small is in
     let many = form.many in
     and_from (nat_lt 0 (length ws)) (nat_le (length ws) 15 && list_all is_width ws) (lt-ltb 0 (length ws) (omega (arith, many, some))) (and_from (nat_le (length ws) 15) (list_all is_width ws) (le-leb (length ws) 15 (omega (arith, many, few))) form.widths)
+
+-- how many bytes fields have that meet widths
+pub size_of_form : (wide : Bool) (ws : List ℕ) (fields : List Value) → meets ws fields ≡ true → length (row_form wide ws fields) ≡ form_size wide ws
+size_of_form true ws fields met = size_of_wide ws fields met
+size_of_form false ws fields met = size_of_row_bytes ws fields met
+
+-- and those of a change whose fields meet its widths, if it has some
+pub size_of_fields : (wide : Bool) (fields : Option (List Value)) (widths : Option (List ℕ)) → are_met fields widths ≡ true → length (fields_bytes wide fields widths) ≡ fields_size wide widths
+size_of_fields wide None None met = refl
+size_of_fields wide None (Some ws) met = absurd (false≢true met)
+size_of_fields wide (Some fields) None met = absurd (false≢true met)
+size_of_fields wide (Some fields) (Some ws) met = size_of_form wide ws fields met

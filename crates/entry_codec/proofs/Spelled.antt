@@ -14,7 +14,7 @@ use Rattle.db_value.specs.declared.entry.Change.{Change}
 use Rattle.db_value.specs.declared.entry.Entry.{Entry}
 use Rattle.db_value.specs.declared.entry.Entry.TheVariants.{Commit, Branch}
 use Rattle.db_store.specs.Fits.{ascends, makes_version}
-use Rattle.db_store.specs.Body.{have_texts, has_text, any_text, second_size, change_size, changes_size}
+use Rattle.db_store.specs.Body.{have_texts, has_text, any_text, second_size, fields_size, change_size, changes_size}
 use Rattle.entry_codec.specs.Spelling.{place_bytes, second_bytes, field_count, fields_bytes, change_bytes, changes_bytes, kind_of, spelling, spellings, entry_size}
 use Rattle.entry_codec.specs.Grammar.{most_changes, u32_in, place_of, place_in, second_in, form_in, row_of, if_some, change_of, is_change, change_in, onto, changes_in, are_of_kind, commit_of, counted_in, commit_in, branch_in, entry_in, onto_entries, entries_from, entries_in}
 use Rattle.entry_codec.specs.Laws.{AreBytes, IsPlace, IsPlaceIfAny, AreFields, IsChange, AreChanges, IsCommit, IsEntry, AreEntries}
@@ -133,7 +133,7 @@ second_read (tag ∷ b) second are is = second_with (tag == 0) (tag == 1) tag b 
 
 -- fields, if there are some, in the first bytes
 fields_read : (wide : Bool) (n : ℕ) (ws b : List ℕ) → IsForm wide n ws b → n ≤ 15
-    → (b ≡ fields_bytes wide (if_some n (row_of wide ws b)) (if_some n ws) ++ drop (length (fields_bytes wide (if_some n (row_of wide ws b)) (if_some n ws))) b) × AreFields (if_some n (row_of wide ws b)) (if_some n ws)
+    → (b ≡ fields_bytes wide (if_some n (row_of wide ws b)) (if_some n ws) ++ drop (fields_size wide (if_some n ws)) b) × AreFields (if_some n (row_of wide ws b)) (if_some n ws)
 fields_read wide zero ws b form few = (refl, tt)
 fields_read wide (suc n) ws b form few =
     let many = form.many in
@@ -158,7 +158,7 @@ made_read wide relation n b ws are known few long is =
     let fields = fields_read wide n ws (drop 8 b) form few in
     let own = fields_bytes wide (if_some n (row_of wide ws (drop 8 b))) (if_some n ws) in
     let bytes = key_bytes ++ own in
-    let size : ℕ = length own in
+    let size : ℕ = fields_size wide (if_some n ws) in
     let whole : b ≡ bytes ++ drop (8 + size) b = two_parts 8 size b key_bytes own (split_at 8 b key_bytes key.0) fields.0 in
     let count : field_count (if_some n (row_of wide ws (drop 8 b))) ≡ n = count_read wide n ws (drop 8 b) form in (
       ap (λ (l : List ℕ). relation ∷ (n ∷ l)) whole

@@ -1,6 +1,7 @@
 //! What statements that are transactions of their own, and the ends of transactions, are to do.
 ghost use Rattle.std.specs.Prelude.{◌≡◌, ◌<◌, None, true, false, length, IfOk};
 ghost use Rattle.db_value.specs.Text.{is_name};
+ghost use Rattle.db_store.specs.Body.{IsShortIf};
 ghost use Rattle.db_store.specs.Dataset.{IsMade};
 ghost use Rattle.db_store.specs.State.{dataset_of};
 ghost use Rattle.line_needs.specs.Known.{known_of};
@@ -36,6 +37,7 @@ pub fn commit<St: Store>(store: &St, tx: &Tx<St>, branch: u32) -> Result<Plan, A
     ensures call { IfOk result (λ p. p.call ≡
         call_if (commit_over (dataset_of (St.state store.now)) branch (tx_in tx.now))) }
     ensures named { IfOk result (λ p. IsNamedIf (entry_called p.call)) }
+    ensures short { IfOk result (λ p. IsShortIf (entry_called p.call)) }
     ensures stays { IfOk result (λ p. p.moved ≡ None) }
 {
     let name = store.branch_name(branch);
@@ -63,6 +65,7 @@ pub fn end<St: Store>(store: &St, tx: &Tx<St>, branch: u32, stmt: &Stmt) -> Resu
     ensures call { IfOk result (λ p. p.call ≡
         call_if (entry_over (dataset_of (St.state store.now)) branch stmt.now (tx_in tx.now))) }
     ensures named { IfOk result (λ p. IsNamedIf (entry_called p.call)) }
+    ensures short { IfOk result (λ p. IsShortIf (entry_called p.call)) }
 {
     match stmt {
         Stmt::Commit => commit(store, tx, branch),
@@ -96,6 +99,7 @@ fn alone<St: Store>(
     ensures call { IfOk result (λ p. p.call ≡
         call_if (entry_out (dataset_of (St.state store.now)) branch stmt.now)) }
     ensures named { IfOk result (λ p. IsNamedIf (entry_called p.call)) }
+    ensures short { IfOk result (λ p. IsShortIf (entry_called p.call)) }
     ensures stays { IfOk result (λ p. p.moved ≡ None) }
 {
     let mut tx = open_tx(alloc, store, branch, USUAL_ROOM)?;
@@ -116,6 +120,7 @@ fn branch_at<St: Store>(store: &St, name: &Name, origin: VersionPlace) -> Plan
         (branched (dataset_of (St.state store.now)) name.now origin).tx.made) }
     ensures fits { FitsIf (dataset_of (St.state store.now)) (entry_called result.call) }
     ensures named { is_name name.now ≡ true → IsNamedIf (entry_called result.call) }
+    ensures short { IsShortIf (entry_called result.call) }
     ensures stays { result.moved ≡ None }
 {
     if store.branch(name).is_some() {
@@ -151,6 +156,7 @@ pub fn branch_of<St: Store>(store: &St, name: &Name, origin: &VersionName) -> Pl
         (branch_out (dataset_of (St.state store.now)) name.now origin.now).tx.made) }
     ensures fits { FitsIf (dataset_of (St.state store.now)) (entry_called result.call) }
     ensures named { is_name name.now ≡ true → IsNamedIf (entry_called result.call) }
+    ensures short { IsShortIf (entry_called result.call) }
     ensures stays { result.moved ≡ None }
 {
     match find_version(store, origin) {
@@ -208,6 +214,7 @@ pub fn own<St: Store>(
     ensures call { IfOk result (λ p. p.call ≡
         call_of stmt.now (entry_out (dataset_of (St.state store.now)) current stmt.now)) }
     ensures named { IfOk result (λ p. HasName stmt.now → IsNamedIf (entry_called p.call)) }
+    ensures short { IfOk result (λ p. IsShortIf (entry_called p.call)) }
     ensures moved { IfOk result (λ p. p.moved ≡
         (step_out (dataset_of (St.state store.now)) current stmt.now).tx.moved) }
 {

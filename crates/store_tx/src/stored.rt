@@ -2,6 +2,7 @@
 //! as an image.
 ghost use Rattle.std.specs.Prelude.{◌≡◌, ◌≤◌, Some, None, true, false, length, IfOk, OnOk, OnErr};
 ghost use Rattle.db_outside.specs.Record.{most_body};
+ghost use Rattle.db_store.specs.Body.{IsShort, IsShortIf};
 ghost use Rattle.db_store.specs.Fits.{fits};
 ghost use Rattle.db_store.specs.State.{dataset_of};
 ghost use Rattle.entry_codec.specs.Spelling.{spelling};
@@ -9,7 +10,7 @@ ghost use Rattle.entry_codec.specs.Laws.{IsNamed, IsEntry};
 ghost use Rattle.store_tx.specs.Ends.{grown};
 ghost use Rattle.store_tx.specs.Stored.{Stores, entry_called, told_if, stored_if, FitsIf, IsNamedIf, SparesIf};
 
-use db_outside::Batch;
+use db_outside::{Batch, BatchStop};
 use db_store::Store;
 use db_value::{Entry, Refusal, Reply};
 use entry_codec::{CheckpointStop, Log, encode, fitting_law};
@@ -67,11 +68,11 @@ pub fn unmarked<St: Store, J: Log<St>>(_store: &St, _log: &J, told: Reply) -> An
     }
 }
 
-// The batch of one entry, ready to be appended. An entry that fits is within the rules of spelling. One
-// that is too large for a batch is as want of memory; with columns of numbers alone none is.
+// The batch of one entry, ready to be appended. An entry that fits is within the rules of spelling.
 fn batch_of<St: Store>(alloc: Global, _store: &St, entry: &Entry) -> Result<Batch, AllocError>
     requires fits { fits (dataset_of (St.state _store.now)) entry.now ≡ true }
     requires named { IsNamed entry.now }
+    requires short { IsShort entry.now }
     ensures bytes { IfOk result (λ b. b ≡ spelling entry.now) }
     ensures within { OnOk result (IsEntry entry.now) }
     ensures few { IfOk result (λ b. length b ≤ most_body) }
@@ -81,7 +82,8 @@ fn batch_of<St: Store>(alloc: Global, _store: &St, entry: &Entry) -> Result<Batc
     let mut batch = Batch::new(alloc)?;
     match batch.add(bytes.as_slice()) {
         Ok(()) => Ok(batch),
-        Err(_) => Err(AllocError),
+        Err(BatchStop::Full) => unreachable!(),
+        Err(BatchStop::Memory) => Err(AllocError),
     }
 }
 
@@ -116,6 +118,7 @@ fn store_entry<St: Store, J: Log<St>>(
 ) -> Result<bool, AllocError>
     requires fits { fits (dataset_of (St.state store.old)) entry.now ≡ true }
     requires named { IsNamed entry.now }
+    requires short { IsShort entry.now }
     ensures state { IfOk result (λ failed. St.state store.new
         ≡ grown (St.state store.old) (stored_if failed (Some entry.now))) }
     ensures stores { IfOk result (λ failed. Stores J.Log (St.state store.old) failed
@@ -201,6 +204,7 @@ pub fn carry_out<St: Store, J: Log<St>>(
 ) -> Result<Answer, AllocError>
     requires fits { FitsIf (dataset_of (St.state store.old)) (entry_called plan.call) }
     requires named { IsNamedIf (entry_called plan.call) }
+    requires short { IsShortIf (entry_called plan.call) }
     ensures told { IfOk result (λ a. a.told ≡ told_if a.failed plan.told) }
     ensures state { IfOk result (λ a. St.state store.new
         ≡ grown (St.state store.old) (stored_if a.failed (entry_called plan.call))) }

@@ -5,7 +5,7 @@ use Rattle.db_value.specs.Width.{are_widths}
 use Rattle.db_value.specs.declared.entry.Change.{Change}
 use Rattle.entry_codec.specs.Grammar.{form_in, row_of}
 use Rattle.entry_codec.specs.Pushed.{PushesForm}
-use Rattle.entry_codec.proofs.RowForm.{read_size, read_widths}
+use Rattle.entry_codec.proofs.RowForm.{read_widths}
 use Rattle.entry_codec.proofs.Lists.{pushed_none, pushed_some}
 use Rattle.entry_codec.proofs.read.push_fields.Goals as goal
 
@@ -40,7 +40,7 @@ returns-in_ok-put-in-Some-clause-pushed c =
     let fields : c.take_form.new.into ≡ row_of wide ws b = c.take_form.ensures in
     let own : c.in-Some-of.own ≡ ws = c.in-Some-of.ensures.value in
     subst (λ (o : Option (List ℕ)). PushesForm wide old c.put.new.self r key n b o (Some c.in-Some.size)) (sym is)
-    (pushed_some wide old c.put.new.self r key n b ws c.in-Some.size (omega (arith, c.if-count-eq0.false)) (c.in-Some.ensures.size ∙ read_size wide n ws b (λ i. (c.type_inv.b i).fits) is)
+    (pushed_some wide old c.put.new.self r key n b ws c.in-Some.size (omega (arith, c.if-count-eq0.false)) c.in-Some.ensures.size
     (c.in_ok-put-in-Some.ensures.put
     ∙ ap (λ (fs : List Value). let x : Change = record { relation = r; key = key; fields = Some fs; widths = Some c.in-Some-of.own } in old ++ x ∷ []) fields
     ∙ ap (λ (us : List ℕ). let x : Change = record { relation = r; key = key; fields = Some (row_of wide ws b); widths = Some us } in old ++ x ∷ []) own))

@@ -1,4 +1,5 @@
 use Rattle.std.proofs.Common.{◌∙◌, ap, sym, subst, List, [], true}
+use Rattle.db_store.specs.Body.{IsShortIf}
 use Rattle.db_store.specs.Overlay.{Overlay}
 use Rattle.db_store.specs.State.{dataset_of}
 use Rattle.branch_tx.specs.Act.{Tx}
@@ -38,6 +39,7 @@ returns g c =
       told = c.plain.ensures.told ∙ own_answered d b x c.in_ok-told.told c.requires.works reply other;
       call = c.plain.ensures.call ∙ ap call_if (own_none d b x c.in_ok-told.told c.requires.works reply other);
       named = subst (λ (call : LogCall). IsNamedIf (entry_called call)) (sym c.plain.ensures.call) tt;
+      short = subst (λ (call : LogCall). IsShortIf (entry_called call)) (sym c.plain.ensures.call) tt;
       stays = c.plain.ensures.moved;
     }
 

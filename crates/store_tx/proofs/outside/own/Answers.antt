@@ -40,5 +40,6 @@ returns-in_ok-plan-in_default g c =
       told = e.told ∙ sym (other_told (g.St.Store.state c.args.store.now) c.args.stmt.now _ c.in_default.not-Segments);
       call = e.call ∙ sym (call_is c.args.stmt.now _ (work_asks c.args.stmt.now works));
       named = λ _. e.named;
+      short = e.short;
       moved = e.stays ∙ own_stay (dataset_of (g.St.Store.state c.args.store.now)) c.args.current c.args.stmt.now works;
     }

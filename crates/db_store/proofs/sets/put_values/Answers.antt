@@ -4,7 +4,7 @@ use Rattle.db_value.specs.Value.{Value}
 use Rattle.db_value.specs.declared.value.Value.TheVariants.{Number}
 use Rattle.db_value.specs.declared.condition.Set.{Set}
 use Rattle.db_store.specs.Work.{with_sets}
-use Rattle.db_store.proofs.work.put_values.Goals as goal
+use Rattle.db_store.proofs.sets.put_values.Goals as goal
 
 pub loop-set-preserved : goal.loop-set-preserved
 loop-set-preserved c =
