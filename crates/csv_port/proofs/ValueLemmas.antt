@@ -10,11 +10,11 @@ use Rattle.csv_port.specs.Written.{has_comma, next_text, text_cell}
 -- ---- one text as a cell
 
 pub bare_cell : (out before new t : List ℕ) (q : Bool) → q ≡ has_comma t → q ≡ false → before ≡ out ++ 44 ∷ [] → new ≡ before ++ t → new ≡ out ++ 44 ∷ text_cell t
-bare_cell out before new t q is no a b =
-    b ∙ ap (λ (u : List ℕ). u ++ t) a ∙ append_assoc out (44 ∷ []) t ∙ ap (λ (r : Bool). out ++ 44 ∷ cond r (34 ∷ t ++ 34 ∷ []) t) (sym (sym is ∙ no))
+bare_cell out before new t q is none a b =
+    b ∙ ap (λ (u : List ℕ). u ++ t) a ∙ append_assoc out (44 ∷ []) t ∙ ap (λ (r : Bool). out ++ 44 ∷ cond r (34 ∷ t ++ 34 ∷ []) t) (sym (sym is ∙ none))
 
 pub quoted_cell : (out new t : List ℕ) (q : Bool) → q ≡ has_comma t → q ≡ true → new ≡ out ++ 44 ∷ (34 ∷ t ++ 34 ∷ []) → new ≡ out ++ 44 ∷ text_cell t
-quoted_cell out new t q is yes e = e ∙ ap (λ (r : Bool). out ++ 44 ∷ cond r (34 ∷ t ++ 34 ∷ []) t) (sym (sym is ∙ yes))
+quoted_cell out new t q is some e = e ∙ ap (λ (r : Bool). out ++ 44 ∷ cond r (34 ∷ t ++ 34 ∷ []) t) (sym (sym is ∙ some))
 
 -- ---- values and rows
 
