@@ -4,9 +4,7 @@ use Rattle.std.specs.Prelude.{Result, Ok, Err}
 use Rattle.db_value.specs.Value.{Value}
 use Rattle.std.specs.List.{filter}
 use Rattle.db_value.specs.Relations.{columns_at, widths_at}
-use Rattle.db_value.specs.Widths.{meets}
 use Rattle.db_value.specs.Condition.{holds}
-use Rattle.db_value.specs.Pred.{first_unknown}
 use Rattle.db_value.specs.declared.record.Record.{Record}
 use Rattle.db_value.specs.declared.schema.Relation.{Relation}
 use Rattle.db_value.specs.declared.version.VersionName.{VersionName}
@@ -24,9 +22,10 @@ use Rattle.stmt_text.specs.declared.stmt.ScanOver.TheVariants.{Current, Named, H
 use Rattle.branch_tx.specs.Keeping.{Keeping}
 use Rattle.db_store.specs.Found.{plain}
 use Rattle.branch_tx.specs.Found.{Source, Own, Other, Lacking, first_lacking}
-use Rattle.branch_tx.specs.Act.{Tx, Outcome, Ground, refused, answered, unless, changed_to, insert_of, update_in, update_of, delete_of, get_from, source_at, get_of, marked, union_marked, pairs_of, unlike, contents_from, rows_from, scan_versions, scan_over, scan_of, join_in, join_with, join_of, minus_of, act}
+use Rattle.branch_tx.specs.Act.{Tx, Outcome, Ground, body_refusal, refused, answered, unless, is_body, changed_to, insert_of, update_in, update_of, delete_of, get_from, source_at, get_of, marked, union_marked, pairs_of, unlike, contents_from, rows_from, scan_versions, scan_over, scan_of, join_in, join_with, join_of, minus_of, act}
 use Rattle.line_needs.specs.Columns.{relation_named, resolved}
-use Rattle.line_needs.specs.Early.{column_refusal}
+use Rattle.line_needs.specs.Misfits.{sets_misfit}
+use Rattle.line_needs.specs.Early.{row_refusal, terms_refusal}
 use Rattle.branch_tx.proofs.Images.{named_within}
 
 -- a reply that tells nothing more
@@ -41,25 +40,29 @@ module _ {W : Type 0} (k : Keeping W) (n : ℕ) (tx : Tx W) (P : Outcome W → T
   cond_does true o p h l = h
   cond_does false o p h l = l
 
-  changed_does : (r key : ℕ) (state : Option (List Value)) (o : Option Refusal) → r < n → P (changed_to k tx r key state o)
-  changed_does r key state (Some why) h = refuses why
-  changed_does r key state None h = puts r key state h
+  asked_does : (o : Option Refusal) (x : Outcome W) → P x → P (unless tx o x)
+  asked_does None x h = h
+  asked_does (Some why) x h = refuses why
+
+  changed_does : (schema : List Relation) (r key : ℕ) (state : Option (List Value)) (o : Option Refusal) → r < n → P (changed_to k schema tx r key state o)
+  changed_does schema r key state (Some why) h = refuses why
+  changed_does schema r key state None h = asked_does (body_refusal (is_body k schema tx.second (k.put tx.work r key state))) _ (puts r key state h)
 
   insert_does : (g : Ground) (name : List ℕ) (key : ℕ) (fields : List Value) (o : Option ℕ) → ((r : ℕ) → o ≡ Some r → r < n) → P (insert_of k g tx name key fields o)
   insert_does g name key fields None w = refuses _
-  insert_does g name key fields (Some r) w = cond_does (meets (widths_at g.schema r) fields) _ _ (cond_does g.full _ _ (refuses _) (changed_does r key (Some fields) _ (w r refl))) (refuses _)
+  insert_does g name key fields (Some r) w = asked_does (row_refusal g.schema name fields (Some r)) _ (cond_does g.full _ _ (refuses _) (changed_does g.schema r key (Some fields) _ (w r refl)))
 
-  update_does : (g : Ground) (r : ℕ) (name : List ℕ) (key : ℕ) (sets : Result (List Set) (List ℕ)) → r < n → P (update_in k g tx r name key sets)
-  update_does g r name key (Err column) h = refuses _
-  update_does g r name key (Ok sets) h = cond_does g.full _ _ (refuses _) (changed_does r key _ _ h)
+  update_does : (g : Ground) (r : ℕ) (name : List ℕ) (key : ℕ) (sets : Result (List Set) (List ℕ)) (misfit : Option Refusal) → r < n → P (update_in k g tx r name key sets misfit)
+  update_does g r name key (Err column) misfit h = refuses _
+  update_does g r name key (Ok sets) misfit h = asked_does misfit _ (cond_does g.full _ _ (refuses _) (changed_does g.schema r key _ _ h))
 
   update_of_does : (g : Ground) (name : List ℕ) (key : ℕ) (sets : List NamedSet) (o : Option ℕ) → ((r : ℕ) → o ≡ Some r → r < n) → P (update_of k g tx name key sets o)
   update_of_does g name key sets None w = refuses _
-  update_of_does g name key sets (Some r) w = update_does g r name key (resolved (widths_at g.schema r) (columns_at g.schema r) sets) (w r refl)
+  update_of_does g name key sets (Some r) w = update_does g r name key (resolved (columns_at g.schema r) sets) (sets_misfit (widths_at g.schema r) (columns_at g.schema r) sets) (w r refl)
 
   delete_does : (g : Ground) (name : List ℕ) (key : ℕ) (o : Option ℕ) → ((r : ℕ) → o ≡ Some r → r < n) → P (delete_of k g tx name key o)
   delete_does g name key None w = refuses _
-  delete_does g name key (Some r) w = cond_does g.full _ _ (refuses _) (changed_does r key None _ (w r refl))
+  delete_does g name key (Some r) w = cond_does g.full _ _ (refuses _) (changed_does g.schema r key None _ (w r refl))
 
   from_does : (r key : ℕ) (s : Source) → P (get_from k tx r key s)
   from_does r key Own = tells _ refl
@@ -69,10 +72,6 @@ module _ {W : Type 0} (k : Keeping W) (n : ℕ) (tx : Tx W) (P : Outcome W → T
   get_does : (sources : VersionName → Source) (name : List ℕ) (key : ℕ) (at : Option VersionName) (o : Option ℕ) → P (get_of k sources tx name key at o)
   get_does sources name key at None = refuses _
   get_does sources name key at (Some r) = from_does r key (source_at k sources at)
-
-  asked_does : (o : Option Refusal) (x : Outcome W) → P x → P (unless tx o x)
-  asked_does None x h = h
-  asked_does (Some why) x h = refuses why
 
   versions_does : (sources : VersionName → Source) (r : ℕ) (p : Record → Bool) (names : List VersionName) → P (scan_versions k sources tx r p names)
   versions_does sources r p names = asked_does (first_lacking (map sources names)) _ (tells _ refl)
@@ -85,12 +84,12 @@ module _ {W : Type 0} (k : Keeping W) (n : ℕ) (tx : Tx W) (P : Outcome W → T
   scan_does : (schema : List Relation) (sources : VersionName → Source) (heads : List (List ℕ)) (name : List ℕ) (over : ScanOver) (terms : List Term) (o : Option ℕ) → P (scan_of k schema sources heads tx name over terms o)
   scan_does schema sources heads name over terms None = refuses _
   scan_does schema sources heads name over terms (Some r) =
-      asked_does (column_refusal (first_unknown (columns_at schema r) terms)) _ (over_does sources heads r (holds (columns_at schema r) terms) over)
+      asked_does (terms_refusal schema r terms) _ (over_does sources heads r (holds (columns_at schema r) terms) over)
 
   join_with_does : (schema : List Relation) (r : ℕ) (name : List ℕ) (left right : Source) (terms : List Term) (o : Option ℕ) → P (join_with k schema tx r name left right terms o)
   join_with_does schema r name left right terms None = refuses _
   join_with_does schema r name left right terms (Some s) =
-      asked_does (column_refusal (first_unknown (columns_at schema r) terms)) _ (asked_does (first_lacking (left ∷ right ∷ [])) _ (tells _ refl))
+      asked_does (terms_refusal schema r terms) _ (asked_does (first_lacking (left ∷ right ∷ [])) _ (tells _ refl))
 
   join_does : (schema : List Relation) (name other : List ℕ) (left right : Source) (terms : List Term) (o q : Option ℕ) → P (join_of k schema tx name other left right terms o q)
   join_does schema name other left right terms None q = refuses _
@@ -123,25 +122,29 @@ module _ {W : Type 0} (k : Keeping W) where
   cond_begun true o p o' p' e f = e
   cond_begun false o p o' p' e f = f
 
-  changed_begun : (tx : Tx W) (r key : ℕ) (state : Option (List Value)) (o : Option Refusal) → changed_to k (begun tx) r key state o ≡ done_begun (changed_to k tx r key state o)
-  changed_begun tx r key state (Some why) = refl
-  changed_begun tx r key state None = refl
+  pub asked_begun : (tx : Tx W) (o : Option Refusal) (x' x : Outcome W) → x' ≡ done_begun x → unless (begun tx) o x' ≡ done_begun (unless tx o x)
+  asked_begun tx None x' x e = e
+  asked_begun tx (Some why) x' x e = refl
+
+  changed_begun : (schema : List Relation) (tx : Tx W) (r key : ℕ) (state : Option (List Value)) (o : Option Refusal) → changed_to k schema (begun tx) r key state o ≡ done_begun (changed_to k schema tx r key state o)
+  changed_begun schema tx r key state (Some why) = refl
+  changed_begun schema tx r key state None = asked_begun tx (body_refusal (is_body k schema tx.second (k.put tx.work r key state))) _ _ refl
 
   insert_begun : (g : Ground) (tx : Tx W) (name : List ℕ) (key : ℕ) (fields : List Value) (o : Option ℕ) → insert_of k g (begun tx) name key fields o ≡ done_begun (insert_of k g tx name key fields o)
   insert_begun g tx name key fields None = refl
-  insert_begun g tx name key fields (Some r) = cond_begun (meets (widths_at g.schema r) fields) _ _ _ _ (cond_begun g.full _ _ _ _ refl (changed_begun tx r key (Some fields) _)) refl
+  insert_begun g tx name key fields (Some r) = asked_begun tx (row_refusal g.schema name fields (Some r)) _ _ (cond_begun g.full _ _ _ _ refl (changed_begun g.schema tx r key (Some fields) _))
 
-  update_begun : (g : Ground) (tx : Tx W) (r : ℕ) (name : List ℕ) (key : ℕ) (sets : Result (List Set) (List ℕ)) → update_in k g (begun tx) r name key sets ≡ done_begun (update_in k g tx r name key sets)
-  update_begun g tx r name key (Err column) = refl
-  update_begun g tx r name key (Ok sets) = cond_begun g.full _ _ _ _ refl (changed_begun tx r key _ _)
+  update_begun : (g : Ground) (tx : Tx W) (r : ℕ) (name : List ℕ) (key : ℕ) (sets : Result (List Set) (List ℕ)) (misfit : Option Refusal) → update_in k g (begun tx) r name key sets misfit ≡ done_begun (update_in k g tx r name key sets misfit)
+  update_begun g tx r name key (Err column) misfit = refl
+  update_begun g tx r name key (Ok sets) misfit = asked_begun tx misfit _ _ (cond_begun g.full _ _ _ _ refl (changed_begun g.schema tx r key _ _))
 
   update_of_begun : (g : Ground) (tx : Tx W) (name : List ℕ) (key : ℕ) (sets : List NamedSet) (o : Option ℕ) → update_of k g (begun tx) name key sets o ≡ done_begun (update_of k g tx name key sets o)
   update_of_begun g tx name key sets None = refl
-  update_of_begun g tx name key sets (Some r) = update_begun g tx r name key (resolved (widths_at g.schema r) (columns_at g.schema r) sets)
+  update_of_begun g tx name key sets (Some r) = update_begun g tx r name key (resolved (columns_at g.schema r) sets) (sets_misfit (widths_at g.schema r) (columns_at g.schema r) sets)
 
   delete_begun : (g : Ground) (tx : Tx W) (name : List ℕ) (key : ℕ) (o : Option ℕ) → delete_of k g (begun tx) name key o ≡ done_begun (delete_of k g tx name key o)
   delete_begun g tx name key None = refl
-  delete_begun g tx name key (Some r) = cond_begun g.full _ _ _ _ refl (changed_begun tx r key None _)
+  delete_begun g tx name key (Some r) = cond_begun g.full _ _ _ _ refl (changed_begun g.schema tx r key None _)
 
   from_begun : (tx : Tx W) (r key : ℕ) (s : Source) → get_from k (begun tx) r key s ≡ done_begun (get_from k tx r key s)
   from_begun tx r key Own = refl
@@ -151,10 +154,6 @@ module _ {W : Type 0} (k : Keeping W) where
   get_begun : (sources : VersionName → Source) (tx : Tx W) (name : List ℕ) (key : ℕ) (at : Option VersionName) (o : Option ℕ) → get_of k sources (begun tx) name key at o ≡ done_begun (get_of k sources tx name key at o)
   get_begun sources tx name key at None = refl
   get_begun sources tx name key at (Some r) = from_begun tx r key (source_at k sources at)
-
-  asked_begun : (tx : Tx W) (o : Option Refusal) (x' x : Outcome W) → x' ≡ done_begun x → unless (begun tx) o x' ≡ done_begun (unless tx o x)
-  asked_begun tx None x' x e = e
-  asked_begun tx (Some why) x' x e = refl
 
   contents_begun : (tx : Tx W) (r : ℕ) (s : Source) → contents_from k (begun tx) r s ≡ contents_from k tx r s
   contents_begun tx r Own = refl
@@ -177,7 +176,7 @@ module _ {W : Type 0} (k : Keeping W) where
       → scan_of k schema sources heads (begun tx) name over terms o ≡ done_begun (scan_of k schema sources heads tx name over terms o)
   scan_begun schema sources heads tx name over terms None = refl
   scan_begun schema sources heads tx name over terms (Some r) =
-      asked_begun tx (column_refusal (first_unknown (columns_at schema r) terms)) _ _ (over_begun sources heads tx r (holds (columns_at schema r) terms) over)
+      asked_begun tx (terms_refusal schema r terms) _ _ (over_begun sources heads tx r (holds (columns_at schema r) terms) over)
 
   join_in_begun : (tx : Tx W) (r s : ℕ) (left right : Source) (p : Record → Bool) → join_in k (begun tx) r s left right p ≡ done_begun (join_in k tx r s left right p)
   join_in_begun tx r s left right p =
@@ -189,7 +188,7 @@ module _ {W : Type 0} (k : Keeping W) where
       → join_with k schema (begun tx) r name left right terms o ≡ done_begun (join_with k schema tx r name left right terms o)
   join_with_begun schema tx r name left right terms None = refl
   join_with_begun schema tx r name left right terms (Some s) =
-      asked_begun tx (column_refusal (first_unknown (columns_at schema r) terms)) _ _ (join_in_begun tx r s left right (holds (columns_at schema r) terms))
+      asked_begun tx (terms_refusal schema r terms) _ _ (join_in_begun tx r s left right (holds (columns_at schema r) terms))
 
   join_begun : (schema : List Relation) (tx : Tx W) (name other : List ℕ) (left right : Source) (terms : List Term) (o q : Option ℕ)
       → join_of k schema (begun tx) name other left right terms o q ≡ done_begun (join_of k schema tx name other left right terms o q)

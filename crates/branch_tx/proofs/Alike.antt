@@ -1,10 +1,7 @@
 -- A transaction on a private table and the same with changes over the head.
-use Rattle.std.proofs.Common.{◌≡◌, ◌≢◌, ℕ, zero, suc, ◌<◌, ◌≤◌, nat_lt, nat_le, true, cond, ◌&&◌, List, [], ◌∷◌, length, replicate, get_or, Option, Some, None, refl, ap, sym, ◌∙◌, arith}
-use Rattle.std.specs.Ordering.{nat_cmp}
-use Rattle.std.specs.FinMap as finite
+use Rattle.std.proofs.Common.{◌≡◌, ℕ, ◌<◌, ◌≤◌, nat_lt, nat_le, true, cond, ◌&&◌, List, [], ◌∷◌, length, replicate, Option, Some, None, refl, ap, sym, ◌∙◌, arith}
 use Rattle.std.specs.List.{list_all}
 use Rattle.std.proofs.lemmas.Bool.{and_parts, leb-true, ltb-true}
-use Rattle.std.proofs.lemmas.List.{length-set, length-replicate, get_or-set_other}
 use Rattle.db_value.specs.Schema.{most_relations}
 use Rattle.db_value.specs.Relations.{is_counted, has_columns}
 use Rattle.db_value.specs.declared.schema.Relation.{Relation}
@@ -12,7 +9,7 @@ use Rattle.db_value.specs.declared.version.VersionPlace.{VersionPlace}
 use Rattle.db_value.specs.declared.entry.Change.{Change}
 use Rattle.db_value.specs.declared.entry.Entry.TheVariants.{Commit as CommitEntry}
 use Rattle.db_store.specs.Table.{Table}
-use Rattle.db_store.specs.Overlay.{Overlay, untouched, overlay_at, touch}
+use Rattle.db_store.specs.Overlay.{Overlay, untouched, touch}
 use Rattle.db_store.specs.Dataset.{Dataset, head_of, head_place}
 use Rattle.db_store.specs.RowWidths.{all_widths}
 use Rattle.db_store.specs.Sound.{IsSound}
@@ -25,41 +22,11 @@ use Rattle.branch_tx.specs.Act.{Tx, Outcome}
 use Rattle.branch_tx.specs.Merging.{put_all}
 use Rattle.branch_tx.specs.Alone.{common_table, step, fresh, alone, overlaid, reply_alone, reply_after, entry_made, entry_of}
 use Rattle.branch_tx.specs.Laws.{private_of, as_private, PrivateLaw}
-use Rattle.branch_tx.proofs.Private.{State, no_keys, IsIn, changes_same}
+use Rattle.branch_tx.proofs.Private.{no_keys, IsIn, changes_same, IsWork, work_untouched, work_touched, work_all}
 use Rattle.branch_tx.proofs.Images.{image, changed_alike, step_same}
 use Rattle.branch_tx.proofs.Keeps.{merge_changes, step_keeps}
 
 -- ---- the work of a transaction
-
--- an overlay for each relation that there can be, and no touched key of a relation that the table lacks
-pub record IsWork (t : Table) (os : List Overlay) : Type 0 where
-  pub wide : length os ≡ most_relations
-  pub inside : IsIn t os
-
-empties : (n r : ℕ) → get_or (replicate n (finite.empty {X = State} {R = nat_cmp})) r finite.empty ≡ finite.empty
-empties zero r = refl
-empties (suc n) zero = refl
-empties (suc n) (suc r) = empties n r
-
-work_untouched : (t : Table) → IsWork t untouched
-work_untouched t = record {
-  wide = length-replicate most_relations (finite.empty {X = State} {R = nat_cmp});
-  inside = λ r key h. ap (λ (o : Overlay). finite.get o key) (empties most_relations r) ∙ finite.get-empty nat_cmp key;
-}
-
-work_touched : (t : Table) (os : List Overlay) (r key : ℕ) (st : State) → r < length t → IsWork t os → IsWork t (touch os r key st)
-work_touched t os r key st h w = record {
-  wide = length-set os r (finite.insert (overlay_at os r) key st) ∙ w.wide;
-  inside = λ j other l.
-      let apart : j ≢ r = λ e. omega (arith, e, l, h) in
-      ap (λ (o : Overlay). finite.get o other) (get_or-set_other os r j (finite.insert (overlay_at os r) key st) finite.empty apart) ∙ w.inside j other l;
-}
-
-work_all : (t : Table) (os : List Overlay) (cs : List Change) → list_all (λ c. nat_lt c.relation (length t)) cs ≡ true → IsWork t os → IsWork t (put_all (over_table t) os cs)
-work_all t os [] h w = w
-work_all t os (c ∷ cs) h w =
-    let two = and_parts (nat_lt c.relation (length t)) (list_all (λ c. nat_lt c.relation (length t)) cs) h in
-    work_all t (touch os c.relation c.key c.fields) cs two.1 (work_touched t os c.relation c.key c.fields (ltb-true c.relation (length t) two.0) w)
 
 pub overlaid_work : (d : Dataset) (b : ℕ) (xs : List Stmt) → length (head_of d b) ≡ length d.schema → IsWork (head_of d b) (overlaid d b xs).work
 overlaid_work d b [] e = work_untouched (head_of d b)
@@ -93,7 +60,7 @@ module _ (d : Dataset) (b : ℕ) (table : length (head_of d b) ≡ length d.sche
   lines_same : (xs : List Stmt) (x : Stmt) → step privately d b (as_private (head_of d b) (overlaid d b xs)) x ≡ image (head_of d b) (step (over_table (head_of d b)) d b (overlaid d b xs) x)
   lines_same xs x =
       let w = overlaid_work d b xs table in
-      step_same (head_of d b) d b (overlaid d b xs) x (record { table = omega (arith, table, few); work = w.wide }) table table
+      step_same (head_of d b) d b (overlaid d b xs) x (record { table = omega (arith, table, few); work = w }) table table
 
   -- the one is made of the other
   pub alone_same : (xs : List Stmt) → alone d b xs ≡ as_private (head_of d b) (overlaid d b xs)

@@ -6,7 +6,6 @@ use Rattle.std.proofs.lemmas.List.{length-map, ext_get_or}
 use Rattle.std.proofs.Math.ListN.{get_or-map}
 use Rattle.db_value.specs.Relations.{columns_at}
 use Rattle.db_value.specs.Condition.{holds}
-use Rattle.db_value.specs.Pred.{first_unknown}
 use Rattle.db_value.specs.declared.record.Record.{Record}
 use Rattle.db_value.specs.declared.schema.Relation.{Relation}
 use Rattle.db_value.specs.declared.condition.Term.{Term}
@@ -23,7 +22,7 @@ use Rattle.branch_tx.specs.Keeping.{Keeping, over_table}
 use Rattle.db_store.specs.Found.{Found, NoBranch, NoPosition, Head, Fixed, found_by, found, branch_names, plain}
 use Rattle.branch_tx.specs.Found.{Source, Own, Other, source_of, lacking, lacking_or, first_lacking}
 use Rattle.branch_tx.specs.Act.{Tx, Outcome, answered, unless, marked, union_marked, pairs_of, unlike, contents_from, rows_from, scan_versions, scan_over, scan_of, join_in, join_of, minus_of}
-use Rattle.line_needs.specs.Early.{column_refusal}
+use Rattle.line_needs.specs.Early.{terms_refusal}
 use Rattle.line_needs.specs.Needs.{catalogue, lock_of, shared, found_needs, names_needs, branch_needs, scan_needs}
 use Rattle.branch_tx.specs.Frame.{Within}
 use Rattle.branch_tx.proofs.Entries.{Frame, named_there}
@@ -167,7 +166,7 @@ module _ (N : ℕ → Type 0) (s t : Dataset) (f : Frame N s t) where
         → scan_of new schema after (branch_names t) tx name over terms o ≡ scan_of old schema before (branch_names s) tx name over terms o
     scan_stays schema name over terms None w = refl
     scan_stays schema name over terms (Some r) w =
-        ap (λ (x : Outcome (List Overlay)). unless tx (column_refusal (first_unknown (columns_at schema r) terms)) x) (over_stays r (holds (columns_at schema r) terms) over w)
+        ap (λ (x : Outcome (List Overlay)). unless tx (terms_refusal schema r terms) x) (over_stays r (holds (columns_at schema r) terms) over w)
 
     both_lack : (v u : VersionName) → Within N (found_needs (found s v)) → Within N (found_needs (found s u)) → first_lacking (after v ∷ after u ∷ []) ≡ first_lacking (before v ∷ before u ∷ [])
     both_lack v u w x =
@@ -188,7 +187,7 @@ module _ (N : ℕ → Type 0) (s t : Dataset) (f : Frame N s t) where
     join_stays schema name other v u terms None q w = refl
     join_stays schema name other v u terms (Some r) None w = refl
     join_stays schema name other v u terms (Some r) (Some q) w =
-        ap (λ (x : Outcome (List Overlay)). unless tx (column_refusal (first_unknown (columns_at schema r) terms)) x) (join_in_stays r q v u (holds (columns_at schema r) terms) w)
+        ap (λ (x : Outcome (List Overlay)). unless tx (terms_refusal schema r terms) x) (join_in_stays r q v u (holds (columns_at schema r) terms) w)
 
     pub minus_stays : (name : List ℕ) (v u : VersionName) (o : Option ℕ) → Within N (names_needs s (v ∷ u ∷ [])) → minus_of new tx name (after v) (after u) o ≡ minus_of old tx name (before v) (before u) o
     minus_stays name v u None w = refl

@@ -4,7 +4,6 @@ use Rattle.std.specs.List.{filter, list_all}
 use Rattle.std.proofs.lemmas.Bool.{and_parts}
 use Rattle.db_value.specs.Relations.{columns_at}
 use Rattle.db_value.specs.Condition.{holds}
-use Rattle.db_value.specs.Pred.{first_unknown}
 use Rattle.db_value.specs.declared.record.Record.{Record}
 use Rattle.db_value.specs.declared.schema.Relation.{Relation}
 use Rattle.db_value.specs.declared.condition.Term.{Term}
@@ -22,7 +21,7 @@ use Rattle.db_store.specs.Found.{found, branch_names, plain}
 use Rattle.branch_tx.specs.Found.{Source, Own, Other, Lacking, source_of, lacking, lacking_or, first_lacking}
 use Rattle.branch_tx.specs.Act.{Tx, Outcome, refused, answered, unless, get_from, get_of, marked, union_marked, pairs_of, unlike, contents_from, rows_from, scan_versions, scan_over, scan_of, join_of, minus_of, act}
 use Rattle.line_needs.specs.Columns.{relation_named}
-use Rattle.line_needs.specs.Early.{column_refusal}
+use Rattle.line_needs.specs.Early.{terms_refusal}
 use Rattle.branch_tx.specs.Alone.{ground_of}
 use Rattle.branch_tx.specs.Granted.{Granted, has_done, is_current, lent_table, lent_source, source_in, names_or_none, ground_in, tx_in, acted}
 use Rattle.line_needs.specs.Early.{is_early}
@@ -134,7 +133,7 @@ module _ (g : Granted) (d : Dataset) (b : ℕ) (m : IsGrantedOn g d b) where
       → scan_of own schema (source_in g) (names_or_none g.heads) tx name over terms o ≡ scan_of rule schema sources (branch_names d) tx name over terms o
   scan_match schema name over terms None h = refl
   scan_match schema name over terms (Some r) h =
-      ap (λ (x : Outcome (List Overlay)). unless tx (column_refusal (first_unknown (columns_at schema r) terms)) x) (over_match r (holds (columns_at schema r) terms) over h)
+      ap (λ (x : Outcome (List Overlay)). unless tx (terms_refusal schema r terms) x) (over_match r (holds (columns_at schema r) terms) over h)
 
   both_lack : (v w : VersionName) → has_version g v ≡ true → has_version g w ≡ true → first_lacking (source_in g v ∷ source_in g w ∷ []) ≡ first_lacking (sources v ∷ sources w ∷ [])
   both_lack v w h l =
@@ -150,7 +149,7 @@ module _ (g : Granted) (d : Dataset) (b : ℕ) (m : IsGrantedOn g d b) where
       let lacks = both_lack v w h l in
       let rows = rows_match (holds (columns_at schema r) terms) r v h in
       let others = contents_match s w l in
-      λ i. unless tx (column_refusal (first_unknown (columns_at schema r) terms)) (unless tx (lacks i) (answered tx (Paired (pairs_of (rows i) (others i)))))
+      λ i. unless tx (terms_refusal schema r terms) (unless tx (lacks i) (answered tx (Paired (pairs_of (rows i) (others i)))))
 
   minus_match : (name : List ℕ) (v w : VersionName) (o : Option ℕ) → has_version g v ≡ true → has_version g w ≡ true → minus_of own tx name (source_in g v) (source_in g w) o ≡ minus_of rule tx name (sources v) (sources w) o
   minus_match name v w None h l = refl

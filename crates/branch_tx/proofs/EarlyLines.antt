@@ -3,8 +3,6 @@ use Rattle.std.proofs.Common.{◌≡◌, ℕ, is_some, Bool, true, false, cond, 
 use Rattle.std.specs.Prelude.{Result, Ok, Err}
 use Rattle.db_value.specs.Value.{Value}
 use Rattle.db_value.specs.Relations.{columns_at, widths_at}
-use Rattle.db_value.specs.Widths.{meets}
-use Rattle.db_value.specs.Pred.{first_unknown}
 use Rattle.db_value.specs.declared.record.Record.{Record}
 use Rattle.db_value.specs.declared.schema.Relation.{Relation}
 use Rattle.db_value.specs.declared.condition.Set.{Set}
@@ -28,9 +26,9 @@ use Rattle.line_needs.specs.declared.known.Known.TheVariants.{Refused as KnownRe
 use Rattle.line_needs.specs.Columns.{relation_named, resolved}
 use Rattle.line_needs.specs.Known.{known_of, refusal_in}
 use Rattle.line_needs.proofs.Knowing.{known_why}
-use Rattle.line_needs.specs.Early.{column_refusal}
+use Rattle.line_needs.specs.Misfits.{sets_misfit}
 use Rattle.branch_tx.specs.Alone.{ground_of, told, told_of, has_changed, step}
-use Rattle.line_needs.specs.Early.{outside_refusal, inside_refusal, first_refusal, relation_refusal, row_refusal, unresolved_refusal, set_refusal, ask_refusal, join_refusal, early_refusal, is_early}
+use Rattle.line_needs.specs.Early.{outside_refusal, inside_refusal, first_refusal, relation_refusal, row_refusal, unresolved_refusal, set_refusal, terms_refusal, ask_refusal, join_refusal, early_refusal, is_early}
 use Rattle.branch_tx.proofs.Acts.{is_done}
 
 -- ---- why it is refused
@@ -82,21 +80,21 @@ module _ {W : Type 0} (k : Keeping W) where
   first_refused tx true e = refl
   first_refused tx false e = absurd cc
 
-  count_early : (tx : Tx W) (q : Bool) (why : Refusal) (x : Outcome W) → is_some (cond q None (Some why)) ≡ true → cond q x (refused tx why) ≡ refused tx (why_of (cond q None (Some why)))
-  count_early tx true why x e = absurd cc
-  count_early tx false why x e = refl
+  unless_early : (tx : Tx W) (o : Option Refusal) (x : Outcome W) → is_some o ≡ true → unless tx o x ≡ refused tx (why_of o)
+  unless_early tx None x e = absurd cc
+  unless_early tx (Some why) x e = refl
 
   pub insert_early : (g : Ground) (tx : Tx W) (name : List ℕ) (key : ℕ) (fields : List Value) (o : Option ℕ) → is_some (row_refusal g.schema name fields o) ≡ true → insert_of k g tx name key fields o ≡ refused tx (why_of (row_refusal g.schema name fields o))
   insert_early g tx name key fields None e = refl
-  insert_early g tx name key fields (Some r) e = count_early tx (meets (widths_at g.schema r) fields) _ _ e
+  insert_early g tx name key fields (Some r) e = unless_early tx (row_refusal g.schema name fields (Some r)) _ e
 
-  update_early : (g : Ground) (tx : Tx W) (r : ℕ) (name : List ℕ) (key : ℕ) (sets : Result (List Set) (List ℕ)) → is_some (unresolved_refusal sets) ≡ true → update_in k g tx r name key sets ≡ refused tx (why_of (unresolved_refusal sets))
-  update_early g tx r name key (Ok sets) e = absurd cc
-  update_early g tx r name key (Err column) e = refl
+  update_early : (g : Ground) (tx : Tx W) (r : ℕ) (name : List ℕ) (key : ℕ) (sets : Result (List Set) (List ℕ)) (misfit : Option Refusal) → is_some (unresolved_refusal sets misfit) ≡ true → update_in k g tx r name key sets misfit ≡ refused tx (why_of (unresolved_refusal sets misfit))
+  update_early g tx r name key (Ok sets) misfit e = unless_early tx misfit _ e
+  update_early g tx r name key (Err column) misfit e = refl
 
   pub update_of_early : (g : Ground) (tx : Tx W) (name : List ℕ) (key : ℕ) (sets : List NamedSet) (o : Option ℕ) → is_some (set_refusal g.schema name sets o) ≡ true → update_of k g tx name key sets o ≡ refused tx (why_of (set_refusal g.schema name sets o))
   update_of_early g tx name key sets None e = refl
-  update_of_early g tx name key sets (Some r) e = update_early g tx r name key (resolved (widths_at g.schema r) (columns_at g.schema r) sets) e
+  update_of_early g tx name key sets (Some r) e = update_early g tx r name key (resolved (columns_at g.schema r) sets) (sets_misfit (widths_at g.schema r) (columns_at g.schema r) sets) e
 
   pub delete_early : (g : Ground) (tx : Tx W) (name : List ℕ) (key : ℕ) (o : Option ℕ) → is_some (relation_refusal name o) ≡ true → delete_of k g tx name key o ≡ refused tx (why_of (relation_refusal name o))
   delete_early g tx name key None e = refl
@@ -106,20 +104,16 @@ module _ {W : Type 0} (k : Keeping W) where
   get_early sources tx name key at None e = refl
   get_early sources tx name key at (Some r) e = absurd cc
 
-  unless_early : (tx : Tx W) (o : Option Refusal) (x : Outcome W) → is_some o ≡ true → unless tx o x ≡ refused tx (why_of o)
-  unless_early tx None x e = absurd cc
-  unless_early tx (Some why) x e = refl
-
   pub scan_early : (schema : List Relation) (sources : VersionName → Source) (heads : List (List ℕ)) (tx : Tx W) (name : List ℕ) (over : ScanOver) (terms : List Term) (o : Option ℕ) → is_some (ask_refusal schema name terms o) ≡ true
       → scan_of k schema sources heads tx name over terms o ≡ refused tx (why_of (ask_refusal schema name terms o))
   scan_early schema sources heads tx name over terms None e = refl
-  scan_early schema sources heads tx name over terms (Some r) e = unless_early tx (column_refusal (first_unknown (columns_at schema r) terms)) _ e
+  scan_early schema sources heads tx name over terms (Some r) e = unless_early tx (terms_refusal schema r terms) _ e
 
   pub join_early : (schema : List Relation) (tx : Tx W) (name other : List ℕ) (left right : Source) (terms : List Term) (o q : Option ℕ) → is_some (join_refusal schema name other terms o q) ≡ true
       → join_of k schema tx name other left right terms o q ≡ refused tx (why_of (join_refusal schema name other terms o q))
   join_early schema tx name other left right terms None q e = refl
   join_early schema tx name other left right terms (Some r) None e = refl
-  join_early schema tx name other left right terms (Some r) (Some s) e = unless_early tx (column_refusal (first_unknown (columns_at schema r) terms)) _ e
+  join_early schema tx name other left right terms (Some r) (Some s) e = unless_early tx (terms_refusal schema r terms) _ e
 
   pub minus_early : (tx : Tx W) (name : List ℕ) (left right : Source) (o : Option ℕ) → is_some (relation_refusal name o) ≡ true → minus_of k tx name left right o ≡ refused tx (why_of (relation_refusal name o))
   minus_early tx name left right None e = refl
@@ -138,12 +132,12 @@ module _ {W : Type 0} (k : Keeping W) where
 
   pub scan_asks : (schema : List Relation) (sources : VersionName → Source) (heads : List (List ℕ)) (tx : Tx W) (name : List ℕ) (over : ScanOver) (terms : List Term) (o : Option ℕ) → is_done (scan_of k schema sources heads tx name over terms o).reply ≡ false
   scan_asks schema sources heads tx name over terms None = refl
-  scan_asks schema sources heads tx name over terms (Some r) = asks tx (column_refusal (first_unknown (columns_at schema r) terms)) _ (over_asks sources heads tx r _ over)
+  scan_asks schema sources heads tx name over terms (Some r) = asks tx (terms_refusal schema r terms) _ (over_asks sources heads tx r _ over)
 
   pub join_asks : (schema : List Relation) (tx : Tx W) (name other : List ℕ) (left right : Source) (terms : List Term) (o q : Option ℕ) → is_done (join_of k schema tx name other left right terms o q).reply ≡ false
   join_asks schema tx name other left right terms None q = refl
   join_asks schema tx name other left right terms (Some r) None = refl
-  join_asks schema tx name other left right terms (Some r) (Some s) = asks tx (column_refusal (first_unknown (columns_at schema r) terms)) _ (asks tx (first_lacking (left ∷ right ∷ [])) _ refl)
+  join_asks schema tx name other left right terms (Some r) (Some s) = asks tx (terms_refusal schema r terms) _ (asks tx (first_lacking (left ∷ right ∷ [])) _ refl)
 
   pub minus_asks : (tx : Tx W) (name : List ℕ) (left right : Source) (o : Option ℕ) → is_done (minus_of k tx name left right o).reply ≡ false
   minus_asks tx name left right None = refl

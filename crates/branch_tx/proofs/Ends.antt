@@ -2,7 +2,7 @@
 use Rattle.std.proofs.Common.{◌≡◌, ◌⊎◌, inl, inr, ℕ, ◌+◌, ◌<◌, ◌≤◌, nat_lt, Bool, true, false, cond, ◌||◌, is_some, List, length, Option, Some, None, refl, ap, sym, ◌∙◌, subst, arith}
 use Rattle.std.specs.FinMap as finite
 use Rattle.std.specs.List.{list_all}
-use Rattle.std.proofs.lemmas.Bool.{and_from, le-leb, leb-false, cases_lt}
+use Rattle.std.proofs.lemmas.Bool.{and_from, le-leb, leb-true, leb-false, cases_lt}
 use Rattle.std.proofs.lemmas.Option.{none-some}
 use Rattle.db_value.specs.Value.{Value}
 use Rattle.db_value.specs.Relations.{widths_at}
@@ -14,6 +14,7 @@ use Rattle.db_value.specs.declared.entry.Entry.{Entry}
 use Rattle.db_value.specs.declared.entry.Entry.TheVariants.{Commit as CommitEntry, Branch as BranchEntry}
 use Rattle.db_store.specs.Table.{Table, relation_at, with_changes}
 use Rattle.db_store.specs.Overlay.{Overlay, overlay_at, over, laid, own_widths, change_of, changes_from, count_touched}
+use Rattle.db_store.specs.Body.{commit_size, most_entry, IsShort}
 use Rattle.db_store.specs.RowWidths.{all_widths}
 use Rattle.db_store.specs.OverlayRules.{get_laid}
 use Rattle.db_store.specs.Dataset.{Dataset, branch_at, head_of}
@@ -25,9 +26,9 @@ use Rattle.db_store.proofs.WidthLemmas.{widths_here}
 use Rattle.branch_tx.specs.Keeping.{privately, over_table}
 use Rattle.branch_tx.specs.Act.{Tx}
 use Rattle.branch_tx.specs.Alone.{overlaid, has_changed, entry_made}
-use Rattle.branch_tx.specs.Laws.{TableLaw, EntryLaw}
-use Rattle.branch_tx.proofs.Private.{State, IsIn, changes_same}
-use Rattle.branch_tx.proofs.Alike.{IsWork, overlaid_work, head_table, few_relations, alone_same}
+use Rattle.branch_tx.specs.Laws.{TableLaw, EntryLaw, ShortLaw}
+use Rattle.branch_tx.proofs.Private.{State, IsIn, changes_same, IsWork}
+use Rattle.branch_tx.proofs.Alike.{overlaid_work, head_table, few_relations, alone_same}
 use Rattle.branch_tx.proofs.Tables.{change_fit}
 use Rattle.branch_tx.proofs.Fitting.{IsFitting, overlaid_fitting}
 
@@ -97,6 +98,18 @@ entry_is d b xs e s c h roomy is =
     let t = head_table d b c s h in
     let few = few_relations d.schema c.relations in
     entry_fits d b (overlaid d b xs) (overlaid d b xs).made e few h (overlaid_work d b xs t.wide) (overlaid_fitting d b xs s (λ other l. head_table d other c s l) h few roomy) refl is
+
+-- ---- its size
+
+short_made : (d : Dataset) (b : ℕ) (tx : Tx (List Overlay)) (o : Option (List ℕ × VersionPlace)) (e : Entry) → IsFitting d b tx → entry_made (over_table (head_of d b)) d.schema b tx o ≡ Some e → IsShort e
+short_made d b tx None e f is =
+    let both = some_entry (has_changed (over_table (head_of d b)) tx) (CommitEntry b tx.second (changes_from (all_widths d.schema) 0 tx.work)) e is in
+    subst IsShort both.1 (leb-true (commit_size tx.second (changes_from (all_widths d.schema) 0 tx.work)) most_entry f.body)
+short_made d b tx (Some new) e f is = let same : BranchEntry new.0 new.1 ≡ e = cc in subst IsShort same tt
+
+pub short_is : ShortLaw
+short_is d b xs e s c h roomy is =
+    short_made d b (overlaid d b xs) (overlaid d b xs).made e (overlaid_fitting d b xs s (λ other l. head_table d other c s l) h (few_relations d.schema c.relations) roomy) is
 
 -- ---- the table
 

@@ -6,11 +6,13 @@ use Rattle.db_value.specs.Value.{Value}
 use Rattle.db_value.specs.declared.value.Value.TheVariants.{Number}
 use Rattle.db_value.specs.Relations.{number_column}
 use Rattle.db_value.specs.declared.record.Record.{Record}
+use Rattle.db_value.specs.declared.condition.TermValue.{TermValue}
+use Rattle.db_value.specs.declared.condition.TermValue.TheVariants.{Number as AskedNumber, Text as AskedText}
 use Rattle.db_value.specs.declared.condition.Op.TheVariants.{AtLeast, NotEqual}
 use Rattle.db_value.specs.declared.version.VersionName.{VersionName}
 use Rattle.db_value.specs.declared.reply.Reply.{Reply}
 use Rattle.db_value.specs.declared.reply.Reply.TheVariants.{Listed, Paired, Refused}
-use Rattle.db_value.specs.declared.reply.Refusal.TheVariants.{NoVersion, NoColumn, NoRelation}
+use Rattle.db_value.specs.declared.reply.Refusal.TheVariants.{NoVersion, NoColumn, NoRelation, WrongKind}
 use Rattle.db_store.specs.Table.{Contents, rows_of, record_of}
 use Rattle.stmt_text.specs.declared.stmt.Stmt.{Stmt}
 use Rattle.stmt_text.specs.declared.stmt.Stmt.TheVariants.{Scan, Join, Minus}
@@ -21,6 +23,9 @@ use Rattle.branch_tx.specs.Act.{Tx, Ground, act}
 
 abbrev number : ℕ → Value
 number n = Number (pos n)
+
+abbrev asked : ℕ → TermValue
+asked n = AskedNumber (pos n)
 
 abbrev Entries : Type 0
 Entries = List (ℕ × List Value)
@@ -92,7 +97,7 @@ joins = simp (rows_first, in_third) refl
 pub tells_apart : reply (Minus items head (at 2)) ≡ Listed [] (record { row = row (number 5); positions = 0 ∷ [] } ∷ [])
 tells_apart = simp (rows_third, in_second) refl
 
-pub scans : reply (Scan items (Named (at 2 ∷ head ∷ [])) (record { column = None; op = AtLeast; value = pos 1 } ∷ record { column = Some (codes "a"); op = NotEqual; value = pos 2 } ∷ []))
+pub scans : reply (Scan items (Named (at 2 ∷ head ∷ [])) (record { column = None; op = AtLeast; value = asked 1 } ∷ record { column = Some (codes "a"); op = NotEqual; value = asked 2 } ∷ []))
     ≡ Listed (at 2 ∷ head ∷ []) (record { row = row (number 1); positions = 0 ∷ [] } ∷ record { row = row (number 5); positions = 1 ∷ [] } ∷ [])
 scans = simp (rows_second, rows_third) refl
 
@@ -100,15 +105,21 @@ scans = simp (rows_second, rows_third) refl
 pub scans_heads : reply (Scan items Heads []) ≡ Listed (head ∷ []) (record { row = row (number 5); positions = 0 ∷ [] } ∷ record { row = record { key = 2; fields = number 2 ∷ number 2 ∷ [] }; positions = 0 ∷ [] } ∷ [])
 scans_heads = simp (rows_third) refl
 
--- refusals: relations first, from left to right, then columns, then versions from left to right
-pub refuses_relations : reply (Join (codes "no") (codes "none") (at 9) (at 8) (record { column = Some (codes "c"); op = NotEqual; value = pos 2 } ∷ [])) ≡ Refused (NoRelation (codes "no"))
+-- refusals: relations first, from left to right, then columns, then values of the other kind, then versions from left to right
+pub refuses_relations : reply (Join (codes "no") (codes "none") (at 9) (at 8) (record { column = Some (codes "c"); op = NotEqual; value = asked 2 } ∷ [])) ≡ Refused (NoRelation (codes "no"))
 refuses_relations = refl
 
-pub refuses_a_relation : reply (Join items (codes "none") (at 9) (at 8) (record { column = Some (codes "c"); op = NotEqual; value = pos 2 } ∷ [])) ≡ Refused (NoRelation (codes "none"))
+pub refuses_a_relation : reply (Join items (codes "none") (at 9) (at 8) (record { column = Some (codes "c"); op = NotEqual; value = asked 2 } ∷ [])) ≡ Refused (NoRelation (codes "none"))
 refuses_a_relation = refl
 
-pub refuses_a_column : reply (Join items items (at 9) (at 8) (record { column = Some (codes "c"); op = NotEqual; value = pos 2 } ∷ [])) ≡ Refused (NoColumn (codes "c"))
+pub refuses_a_column : reply (Join items items (at 9) (at 8) (record { column = Some (codes "c"); op = NotEqual; value = asked 2 } ∷ [])) ≡ Refused (NoColumn (codes "c"))
 refuses_a_column = refl
+
+pub refuses_a_text : reply (Join items items (at 9) (at 8) (record { column = Some (codes "a"); op = NotEqual; value = AskedText (codes "2") } ∷ [])) ≡ Refused (WrongKind (codes "a"))
+refuses_a_text = refl
+
+pub refuses_a_column_first : reply (Join items items (at 9) (at 8) (record { column = Some (codes "a"); op = NotEqual; value = AskedText (codes "2") } ∷ record { column = Some (codes "c"); op = NotEqual; value = asked 2 } ∷ [])) ≡ Refused (NoColumn (codes "c"))
+refuses_a_column_first = refl
 
 pub refuses_a_version : reply (Join items items (at 9) (at 8) []) ≡ Refused (NoVersion (codes "master") 9)
 refuses_a_version = refl

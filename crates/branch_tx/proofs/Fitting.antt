@@ -4,7 +4,7 @@ use Rattle.std.specs.Ordering.{nat_cmp}
 use Rattle.std.specs.FinMap as finite
 use Rattle.std.specs.List.{list_all}
 use Rattle.std.proofs.lemmas.Bool.{and_from, and_parts, or_parts, ltb-true, lt-ltb, leb-true, false≢true}
-use Rattle.std.proofs.lemmas.List.{length-replicate}
+use Rattle.std.proofs.lemmas.List.{length-replicate, nil_from_length}
 use Rattle.std.proofs.lemmas.List.Quantifiers.{position-Some}
 use Rattle.db_value.specs.declared.version.VersionName.{VersionName}
 use Rattle.db_value.specs.declared.version.VersionPlace.{VersionPlace}
@@ -15,7 +15,8 @@ use Rattle.db_value.specs.declared.entry.Change.{Change}
 use Rattle.db_value.specs.declared.entry.Entry.TheVariants.{Branch as BranchEntry}
 use Rattle.db_value.specs.declared.reply.Refusal.TheVariants.{Room}
 use Rattle.db_store.specs.Table.{Table, with_changes}
-use Rattle.db_store.specs.Overlay.{Overlay, untouched, is_touched, count_touched, touch, laid}
+use Rattle.db_store.specs.Body.{commit_size, most_entry}
+use Rattle.db_store.specs.Overlay.{Overlay, untouched, is_touched, count_touched, touch, laid, changes_from}
 use Rattle.db_store.specs.Dataset.{Dataset, no_branch, branch_at, branch_named, head_of, head_place, IsMade}
 use Rattle.db_store.specs.Fits.{fits, second_fits, is_within, most_keys}
 use Rattle.db_store.specs.Adopt.{touched_by, full_from}
@@ -23,7 +24,7 @@ use Rattle.db_store.specs.RowWidths.{all_widths}
 use Rattle.db_store.specs.Sound.{IsSound}
 use Rattle.db_store.specs.Counted.{IsTable}
 use Rattle.db_store.specs.Growth.{made_test}
-use Rattle.db_store.proofs.OverlayLemmas.{laid_touched, laid_untouched, count_touch, count_untouched, overlay_none}
+use Rattle.db_store.proofs.OverlayLemmas.{laid_touched, laid_untouched, count_touch, count_untouched, length_changes, overlay_none}
 use Rattle.db_store.proofs.AdoptLemmas.{laid_by, count_by}
 use Rattle.db_store.proofs.CountLemmas.{ascending_differ}
 use Rattle.db_store.proofs.CountedLemmas.{changes_shaped, table_from, table_shaped}
@@ -33,25 +34,30 @@ use Rattle.stmt_text.specs.declared.stmt.Stmt.{Stmt}
 use Rattle.stmt_text.specs.declared.stmt.Stmt.TheVariants.{Begin}
 use Rattle.branch_tx.specs.Keeping.{over_table}
 use Rattle.db_store.specs.Found.{found, found_by, lack, place_found, NoPosition}
-use Rattle.branch_tx.specs.Act.{Tx}
+use Rattle.branch_tx.specs.Act.{Tx, is_body}
 use Rattle.branch_tx.specs.Merging.{merge_refusal, put_all}
 use Rattle.branch_tx.specs.Alone.{fresh, room_of, ground_of, common_table, place_in, overlaid}
 use Rattle.branch_tx.specs.Frame.{is_changed}
 use Rattle.branch_tx.specs.Laws.{IsRoomy, AllRoomy}
-use Rattle.branch_tx.proofs.Private.{State}
+use Rattle.branch_tx.proofs.Private.{State, IsWork}
 use Rattle.branch_tx.proofs.Keeps.{IsChange, IsBranch, IsMerge, merge_changes, merged_with, step_keeps}
-use Rattle.branch_tx.proofs.Alike.{IsWork, overlaid_work}
+use Rattle.branch_tx.proofs.Alike.{overlaid_work}
 use Rattle.branch_tx.proofs.Tables.{table_changed}
 
--- A transaction touched at most 65,536 keys, of a branch that isn't full where it changed something, and none where it didn't; its working table is one of the schema; and a second parent and a branch that it makes fit.
+-- A transaction touched at most 65,536 keys, of a branch that isn't full where it changed something, and none where it didn't; its working table is one of the schema, and makes no entry that is too large; and a second parent and a branch that it makes fit.
 pub record IsFitting (d : Dataset) (b : ℕ) (tx : Tx (List Overlay)) : Type 0 where
   pub room : tx.room ≤ 65536
   pub touches : count_touched tx.work ≤ 65536
   pub open_branch : is_changed tx ≡ true → (ground_of d b).full ≡ false
   pub clean : is_changed tx ≡ false → tx.work ≡ untouched
   pub table : IsTable d.schema (laid (head_of d b) tx.work)
+  pub body : is_body (over_table (head_of d b)) d.schema tx.second tx.work ≡ true
   pub second : second_fits d tx.second ≡ true
   pub made : (new : List ℕ × VersionPlace) → tx.made ≡ Some new → fits d (BranchEntry new.0 new.1) ≡ true
+
+-- nothing is changed where nothing is touched
+nothing_changed : (wss : List (List ℕ)) → changes_from wss 0 untouched ≡ []
+nothing_changed wss = nil_from_length (changes_from wss 0 untouched) (length_changes wss 0 untouched ∙ count_untouched)
 
 fresh_fitting : (d : Dataset) (b : ℕ) → IsTable d.schema (head_of d b) → IsFitting d b (fresh untouched)
 fresh_fitting d b t = record {
@@ -60,6 +66,7 @@ fresh_fitting d b t = record {
   open_branch = λ e. absurd (false≢true (ap (λ n. nat_lt 0 n || false) (sym count_untouched) ∙ e));
   clean = λ e. refl;
   table = subst (IsTable d.schema) (sym (laid_untouched (head_of d b))) t;
+  body = ap (λ (cs : List Change). nat_le (commit_size None cs) most_entry) (nothing_changed (all_widths d.schema));
   second = refl;
   made = λ new e. absurd cc;
 }
@@ -106,6 +113,7 @@ change_fitting d b tx r key st wide few w f c =
       open_branch = λ e. c.open_branch;
       clean = still_clean d b tx r key st f many;
       table = subst (IsTable d.schema) (sym (laid_touched (head_of d b) tx.work r key st inside many)) (table_changed d.schema (laid (head_of d b) tx.work) r key st f.table c.within c.state);
+      body = c.body;
       second = f.second;
       made = f.made;
     }
@@ -132,6 +140,7 @@ new_fitting d b tx name origin s f n = record {
   open_branch = f.open_branch;
   clean = f.clean;
   table = f.table;
+  body = f.body;
   second = f.second;
   made = λ new e. let same : (name, place_in (found d origin)) ≡ new = cc in subst (λ (p : List ℕ × VersionPlace). fits d (BranchEntry p.0 p.1) ≡ true) same fit;
 }
@@ -206,6 +215,7 @@ module _ (d : Dataset) (b : ℕ) (sound : IsSound d) (tables : (c : ℕ) → c <
         clean = λ e. absurd (false≢true (sym (or_parts (nat_lt 0 (count_touched (put_all (over_table (head_of d b)) tx.work cs))) true e).1));
         table = subst (IsTable d.schema) (sym (ap (laid (head_of d b)) put ∙ merged_laid))
             (table_from d.schema (with_changes (head_of d b) cs) (changes_shaped d.schema (head_of d b) cs (merged_fits d.schema prefer (common_table d b c) (head_of d b) (head_of d c) few own_table (tables c there)) (table_shaped d.schema (head_of d b) own_table)) (none_full 0 (with_changes (head_of d b) cs) both.0));
+        body = m.body;
         second = made_test d (head_place d c) (there, let r = sound.rooted c there in omega (arith, r));
         made = f.made;
       }
@@ -219,8 +229,8 @@ overlaid_fitting d b (x ∷ xs) s tables l few h =
     let old = overlaid_fitting d b xs s tables l few h.1 in
     let w = overlaid_work d b xs t.wide in
     step_keeps (over_table (head_of d b)) (IsFitting d b) d b (overlaid d b xs) x old
-    (λ room is. record { room = room_within x room is h.0; touches = old.touches; open_branch = old.open_branch; clean = old.clean; table = old.table; second = old.second; made = old.made })
+    (λ room is. record { room = room_within x room is h.0; touches = old.touches; open_branch = old.open_branch; clean = old.clean; table = old.table; body = old.body; second = old.second; made = old.made })
     (λ r key st c. change_fitting d b (overlaid d b xs) r key st t.wide few w old c)
     (λ name origin is. new_fitting d b (overlaid d b xs) name origin s old is)
-    (λ name i is. record { room = old.room; touches = old.touches; open_branch = old.open_branch; clean = old.clean; table = old.table; second = old.second; made = old.made })
+    (λ name i is. record { room = old.room; touches = old.touches; open_branch = old.open_branch; clean = old.clean; table = old.table; body = old.body; second = old.second; made = old.made })
     (λ name prefer c is m. merge_fitting d b s tables few l prefer c (position-Some _ d.branches c no_branch is).0 (overlaid d b xs) old m)

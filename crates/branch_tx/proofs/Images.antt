@@ -1,5 +1,5 @@
 -- A line does the same to a private table as to the changes that make it.
-use Rattle.std.proofs.Common.{◌≡◌, ℕ, ◌<◌, ◌≤◌, nat_lt, Bool, true, false, cond, ◌||◌, is_some, List, [], ◌∷◌, length, map, Option, Some, None, Result, Ok, Err, refl, ap, ◌∙◌, subst, arith}
+use Rattle.std.proofs.Common.{◌≡◌, ℕ, ◌<◌, ◌≤◌, nat_lt, nat_le, Bool, true, false, cond, ◌||◌, is_some, List, [], ◌∷◌, length, map, Option, Some, None, Result, Ok, Err, refl, ap, ◌∙◌, subst, arith}
 use Rattle.std.specs.List.{filter, list_all}
 use Rattle.std.specs.FinMap as finite
 use Rattle.std.proofs.lemmas.Bool.{and_parts, ltb-true}
@@ -7,10 +7,8 @@ use Rattle.std.proofs.lemmas.List.{length-set}
 use Rattle.std.proofs.lemmas.List.Quantifiers.{position-Some}
 use Rattle.db_value.specs.Value.{Value}
 use Rattle.db_value.specs.Relations.{columns_at, widths_at, no_relation}
-use Rattle.db_value.specs.Widths.{meets}
 use Rattle.db_value.specs.Schema.{most_relations}
 use Rattle.db_value.specs.Condition.{holds}
-use Rattle.db_value.specs.Pred.{first_unknown}
 use Rattle.db_value.specs.declared.record.Record.{Record}
 use Rattle.db_value.specs.declared.schema.Relation.{Relation}
 use Rattle.db_value.specs.declared.condition.Set.{Set}
@@ -26,6 +24,7 @@ use Rattle.db_store.specs.Table.{Table, rows_of}
 use Rattle.db_store.specs.Overlay.{Overlay, overlay_at, touch}
 use Rattle.db_store.specs.Dataset.{Dataset, branch_named, head_of, head_place}
 use Rattle.db_store.specs.Fits.{most_branches}
+use Rattle.db_store.specs.Body.{commit_size, most_entry}
 use Rattle.db_store.specs.RowWidths.{all_widths}
 use Rattle.field_merge.specs.Merge.{table_changes}
 use Rattle.field_merge.proofs.OrderLemmas.{merged_within}
@@ -37,22 +36,23 @@ use Rattle.stmt_text.specs.declared.stmt.ScanOver.TheVariants.{Current, Named, H
 use Rattle.branch_tx.specs.Keeping.{Private, privately, over_table}
 use Rattle.db_store.specs.Found.{found, lack, branch_names, plain}
 use Rattle.branch_tx.specs.Found.{Source, Own, Other, Lacking, source_of, first_lacking}
-use Rattle.branch_tx.specs.Act.{Tx, Outcome, Ground, updated, insert_refusal, change_refusal, refused, answered, unless, unless_full, fields_at, has_space, has_room, changed_to, insert_in, insert_of, update_in, update_of, delete_of, get_from, source_at, get_of, marked, union_marked, pairs_of, unlike, contents_from, rows_from, scan_versions, scan_over, scan_of, join_in, join_with, join_of, minus_of, act}
+use Rattle.branch_tx.specs.Act.{Tx, Outcome, Ground, body_refusal, updated, insert_refusal, change_refusal, refused, answered, unless, unless_full, fields_at, has_space, has_room, is_body, taken_to, changed_to, insert_in, insert_of, update_in, update_of, delete_of, get_from, source_at, get_of, marked, union_marked, pairs_of, unlike, contents_from, rows_from, scan_versions, scan_over, scan_of, join_in, join_with, join_of, minus_of, act}
 use Rattle.line_needs.specs.Columns.{relation_named, resolved}
-use Rattle.line_needs.specs.Early.{column_refusal}
+use Rattle.line_needs.specs.Misfits.{sets_misfit}
+use Rattle.line_needs.specs.Early.{row_refusal, terms_refusal}
 use Rattle.branch_tx.specs.Merging.{refusal_of_merge, put_all, merged_to}
 use Rattle.branch_tx.specs.Alone.{ground_of, told_of, common_table, place_in, has_changed, on_of, branch_as, merge_named, step, made_next}
 use Rattle.branch_tx.specs.Laws.{private_of, as_private}
-use Rattle.branch_tx.proofs.Private.{State, touched_same, touches_same, put_same}
+use Rattle.branch_tx.proofs.Private.{State, touched_same, touches_same, put_same, changes_same, IsWork, work_touched, work_all}
 
 -- the outcome on the private table
 abbrev pub image : Table → Outcome (List Overlay) → Outcome Private
 image t o = record { tx = as_private t o.tx; reply = o.reply }
 
--- the work has an overlay for each relation of the table
+-- the work has an overlay for each relation that there can be, and touches no key of a relation that the table lacks
 pub record IsWide (t : Table) (tx : Tx (List Overlay)) : Type 0 where
   pub table : length t ≤ most_relations
-  pub work : length tx.work ≡ most_relations
+  pub work : IsWork t tx.work
 
 cond_image : (t : Table) (q : Bool) (x y : Outcome (List Overlay)) → cond q (image t x) (image t y) ≡ image t (cond q x y)
 cond_image t true x y = refl
@@ -65,17 +65,33 @@ cond_same t false a b x y e f = f
 room_same : (t : Table) (tx : Tx (List Overlay)) (r key : ℕ) → has_room privately (as_private t tx) r key ≡ has_room (over_table t) tx r key
 room_same t tx r key = λ i. touched_same t tx.work r key i || nat_lt (touches_same tx.work i) tx.room
 
-changed_same : (t : Table) (tx : Tx (List Overlay)) (r key : ℕ) (st : State) (o : Option Refusal) → IsWide t tx → r < length t → changed_to privately (as_private t tx) r key st o ≡ image t (changed_to (over_table t) tx r key st o)
-changed_same t tx r key st (Some why) w h = refl
-changed_same t tx r key st None w h = ap (λ (p : Private). answered (record (as_private t tx) { work = p }) Done) (put_same t tx.work r key st h (let a = w.table in let b = w.work in omega arith))
+asked_same : (t : Table) (tx : Tx (List Overlay)) (o : Option Refusal) (a : Outcome Private) (x : Outcome (List Overlay)) → a ≡ image t x → unless (as_private t tx) o a ≡ image t (unless tx o x)
+asked_same t tx None a x e = e
+asked_same t tx (Some why) a x e = refl
+
+-- both make an entry of one size
+body_same : (t : Table) (schema : List Relation) (second : Option VersionPlace) (os : List Overlay) → IsWork t os → is_body privately schema second (private_of t os) ≡ is_body (over_table t) schema second os
+body_same t schema second os w = ap (λ (cs : List Change). nat_le (commit_size second cs) most_entry) (changes_same (all_widths schema) t os w.inside)
+
+taken_same : (t : Table) (schema : List Relation) (tx : Tx (List Overlay)) (second : Option VersionPlace) (os : List Overlay) → IsWork t os → taken_to privately schema (as_private t tx) second (private_of t os) ≡ image t (taken_to (over_table t) schema tx second os)
+taken_same t schema tx second os w =
+    ap (λ (q : Bool). unless (as_private t tx) (body_refusal q) (answered (record (as_private t tx) { work = private_of t os; second = second }) Done)) (body_same t schema second os w)
+    ∙ asked_same t tx (body_refusal (is_body (over_table t) schema second os)) _ _ refl
+
+changed_same : (t : Table) (schema : List Relation) (tx : Tx (List Overlay)) (r key : ℕ) (st : State) (o : Option Refusal) → IsWide t tx → r < length t → changed_to privately schema (as_private t tx) r key st o ≡ image t (changed_to (over_table t) schema tx r key st o)
+changed_same t schema tx r key st (Some why) w h = refl
+changed_same t schema tx r key st None w h =
+    let wide : r < length tx.work = (let a = w.table in let b = w.work.wide in omega (arith, a, b, h)) in
+    ap (taken_to privately schema (as_private t tx) tx.second) (put_same t tx.work r key st h wide)
+    ∙ taken_same t schema tx tx.second (touch tx.work r key st) (work_touched t tx.work r key st h w.work)
 
 unless_same : (t : Table) (g : Ground) (tx : Tx (List Overlay)) (a : Outcome Private) (x : Outcome (List Overlay)) → a ≡ image t x → unless_full g (as_private t tx) a ≡ image t (unless_full g tx x)
 unless_same t g tx a x e = cond_same t g.full _ _ _ _ refl e
 
 insert_in_same : (t : Table) (g : Ground) (tx : Tx (List Overlay)) (r : ℕ) (name : List ℕ) (key : ℕ) (fields : List Value) → IsWide t tx → r < length t → insert_in privately g (as_private t tx) r name key fields ≡ image t (insert_in (over_table t) g tx r name key fields)
 insert_in_same t g tx r name key fields w h = unless_same t g tx _ _
-    (ap (λ q. changed_to privately (as_private t tx) r key (Some fields) (insert_refusal name key tx.room (fields_at (over_table t) tx r key) (has_space (over_table t) tx r) q)) (room_same t tx r key)
-    ∙ changed_same t tx r key (Some fields) (insert_refusal name key tx.room (fields_at (over_table t) tx r key) (has_space (over_table t) tx r) (has_room (over_table t) tx r key)) w h)
+    (ap (λ q. changed_to privately g.schema (as_private t tx) r key (Some fields) (insert_refusal name key tx.room (fields_at (over_table t) tx r key) (has_space (over_table t) tx r) q)) (room_same t tx r key)
+    ∙ changed_same t g.schema tx r key (Some fields) (insert_refusal name key tx.room (fields_at (over_table t) tx r key) (has_space (over_table t) tx r) (has_room (over_table t) tx r key)) w h)
 
 -- a statement whose relation, where it is there, is one of the table
 abbrev InTable : Table → Option ℕ → Type 0
@@ -83,22 +99,22 @@ InTable t o = (r : ℕ) → o ≡ Some r → r < length t
 
 insert_same : (t : Table) (g : Ground) (tx : Tx (List Overlay)) (name : List ℕ) (key : ℕ) (fields : List Value) (o : Option ℕ) → IsWide t tx → InTable t o → insert_of privately g (as_private t tx) name key fields o ≡ image t (insert_of (over_table t) g tx name key fields o)
 insert_same t g tx name key fields None w h = refl
-insert_same t g tx name key fields (Some r) w h = cond_same t (meets (widths_at g.schema r) fields) _ _ _ _ (insert_in_same t g tx r name key fields w (h r refl)) refl
+insert_same t g tx name key fields (Some r) w h = asked_same t tx (row_refusal g.schema name fields (Some r)) _ _ (insert_in_same t g tx r name key fields w (h r refl))
 
 change_same : (t : Table) (g : Ground) (tx : Tx (List Overlay)) (r : ℕ) (name : List ℕ) (key : ℕ) (st : State) → IsWide t tx → r < length t
-    → unless_full g (as_private t tx) (changed_to privately (as_private t tx) r key st (change_refusal name key tx.room (fields_at (over_table t) tx r key) (has_room privately (as_private t tx) r key)))
-    ≡ image t (unless_full g tx (changed_to (over_table t) tx r key st (change_refusal name key tx.room (fields_at (over_table t) tx r key) (has_room (over_table t) tx r key))))
+    → unless_full g (as_private t tx) (changed_to privately g.schema (as_private t tx) r key st (change_refusal name key tx.room (fields_at (over_table t) tx r key) (has_room privately (as_private t tx) r key)))
+    ≡ image t (unless_full g tx (changed_to (over_table t) g.schema tx r key st (change_refusal name key tx.room (fields_at (over_table t) tx r key) (has_room (over_table t) tx r key))))
 change_same t g tx r name key st w h = unless_same t g tx _ _
-    (ap (λ q. changed_to privately (as_private t tx) r key st (change_refusal name key tx.room (fields_at (over_table t) tx r key) q)) (room_same t tx r key)
-    ∙ changed_same t tx r key st (change_refusal name key tx.room (fields_at (over_table t) tx r key) (has_room (over_table t) tx r key)) w h)
+    (ap (λ q. changed_to privately g.schema (as_private t tx) r key st (change_refusal name key tx.room (fields_at (over_table t) tx r key) q)) (room_same t tx r key)
+    ∙ changed_same t g.schema tx r key st (change_refusal name key tx.room (fields_at (over_table t) tx r key) (has_room (over_table t) tx r key)) w h)
 
-update_in_same : (t : Table) (g : Ground) (tx : Tx (List Overlay)) (r : ℕ) (name : List ℕ) (key : ℕ) (sets : Result (List Set) (List ℕ)) → IsWide t tx → r < length t → update_in privately g (as_private t tx) r name key sets ≡ image t (update_in (over_table t) g tx r name key sets)
-update_in_same t g tx r name key (Err column) w h = refl
-update_in_same t g tx r name key (Ok sets) w h = change_same t g tx r name key (updated sets (fields_at (over_table t) tx r key)) w h
+update_in_same : (t : Table) (g : Ground) (tx : Tx (List Overlay)) (r : ℕ) (name : List ℕ) (key : ℕ) (sets : Result (List Set) (List ℕ)) (misfit : Option Refusal) → IsWide t tx → r < length t → update_in privately g (as_private t tx) r name key sets misfit ≡ image t (update_in (over_table t) g tx r name key sets misfit)
+update_in_same t g tx r name key (Err column) misfit w h = refl
+update_in_same t g tx r name key (Ok sets) misfit w h = asked_same t tx misfit _ _ (change_same t g tx r name key (updated sets (fields_at (over_table t) tx r key)) w h)
 
 update_same : (t : Table) (g : Ground) (tx : Tx (List Overlay)) (name : List ℕ) (key : ℕ) (sets : List NamedSet) (o : Option ℕ) → IsWide t tx → InTable t o → update_of privately g (as_private t tx) name key sets o ≡ image t (update_of (over_table t) g tx name key sets o)
 update_same t g tx name key sets None w h = refl
-update_same t g tx name key sets (Some r) w h = update_in_same t g tx r name key (resolved (widths_at g.schema r) (columns_at g.schema r) sets) w (h r refl)
+update_same t g tx name key sets (Some r) w h = update_in_same t g tx r name key (resolved (columns_at g.schema r) sets) (sets_misfit (widths_at g.schema r) (columns_at g.schema r) sets) w (h r refl)
 
 delete_same : (t : Table) (g : Ground) (tx : Tx (List Overlay)) (name : List ℕ) (key : ℕ) (o : Option ℕ) → IsWide t tx → InTable t o → delete_of privately g (as_private t tx) name key o ≡ image t (delete_of (over_table t) g tx name key o)
 delete_same t g tx name key None w h = refl
@@ -118,10 +134,6 @@ get_same t sources tx name key at None = refl
 get_same t sources tx name key at (Some r) = ap (get_from privately (as_private t tx) r key) (source_same sources at t) ∙ from_same t tx r key (source_at (over_table t) sources at)
 
 -- ---- questions
-
-asked_same : (t : Table) (tx : Tx (List Overlay)) (o : Option Refusal) (a : Outcome Private) (x : Outcome (List Overlay)) → a ≡ image t x → unless (as_private t tx) o a ≡ image t (unless tx o x)
-asked_same t tx None a x e = e
-asked_same t tx (Some why) a x e = refl
 
 contents_same : (t : Table) (tx : Tx (List Overlay)) (r : ℕ) (s : Source) → contents_from privately (as_private t tx) r s ≡ contents_from (over_table t) tx r s
 contents_same t tx r Own = refl
@@ -144,7 +156,7 @@ scan_same : (t : Table) (schema : List Relation) (sources : VersionName → Sour
     → scan_of privately schema sources heads (as_private t tx) name over terms o ≡ image t (scan_of (over_table t) schema sources heads tx name over terms o)
 scan_same t schema sources heads tx name over terms None = refl
 scan_same t schema sources heads tx name over terms (Some r) =
-    asked_same t tx (column_refusal (first_unknown (columns_at schema r) terms)) _ _ (scan_over_same t sources heads tx r (holds (columns_at schema r) terms) over)
+    asked_same t tx (terms_refusal schema r terms) _ _ (scan_over_same t sources heads tx r (holds (columns_at schema r) terms) over)
 
 join_in_same : (t : Table) (tx : Tx (List Overlay)) (r s : ℕ) (left right : Source) (p : Record → Bool) → join_in privately (as_private t tx) r s left right p ≡ image t (join_in (over_table t) tx r s left right p)
 join_in_same t tx r s left right p =
@@ -156,7 +168,7 @@ join_with_same : (t : Table) (schema : List Relation) (tx : Tx (List Overlay)) (
     → join_with privately schema (as_private t tx) r name left right terms o ≡ image t (join_with (over_table t) schema tx r name left right terms o)
 join_with_same t schema tx r name left right terms None = refl
 join_with_same t schema tx r name left right terms (Some s) =
-    asked_same t tx (column_refusal (first_unknown (columns_at schema r) terms)) _ _ (join_in_same t tx r s left right (holds (columns_at schema r) terms))
+    asked_same t tx (terms_refusal schema r terms) _ _ (join_in_same t tx r s left right (holds (columns_at schema r) terms))
 
 join_same : (t : Table) (schema : List Relation) (tx : Tx (List Overlay)) (name other : List ℕ) (left right : Source) (terms : List Term) (o q : Option ℕ)
     → join_of privately schema (as_private t tx) name other left right terms o q ≡ image t (join_of (over_table t) schema tx name other left right terms o q)
@@ -208,17 +220,18 @@ put_all_same t os (c ∷ cs) n w =
     ap (λ (p : Private). put_all privately p cs) (put_same t os c.relation c.key c.fields h (omega (arith, h, n)))
     ∙ put_all_same t (touch os c.relation c.key c.fields) cs (omega (arith, n, m)) two.1
 
-merged_same : (t : Table) (tx : Tx (List Overlay)) (from : VersionPlace) (cs : List Change) (o : Option Refusal) → IsWide t tx → list_all (λ c. nat_lt c.relation (length t)) cs ≡ true → merged_to privately (as_private t tx) from cs o ≡ image t (merged_to (over_table t) tx from cs o)
-merged_same t tx from cs (Some why) w h = refl
-merged_same t tx from cs None w h =
+merged_same : (t : Table) (schema : List Relation) (tx : Tx (List Overlay)) (from : VersionPlace) (cs : List Change) (o : Option Refusal) → IsWide t tx → list_all (λ c. nat_lt c.relation (length t)) cs ≡ true → merged_to privately schema (as_private t tx) from cs o ≡ image t (merged_to (over_table t) schema tx from cs o)
+merged_same t schema tx from cs (Some why) w h = refl
+merged_same t schema tx from cs None w h =
     let few = w.table in
-    let work = w.work in
-    ap (λ (p : Private). answered (record (as_private t tx) { work = p; second = Some from }) Done) (put_all_same t tx.work cs (omega (arith, few, work)) h)
+    let work = w.work.wide in
+    ap (taken_to privately schema (as_private t tx) (Some from)) (put_all_same t tx.work cs (omega (arith, few, work)) h)
+    ∙ taken_same t schema tx (Some from) (put_all (over_table t) tx.work cs) (work_all t tx.work cs h w.work)
 
 merge_same : (t : Table) (d : Dataset) (b : ℕ) (tx : Tx (List Overlay)) (name : List ℕ) (prefer : Prefer) (o : Option ℕ) → IsWide t tx → length (head_of d b) ≡ length t → merge_named privately d b (as_private t tx) name prefer o ≡ image t (merge_named (over_table t) d b tx name prefer o)
 merge_same t d b tx name prefer None w e = refl
 merge_same t d b tx name prefer (Some c) w e =
-    cond_same t (ground_of d b).full _ _ _ _ refl (merged_same t tx (head_place d c) (table_changes (all_widths d.schema) prefer (common_table d b c) (head_of d b) (head_of d c)) (refusal_of_merge d.schema tx.room prefer (common_table d b c) (head_of d b) (head_of d c)) w
+    cond_same t (ground_of d b).full _ _ _ _ refl (merged_same t d.schema tx (head_place d c) (table_changes (all_widths d.schema) prefer (common_table d b c) (head_of d b) (head_of d c)) (refusal_of_merge d.schema tx.room prefer (common_table d b c) (head_of d b) (head_of d c)) w
     (subst (λ n. list_all (λ x. nat_lt x.relation n) (table_changes (all_widths d.schema) prefer (common_table d b c) (head_of d b) (head_of d c)) ≡ true) e (merged_within (all_widths d.schema) prefer (common_table d b c) (head_of d b) (head_of d c))))
 
 -- one line

@@ -4,7 +4,6 @@ use Rattle.db_value.specs.Value.{Value}
 use Rattle.db_value.specs.Relations.{columns_at, widths_at}
 use Rattle.db_value.specs.Widths.{meets}
 use Rattle.db_value.specs.Condition.{holds}
-use Rattle.db_value.specs.Pred.{first_unknown}
 use Rattle.db_value.specs.declared.record.Record.{Record}
 use Rattle.db_value.specs.declared.schema.Relation.{Relation}
 use Rattle.db_value.specs.declared.condition.Set.{Set}
@@ -26,14 +25,18 @@ use Rattle.stmt_text.specs.declared.stmt.ScanOver.TheVariants.{Current, Named, H
 use Rattle.branch_tx.specs.Keeping.{Keeping}
 use Rattle.db_store.specs.Found.{Found, found, lack, branch_names, plain}
 use Rattle.branch_tx.specs.Found.{Source, Own, Other, Lacking, source_of, first_lacking}
-use Rattle.branch_tx.specs.Act.{Tx, Outcome, Ground, updated, insert_refusal, change_refusal, unless, unless_full, fields_at, has_space, has_room, changed_to, insert_of, update_in, update_of, delete_of, get_from, source_at, get_of, scan_versions, scan_over, scan_of, join_with, join_of, minus_of, act}
+use Rattle.branch_tx.specs.Act.{Tx, Outcome, Ground, body_refusal, updated, insert_refusal, change_refusal, unless, unless_full, fields_at, has_space, has_room, is_body, taken_to, changed_to, insert_of, update_in, update_of, delete_of, get_from, source_at, get_of, scan_versions, scan_over, scan_of, join_with, join_of, minus_of, act}
 use Rattle.line_needs.specs.Columns.{relation_named, resolved}
-use Rattle.line_needs.specs.Early.{column_refusal}
+use Rattle.line_needs.specs.Misfits.{sets_misfit}
+use Rattle.line_needs.specs.Early.{row_refusal, terms_refusal}
 use Rattle.branch_tx.specs.Merging.{refusal_of_merge, put_all, merged_to}
 use Rattle.branch_tx.specs.Alone.{ground_of, common_table, place_in, room_of, on_of, branch_as, has_changed, merge_named, step}
 use Rattle.branch_tx.proofs.Private.{State}
 use Rattle.branch_tx.proofs.Images.{named_within}
-use Rattle.line_needs.proofs.SetLemmas.{AreNumbers, resolved_numbers}
+use Rattle.line_needs.specs.Known.{of_named, refused_or}
+use Rattle.line_needs.specs.declared.known.Known.TheVariants.{Of}
+use Rattle.line_needs.proofs.Knowing.{known_insert}
+use Rattle.line_needs.proofs.SetLemmas.{AreFitting, resolved_fitting}
 use Rattle.branch_tx.proofs.WithSets.{meets_sets}
 
 -- What may be set where a key has a state: a new record meets the widths of the columns, and there is space for it; another one meets them if the one before does.
@@ -49,6 +52,7 @@ pub record IsChange {W : Type 0} (k : Keeping W) (g : Ground) (tx : Tx W) (r key
   pub open_branch : g.full ≡ false
   pub room : has_room k tx r key ≡ true
   pub state : MayBe (widths_at g.schema r) (has_space k tx r) (fields_at k tx r key) st
+  pub body : is_body k g.schema tx.second (k.put tx.work r key st) ≡ true
 
 -- a branch that can be made
 pub record IsBranch (d : Dataset) (name : List ℕ) (f : Found) : Type 0 where
@@ -69,10 +73,21 @@ pub record IsMerge {W : Type 0} (k : Keeping W) (d : Dataset) (b : ℕ) (tx : Tx
   pub first : has_changed k tx ≡ false
   pub open_branch : (ground_of d b).full ≡ false
   pub accepted : why_unmerged d b tx.room prefer c ≡ None
+  pub body : is_body k d.schema (Some (head_place d c)) (put_all k tx.work (merge_changes d b prefer c)) ≡ true
 
 -- a transaction after it
 abbrev pub merged_with : {W : Type 0} → Keeping W → Dataset → ℕ → Tx W → Prefer → ℕ → Tx W
 merged_with k d b tx prefer c = record tx { work = put_all k tx.work (merge_changes d b prefer c); second = Some (head_place d c) }
+
+-- an entry that isn't refused isn't too large
+pub body_small : (q : Bool) → body_refusal q ≡ None → q ≡ true
+body_small true e = refl
+body_small false e = absurd cc
+
+-- a row that isn't refused meets the widths of its relation
+row_meets : (schema : List Relation) (name : List ℕ) (key : ℕ) (fields : List Value) (r : ℕ) → relation_named schema name ≡ Some r → row_refusal schema name fields (Some r) ≡ None → meets (widths_at schema r) fields ≡ true
+row_meets schema name key fields r e n =
+    (known_insert schema true false name key fields r (ap (λ (o : Option ℕ). refused_or (row_refusal schema name fields o) (of_named o)) e ∙ ap (λ (q : Option Refusal). refused_or q (Of r)) n)).1
 
 module _ {W : Type 0} (k : Keeping W) (P : Tx W → Type 0) where
   pub cond_keeps : (q : Bool) (x y : Outcome W) → P x.tx → P y.tx → P (cond q x y).tx
@@ -83,9 +98,20 @@ module _ {W : Type 0} (k : Keeping W) (P : Tx W → Type 0) where
   cond_by true x y h f = h refl
   cond_by false x y h f = f refl
 
-  changed_keeps : (tx : Tx W) (r key : ℕ) (st : State) (o : Option Refusal) → P tx → (o ≡ None → P (record tx { work = k.put tx.work r key st })) → P (changed_to k tx r key st o).tx
-  changed_keeps tx r key st (Some why) h f = h
-  changed_keeps tx r key st None h f = f refl
+  unless_by : (tx : Tx W) (o : Option Refusal) (x : Outcome W) → P tx → (o ≡ None → P x.tx) → P (unless tx o x).tx
+  unless_by tx None x h f = f refl
+  unless_by tx (Some why) x h f = h
+
+  asked_keeps : (tx : Tx W) (o : Option Refusal) (x : Outcome W) → P tx → P x.tx → P (unless tx o x).tx
+  asked_keeps tx None x h f = f
+  asked_keeps tx (Some why) x h f = h
+
+  taken_keeps : (schema : List Relation) (tx : Tx W) (second : Option VersionPlace) (work : W) → P tx → (is_body k schema second work ≡ true → P (record tx { work = work; second = second })) → P (taken_to k schema tx second work).tx
+  taken_keeps schema tx second work h f = unless_by tx (body_refusal (is_body k schema second work)) _ h (λ e. f (body_small (is_body k schema second work) e))
+
+  changed_keeps : (schema : List Relation) (tx : Tx W) (r key : ℕ) (st : State) (o : Option Refusal) → P tx → (o ≡ None → is_body k schema tx.second (k.put tx.work r key st) ≡ true → P (record tx { work = k.put tx.work r key st })) → P (changed_to k schema tx r key st o).tx
+  changed_keeps schema tx r key st (Some why) h f = h
+  changed_keeps schema tx r key st None h f = taken_keeps schema tx tx.second (k.put tx.work r key st) h (f refl)
 
   -- what an accepted change keeps
   abbrev Changes : Ground → Tx W → Type 0
@@ -104,28 +130,28 @@ module _ {W : Type 0} (k : Keeping W) (P : Tx W → Type 0) where
 
   insert_keeps : (g : Ground) (tx : Tx W) (name : List ℕ) (key : ℕ) (fields : List Value) (o : Option ℕ) → relation_named g.schema name ≡ o → P tx → Changes g tx → P (insert_of k g tx name key fields o).tx
   insert_keeps g tx name key fields None e h f = h
-  insert_keeps g tx name key fields (Some r) e h f = cond_by (meets (widths_at g.schema r) fields) _ _ (λ n. cond_by g.full _ _ (λ q. h) (λ q. changed_keeps tx r key (Some fields) _ h (λ a.
-      let both = insert_accepted (widths_at g.schema r) tx.room name key (fields_at k tx r key) (has_space k tx r) (has_room k tx r key) fields n a in
-      f r key (Some fields) (record { within = named_within g.schema name r e; open_branch = q; room = both.0; state = both.1 })))) (λ n. h)
+  insert_keeps g tx name key fields (Some r) e h f = unless_by tx (row_refusal g.schema name fields (Some r)) _ h (λ n. cond_by g.full _ _ (λ q. h) (λ q. changed_keeps g.schema tx r key (Some fields) _ h (λ a s.
+      let both = insert_accepted (widths_at g.schema r) tx.room name key (fields_at k tx r key) (has_space k tx r) (has_room k tx r key) fields (row_meets g.schema name key fields r e n) a in
+      f r key (Some fields) (record { within = named_within g.schema name r e; open_branch = q; room = both.0; state = both.1; body = s }))))
 
   change_keeps : (g : Ground) (tx : Tx W) (r : ℕ) (name : List ℕ) (key : ℕ) (st : State) → r < length g.schema → P tx → Changes g tx
       → ((fields : List Value) → fields_at k tx r key ≡ Some fields → MayBe (widths_at g.schema r) (has_space k tx r) (Some fields) st)
-      → P (unless_full g tx (changed_to k tx r key st (change_refusal name key tx.room (fields_at k tx r key) (has_room k tx r key)))).tx
-  change_keeps g tx r name key st l h f s = cond_by g.full _ _ (λ q. h) (λ q. changed_keeps tx r key st _ h (λ a.
+      → P (unless_full g tx (changed_to k g.schema tx r key st (change_refusal name key tx.room (fields_at k tx r key) (has_room k tx r key)))).tx
+  change_keeps g tx r name key st l h f s = cond_by g.full _ _ (λ q. h) (λ q. changed_keeps g.schema tx r key st _ h (λ a m.
       let both = change_accepted (widths_at g.schema r) tx.room name key (fields_at k tx r key) st (has_space k tx r) (has_room k tx r key) s a in
-      f r key st (record { within = l; open_branch = q; room = both.0; state = both.1 })))
+      f r key st (record { within = l; open_branch = q; room = both.0; state = both.1; body = m })))
 
-  updated_may : (ws : List ℕ) (space : Bool) (sets : List Set) (o : State) → AreNumbers ws sets → (fields : List Value) → o ≡ Some fields → MayBe ws space (Some fields) (updated sets o)
+  updated_may : (ws : List ℕ) (space : Bool) (sets : List Set) (o : State) → AreFitting ws sets → (fields : List Value) → o ≡ Some fields → MayBe ws space (Some fields) (updated sets o)
   updated_may ws space sets None n fields e = absurd cc
   updated_may ws space sets (Some old) n fields e = λ h. let same : old ≡ fields = cc in meets_sets ws old sets n (ap (meets ws) same ∙ h)
 
-  update_keeps : (g : Ground) (tx : Tx W) (r : ℕ) (name : List ℕ) (key : ℕ) (sets : Result (List Set) (List ℕ)) → r < length g.schema → ((ss : List Set) → sets ≡ Ok ss → AreNumbers (widths_at g.schema r) ss) → P tx → Changes g tx → P (update_in k g tx r name key sets).tx
-  update_keeps g tx r name key (Err column) l n h f = h
-  update_keeps g tx r name key (Ok sets) l n h f = change_keeps g tx r name key (updated sets (fields_at k tx r key)) l h f (updated_may (widths_at g.schema r) (has_space k tx r) sets (fields_at k tx r key) (n sets refl))
+  update_keeps : (g : Ground) (tx : Tx W) (r : ℕ) (name : List ℕ) (key : ℕ) (sets : Result (List Set) (List ℕ)) (misfit : Option Refusal) → r < length g.schema → ((ss : List Set) → sets ≡ Ok ss → misfit ≡ None → AreFitting (widths_at g.schema r) ss) → P tx → Changes g tx → P (update_in k g tx r name key sets misfit).tx
+  update_keeps g tx r name key (Err column) misfit l n h f = h
+  update_keeps g tx r name key (Ok sets) misfit l n h f = unless_by tx misfit _ h (λ e. change_keeps g tx r name key (updated sets (fields_at k tx r key)) l h f (updated_may (widths_at g.schema r) (has_space k tx r) sets (fields_at k tx r key) (n sets refl e)))
 
   update_of_keeps : (g : Ground) (tx : Tx W) (name : List ℕ) (key : ℕ) (sets : List NamedSet) (o : Option ℕ) → relation_named g.schema name ≡ o → P tx → Changes g tx → P (update_of k g tx name key sets o).tx
   update_of_keeps g tx name key sets None e h f = h
-  update_of_keeps g tx name key sets (Some r) e h f = update_keeps g tx r name key (resolved (widths_at g.schema r) (columns_at g.schema r) sets) (named_within g.schema name r e) (resolved_numbers (widths_at g.schema r) (columns_at g.schema r) sets) h f
+  update_of_keeps g tx name key sets (Some r) e h f = update_keeps g tx r name key (resolved (columns_at g.schema r) sets) (sets_misfit (widths_at g.schema r) (columns_at g.schema r) sets) (named_within g.schema name r e) (resolved_fitting (widths_at g.schema r) (columns_at g.schema r) sets) h f
 
   delete_keeps : (g : Ground) (tx : Tx W) (name : List ℕ) (key : ℕ) (o : Option ℕ) → relation_named g.schema name ≡ o → P tx → Changes g tx → P (delete_of k g tx name key o).tx
   delete_keeps g tx name key None e h f = h
@@ -140,10 +166,6 @@ module _ {W : Type 0} (k : Keeping W) (P : Tx W → Type 0) where
   get_keeps sources tx name key at None h = h
   get_keeps sources tx name key at (Some r) h = from_keeps tx r key (source_at k sources at) h
 
-  asked_keeps : (tx : Tx W) (o : Option Refusal) (x : Outcome W) → P tx → P x.tx → P (unless tx o x).tx
-  asked_keeps tx None x h f = f
-  asked_keeps tx (Some why) x h f = h
-
   versions_keeps : (sources : VersionName → Source) (tx : Tx W) (r : ℕ) (p : Record → Bool) (names : List VersionName) → P tx → P (scan_versions k sources tx r p names).tx
   versions_keeps sources tx r p names h = asked_keeps tx (first_lacking (map sources names)) _ h h
 
@@ -155,12 +177,12 @@ module _ {W : Type 0} (k : Keeping W) (P : Tx W → Type 0) where
   pub scan_keeps : (schema : List Relation) (sources : VersionName → Source) (heads : List (List ℕ)) (tx : Tx W) (name : List ℕ) (over : ScanOver) (terms : List Term) (o : Option ℕ) → P tx → P (scan_of k schema sources heads tx name over terms o).tx
   scan_keeps schema sources heads tx name over terms None h = h
   scan_keeps schema sources heads tx name over terms (Some r) h =
-      asked_keeps tx (column_refusal (first_unknown (columns_at schema r) terms)) _ h (over_keeps sources heads tx r (holds (columns_at schema r) terms) over h)
+      asked_keeps tx (terms_refusal schema r terms) _ h (over_keeps sources heads tx r (holds (columns_at schema r) terms) over h)
 
   join_with_keeps : (schema : List Relation) (tx : Tx W) (r : ℕ) (name : List ℕ) (left right : Source) (terms : List Term) (o : Option ℕ) → P tx → P (join_with k schema tx r name left right terms o).tx
   join_with_keeps schema tx r name left right terms None h = h
   join_with_keeps schema tx r name left right terms (Some s) h =
-      asked_keeps tx (column_refusal (first_unknown (columns_at schema r) terms)) _ h (asked_keeps tx (first_lacking (left ∷ right ∷ [])) _ h h)
+      asked_keeps tx (terms_refusal schema r terms) _ h (asked_keeps tx (first_lacking (left ∷ right ∷ [])) _ h h)
 
   pub join_keeps : (schema : List Relation) (tx : Tx W) (name other : List ℕ) (left right : Source) (terms : List Term) (o q : Option ℕ) → P tx → P (join_of k schema tx name other left right terms o q).tx
   join_keeps schema tx name other left right terms None q h = h
@@ -189,14 +211,14 @@ module _ {W : Type 0} (k : Keeping W) (P : Tx W → Type 0) where
   branch_keeps tx name at None (Some old) count h f = h
   branch_keeps tx name at None None count h f = cond_by (nat_lt count most_branches) _ _ (f refl refl) (λ q. h)
 
-  merged_keeps : (tx : Tx W) (from : VersionPlace) (cs : List Change) (o : Option Refusal) → P tx → (o ≡ None → P (record tx { work = put_all k tx.work cs; second = Some from })) → P (merged_to k tx from cs o).tx
-  merged_keeps tx from cs (Some why) h f = h
-  merged_keeps tx from cs None h f = f refl
+  merged_keeps : (schema : List Relation) (tx : Tx W) (from : VersionPlace) (cs : List Change) (o : Option Refusal) → P tx → (o ≡ None → is_body k schema (Some from) (put_all k tx.work cs) ≡ true → P (record tx { work = put_all k tx.work cs; second = Some from })) → P (merged_to k schema tx from cs o).tx
+  merged_keeps schema tx from cs (Some why) h f = h
+  merged_keeps schema tx from cs None h f = taken_keeps schema tx (Some from) (put_all k tx.work cs) h (f refl)
 
   pub merge_keeps : (d : Dataset) (b : ℕ) (tx : Tx W) (name : List ℕ) (prefer : Prefer) (o : Option ℕ) → P tx
-      → ((c : ℕ) → o ≡ Some c → (ground_of d b).full ≡ false → why_unmerged d b tx.room prefer c ≡ None → P (merged_with k d b tx prefer c)) → P (merge_named k d b tx name prefer o).tx
+      → ((c : ℕ) → o ≡ Some c → (ground_of d b).full ≡ false → why_unmerged d b tx.room prefer c ≡ None → is_body k d.schema (Some (head_place d c)) (put_all k tx.work (merge_changes d b prefer c)) ≡ true → P (merged_with k d b tx prefer c)) → P (merge_named k d b tx name prefer o).tx
   merge_keeps d b tx name prefer None h f = h
-  merge_keeps d b tx name prefer (Some c) h f = cond_by (ground_of d b).full _ _ (λ q. h) (λ q. merged_keeps tx (head_place d c) (merge_changes d b prefer c) (why_unmerged d b tx.room prefer c) h (λ a. f c refl q a))
+  merge_keeps d b tx name prefer (Some c) h f = cond_by (ground_of d b).full _ _ (λ q. h) (λ q. merged_keeps d.schema tx (head_place d c) (merge_changes d b prefer c) (why_unmerged d b tx.room prefer c) h (λ a s. f c refl q a s))
 
   -- what stands of a transaction stands after a line
   pub step_keeps : (d : Dataset) (b : ℕ) (tx : Tx W) (x : Stmt) → P tx
@@ -215,7 +237,7 @@ module _ {W : Type 0} (k : Keeping W) (P : Tx W → Type 0) where
   step_keeps d b tx Segments h begin change new move merge = h
   step_keeps d b tx Checkpoint h begin change new move merge = cond_keeps tx.begun _ _ h h
   step_keeps d b tx (Merge name prefer) h begin change new move merge = cond_by (has_changed k tx) _ _ (λ q. h)
-      (λ q. merge_keeps d b tx name prefer (branch_named d name) h (λ c e l a. merge name prefer c e (record { first = q; open_branch = l; accepted = a })))
+      (λ q. merge_keeps d b tx name prefer (branch_named d name) h (λ c e l a s. merge name prefer c e (record { first = q; open_branch = l; accepted = a; body = s })))
   step_keeps d b tx (Branch name origin) h begin change new move merge = cond_keeps tx.begun _ _ h
       (branch_keeps tx name (place_in (found d origin)) (lack (found d origin)) (branch_named d name) (length d.branches) h (λ a c e. new name origin (record { origin = a; new = c; room = e })))
   step_keeps d b tx x h begin change new move merge = act_keeps (ground_of d b) (λ v. source_of b (found d v)) (branch_names d) tx x h change

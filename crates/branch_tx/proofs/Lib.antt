@@ -25,5 +25,6 @@ pub mod AsksStay
 pub mod LineKeeps
 pub mod FrameLemmas
 pub mod Covered
+pub mod Stopping
 pub mod MergeLemmas
 pub mod Examples

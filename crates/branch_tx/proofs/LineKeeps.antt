@@ -51,7 +51,7 @@ module _ (P : Tx (List Overlay) → Type 0) (d : Dataset) (b : ℕ) (tx : Tx (Li
       (branch_keeps k P tx name (place_in (found d origin)) (lack (found d origin)) (branch_named d name) (length d.branches) h
       (λ a c l. make (inl refl) name origin (record { origin = a; new = c; room = l })))
   late_keeps (Merge name prefer) change make = cond_keeps k P (is_changed tx) _ _ h
-      (merge_keeps k P d b tx name prefer (branch_named d name) h (λ c e l a. change (subst (λ (o : Option ℕ). Has (merge_needs b o) (exclusive (lock_of b))) (sym e) (inl refl)) _ _))
+      (merge_keeps k P d b tx name prefer (branch_named d name) h (λ c e l a s. change (subst (λ (o : Option ℕ). Has (merge_needs b o) (exclusive (lock_of b))) (sym e) (inl refl)) _ _))
   late_keeps (Insert name key fields) change make = act_keeps k P (ground_of d b) sources (branch_names d) tx (Insert name key fields) h (λ r key st is. change (inl refl) (k.put tx.work r key st) tx.second)
   late_keeps (Update name key sets) change make = act_keeps k P (ground_of d b) sources (branch_names d) tx (Update name key sets) h (λ r key st is. change (inl refl) (k.put tx.work r key st) tx.second)
   late_keeps (Delete name key) change make = act_keeps k P (ground_of d b) sources (branch_names d) tx (Delete name key) h (λ r key st is. change (inl refl) (k.put tx.work r key st) tx.second)

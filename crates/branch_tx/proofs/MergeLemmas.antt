@@ -7,57 +7,63 @@ use Rattle.db_value.specs.declared.schema.Column.{Column}
 use Rattle.db_value.specs.declared.condition.Prefer.{Prefer}
 use Rattle.db_value.specs.declared.entry.Change.{Change}
 use Rattle.db_value.specs.declared.version.VersionPlace.{VersionPlace}
+use Rattle.db_value.specs.declared.reply.Reply.TheVariants.{Done}
 use Rattle.db_value.specs.declared.reply.Refusal.{Refusal}
-use Rattle.db_value.specs.declared.reply.Refusal.TheVariants.{TableFull as RefusedFull, Room as RefusedRoom}
+use Rattle.db_value.specs.declared.reply.Refusal.TheVariants.{TableFull as RefusedFull, Room as RefusedRoom, BodyFull as RefusedBody}
 use Rattle.db_store.specs.declared.work.WorkStop.{WorkStop}
-use Rattle.db_store.specs.declared.work.WorkStop.TheVariants.{TableFull, Room}
+use Rattle.db_store.specs.declared.work.WorkStop.TheVariants.{TableFull, BodyFull}
 use Rattle.db_store.specs.Table.{Table, with_changes}
 use Rattle.db_store.specs.Fits.{most_keys}
 use Rattle.db_store.specs.Overlay.{Overlay, untouched, laid}
-use Rattle.db_store.specs.Adopt.{full_from, stop_where, adopt_stop}
+use Rattle.db_store.specs.Adopt.{touched_by, full_from, stop_where, adopt_stop}
 use Rattle.db_store.specs.RowWidths.{all_widths}
 use Rattle.db_store.proofs.OverlayLemmas.{laid_untouched}
 use Rattle.db_store.proofs.CountLemmas.{length_with_changes}
 use Rattle.field_merge.specs.Merge.{Clash, least_clash, table_changes, table_clashes}
 use Rattle.branch_tx.specs.Keeping.{over_table}
-use Rattle.branch_tx.specs.Act.{Outcome, refused}
-use Rattle.branch_tx.specs.Merging.{relation_name, conflict_in, merge_refusal, merged_to}
-use Rattle.branch_tx.specs.Granted.{Granted, ground_in, tx_in, merged}
+use Rattle.branch_tx.specs.Act.{Outcome, body_refusal, refused, answered, unless, is_body}
+use Rattle.branch_tx.specs.Merging.{relation_name, conflict_in, merge_refusal, put_all, merged_to}
+use Rattle.branch_tx.specs.Granted.{Granted, ground_in, tx_in, merged, adopted}
+use Rattle.branch_tx.proofs.Fitting.{put_all_is}
+use Rattle.branch_tx.proofs.Stopping.{working_in}
 
 -- the name of a column among the names of all
 pub name_at : (columns : List Column) (i : ℕ) (d : Column) → i < length columns → (get_or columns i d).name ≡ get_or (map (λ c. c.name) columns) i []
 name_at columns i d h = sym (get_or-map (λ (c : Column). c.name) columns i d [] h)
 
--- ---- why changes aren't taken
+-- ---- what changes do, by the stop of the working table
 
-none_given : (schema : List Relation) (n room : ℕ) (o : Option ℕ) → stop_where o (nat_le n room) ≡ None → merge_refusal schema room n None o ≡ None
-none_given schema n room (Some r) e = absurd cc
-none_given schema n room None e = by (nat_le n room) e
+-- a transaction with these changes, or the refusal of a merge
+abbrev pub stopped_by : Granted → VersionPlace → List Overlay → Option WorkStop → Outcome (List Overlay)
+stopped_by g from work None = answered (record (tx_in g) { work = work; second = Some from }) Done
+stopped_by g from work (Some (TableFull r)) = refused (tx_in g) (RefusedFull (relation_name g.schema r))
+stopped_by g from work (Some BodyFull) = refused (tx_in g) RefusedBody
+stopped_by g from work (Some _) = refused (tx_in g) (RefusedRoom g.room)
+
+-- a merge that nothing refuses but want of space in the entry
+abbrev onto : Granted → VersionPlace → List Overlay → Bool → Option Refusal → Outcome (List Overlay)
+onto g from work short (Some why) = refused (tx_in g) why
+onto g from work short None = unless (tx_in g) (body_refusal short) (answered (record (tx_in g) { work = work; second = Some from }) Done)
+
+onto_is : (g : Granted) (from : VersionPlace) (cs : List Change) (o : Option Refusal)
+    → merged_to (over_table g.head) g.schema (tx_in g) from cs o ≡ onto g from (put_all (over_table g.head) g.overlays cs) (is_body (over_table g.head) g.schema (Some from) (put_all (over_table g.head) g.overlays cs)) o
+onto_is g from cs (Some why) = refl
+onto_is g from cs None = refl
+
+onto_stopped : (g : Granted) (from : VersionPlace) (work : List Overlay) (n : ℕ) (o : Option ℕ) (short : Bool) → onto g from work short (merge_refusal g.schema g.room n None o) ≡ stopped_by g from work (stop_where o (nat_le n g.room) short)
+onto_stopped g from work n (Some r) short = refl
+onto_stopped g from work n None short = by (nat_le n g.room) short
   where
-    by : (q : Bool) → stop_where None q ≡ None → cond q None (Some (RefusedRoom room)) ≡ None
-    by true e = refl
-    by false e = absurd cc
+    by : (q b : Bool) → onto g from work b (cond q None (Some (RefusedRoom g.room))) ≡ stopped_by g from work (stop_where None q b)
+    by true true = refl
+    by true false = refl
+    by false b = refl
 
-full_given : (schema : List Relation) (n room r : ℕ) (o : Option ℕ) → stop_where o (nat_le n room) ≡ Some (TableFull r) → merge_refusal schema room n None o ≡ Some (RefusedFull (relation_name schema r))
-full_given schema n room r (Some k) e = let same : k ≡ r = cc in ap (λ x. Some (RefusedFull (relation_name schema x))) same
-full_given schema n room r None e = by (nat_le n room) e
-  where
-    by : (q : Bool) → stop_where None q ≡ Some (TableFull r) → cond q None (Some (RefusedRoom room)) ≡ Some (RefusedFull (relation_name schema r))
-    by true e = absurd cc
-    by false e = absurd cc
-
-room_given : (schema : List Relation) (n room : ℕ) (o : Option ℕ) → stop_where o (nat_le n room) ≡ Some Room → merge_refusal schema room n None o ≡ Some (RefusedRoom room)
-room_given schema n room (Some k) e = absurd cc
-room_given schema n room None e = by (nat_le n room) e
-  where
-    by : (q : Bool) → stop_where None q ≡ Some Room → cond q None (Some (RefusedRoom room)) ≡ Some (RefusedRoom room)
-    by true e = absurd cc
-    by false e = refl
-
-stop_relation : (o : Option ℕ) (q : Bool) (r : ℕ) → stop_where o q ≡ Some (TableFull r) → o ≡ Some r
-stop_relation (Some k) q r e = let same : k ≡ r = cc in ap Some same
-stop_relation None true r e = absurd cc
-stop_relation None false r e = absurd cc
+stop_relation : (o : Option ℕ) (q b : Bool) (r : ℕ) → stop_where o q b ≡ Some (TableFull r) → o ≡ Some r
+stop_relation (Some k) q b r e = let same : k ≡ r = cc in ap Some same
+stop_relation None true true r e = absurd cc
+stop_relation None true false r e = absurd cc
+stop_relation None false b r e = absurd cc
 
 full_within : (n : ℕ) (t : Table) (r : ℕ) → full_from n t ≡ Some r → r < n + length t
 full_within n [] r e = absurd cc
@@ -69,10 +75,10 @@ full_within n (m ∷ ms) r e = by (nat_le (finite.len m) most_keys) (λ q. full_
 
 -- ---- a transaction that has touched nothing
 
-abbrev pub stop_in : Granted → List Change → Option WorkStop
-stop_in g cs = adopt_stop (record { below = g.head; overlays = g.overlays; room = g.room }) cs
+abbrev pub stop_in : Granted → VersionPlace → List Change → Option WorkStop
+stop_in g from cs = adopt_stop (working_in g) from cs
 
--- why it doesn't take changes
+-- why it refuses a merge that has no conflict, but for want of space in the entry
 abbrev pub given : Granted → List Change → Option Refusal
 given g cs = merge_refusal g.schema g.room (length cs) None (full_from 0 (with_changes g.head cs))
 
@@ -80,22 +86,26 @@ module _ (g : Granted) (clean : g.overlays ≡ untouched) where
   pub laid_is : laid g.head g.overlays ≡ g.head
   laid_is = ap (laid g.head) clean ∙ laid_untouched g.head
 
-  stop_is : (cs : List Change) → stop_in g cs ≡ stop_where (full_from 0 (with_changes g.head cs)) (nat_le (length cs) g.room)
-  stop_is cs = ap (λ (t : Table). stop_where (full_from 0 (with_changes t cs)) (nat_le (length cs) g.room)) laid_is
+  -- the entry of the working table after changes takes them
+  abbrev is_short : VersionPlace → List Overlay → Bool
+  is_short from work = is_body (over_table g.head) g.schema (Some from) work
 
-  pub taken : (cs : List Change) → stop_in g cs ≡ None → given g cs ≡ None
-  taken cs e = none_given g.schema (length cs) g.room (full_from 0 (with_changes g.head cs)) (sym (stop_is cs) ∙ e)
+  stop_is : (from : VersionPlace) (cs : List Change) → stop_where (full_from 0 (with_changes g.head cs)) (nat_le (length cs) g.room) (is_short from (touched_by g.overlays cs)) ≡ stop_in g from cs
+  stop_is from cs = ap (λ (t : Table). stop_where (full_from 0 (with_changes t cs)) (nat_le (length cs) g.room) (is_short from (touched_by g.overlays cs))) (sym laid_is)
 
-  pub filled : (cs : List Change) (r : ℕ) → stop_in g cs ≡ Some (TableFull r) → given g cs ≡ Some (RefusedFull (relation_name g.schema r))
-  filled cs r e = full_given g.schema (length cs) g.room r (full_from 0 (with_changes g.head cs)) (sym (stop_is cs) ∙ e)
+  -- what the changes of a merge do, once they are found
+  pub adopted_is : (from : VersionPlace) (cs : List Change) → adopted g from cs ≡ stopped_by g from (touched_by g.overlays cs) (stop_in g from cs)
+  adopted_is from cs =
+      onto_is g from cs (given g cs)
+      ∙ ap (λ (os : List Overlay). onto g from os (is_short from os) (given g cs)) (put_all_is g.head g.overlays cs)
+      ∙ onto_stopped g from (touched_by g.overlays cs) (length cs) (full_from 0 (with_changes g.head cs)) (is_short from (touched_by g.overlays cs))
+      ∙ ap (stopped_by g from (touched_by g.overlays cs)) (stop_is from cs)
 
-  pub filled_within : (cs : List Change) (r : ℕ) → stop_in g cs ≡ Some (TableFull r) → r < length g.head
-  filled_within cs r e =
-      let h = full_within 0 (with_changes g.head cs) r (stop_relation (full_from 0 (with_changes g.head cs)) (nat_le (length cs) g.room) r (sym (stop_is cs) ∙ e)) in
+  pub filled_within : (from : VersionPlace) (cs : List Change) (r : ℕ) → stop_in g from cs ≡ Some (TableFull r) → r < length g.head
+  filled_within from cs r e =
+      let full = stop_relation (full_from 0 (with_changes g.head cs)) (nat_le (length cs) g.room) (is_short from (touched_by g.overlays cs)) r (stop_is from cs ∙ e) in
+      let h = full_within 0 (with_changes g.head cs) r full in
       omega (arith, h, length_with_changes g.head cs)
-
-  pub crowded : (cs : List Change) → stop_in g cs ≡ Some Room → given g cs ≡ Some (RefusedRoom g.room)
-  crowded cs e = room_given g.schema (length cs) g.room (full_from 0 (with_changes g.head cs)) (sym (stop_is cs) ∙ e)
 
   -- ---- the merge
 
@@ -104,11 +114,11 @@ module _ (g : Granted) (clean : g.overlays ≡ untouched) where
   unless_open false a x e = refl
 
   pub merged_by : (from : VersionPlace) (prefer : Prefer) (base right : Table) (cs : List Change) → (ground_in g).full ≡ false → cs ≡ table_changes (all_widths g.schema) prefer base (laid g.head g.overlays) right → table_clashes prefer base (laid g.head g.overlays) right ≡ []
-      → merged_to (over_table g.head) (tx_in g) from cs (given g cs) ≡ merged g from prefer base right
+      → merged_to (over_table g.head) g.schema (tx_in g) from cs (given g cs) ≡ merged g from prefer base right
   merged_by from prefer base right cs room e free =
       let is : cs ≡ table_changes (all_widths g.schema) prefer base g.head right = e ∙ ap (λ (t : Table). table_changes (all_widths g.schema) prefer base t right) laid_is in
       let none : None ≡ least_clash (table_clashes prefer base g.head right) = sym (ap (λ (t : Table). least_clash (table_clashes prefer base t right)) (sym laid_is) ∙ ap least_clash free) in
-      (λ i. merged_to (over_table g.head) (tx_in g) from (is i) (merge_refusal g.schema g.room (length (is i)) (none i) (full_from 0 (with_changes g.head (is i)))))
+      (λ i. merged_to (over_table g.head) g.schema (tx_in g) from (is i) (merge_refusal g.schema g.room (length (is i)) (none i) (full_from 0 (with_changes g.head (is i)))))
       ∙ unless_open (ground_in g).full _ _ room
 
   pub conflicting : (from : VersionPlace) (prefer : Prefer) (base right : Table) (c : Clash) → (ground_in g).full ≡ false → least_clash (table_clashes prefer base (laid g.head g.overlays) right) ≡ Some c
@@ -116,5 +126,5 @@ module _ (g : Granted) (clean : g.overlays ≡ untouched) where
   conflicting from prefer base right c room e =
       let is : Some c ≡ least_clash (table_clashes prefer base g.head right) = sym (ap (λ (t : Table). least_clash (table_clashes prefer base t right)) (sym laid_is) ∙ e) in
       let cs = table_changes (all_widths g.schema) prefer base g.head right in
-      (λ i. merged_to (over_table g.head) (tx_in g) from cs (merge_refusal g.schema g.room (length cs) (is i) (full_from 0 (with_changes g.head cs))))
+      (λ i. merged_to (over_table g.head) g.schema (tx_in g) from cs (merge_refusal g.schema g.room (length cs) (is i) (full_from 0 (with_changes g.head cs))))
       ∙ unless_open (ground_in g).full _ _ room

@@ -1,19 +1,23 @@
 -- What a private table has of the changes that made it.
-use Rattle.std.proofs.Common.{◌≡◌, ◌⊎◌, inl, inr, ℕ, suc, ◌+◌, ◌<◌, ◌≤◌, ◌==◌, nat_lt, Bool, true, false, cond, ◌&&◌, ◌||◌, T, is_some, List, [], ◌∷◌, ◌++◌, map, length, set, get_or, Option, Some, None, Ordering, Less, Equal, Greater, refl, ap, sym, ◌∙◌, subst, arith}
+use Rattle.std.proofs.Common.{◌≡◌, ◌≢◌, ◌⊎◌, inl, inr, ℕ, zero, suc, ◌+◌, ◌<◌, ◌≤◌, ◌==◌, nat_lt, Bool, true, false, cond, ◌&&◌, ◌||◌, T, is_some, List, [], ◌∷◌, ◌++◌, map, length, set, replicate, get_or, Option, Some, None, Ordering, Less, Equal, Greater, refl, ap, sym, ◌∙◌, subst, arith}
 use Rattle.std.specs.Ordering.{nat_cmp, is_lt, is_eq, eq_by_cmp}
 use Rattle.std.proofs.lemmas.Cmp.{nat_cmp_total}
-use Rattle.std.proofs.lemmas.Bool.{ltb-true, eqb-true, eq-eqb, cases_lt}
+use Rattle.std.specs.List.{list_all}
+use Rattle.std.proofs.lemmas.Bool.{and_parts, ltb-true, eqb-true, eq-eqb, cases_lt}
 use Rattle.std.proofs.lemmas.Option.{none-some}
-use Rattle.std.proofs.lemmas.List.{length-map, map-set, nil_from_length}
+use Rattle.std.proofs.lemmas.List.{length-map, length-set, length-replicate, map-set, nil_from_length, get_or-set_other}
 use Rattle.std.proofs.Math.ListN.{get_or-map}
 use Rattle.std.specs.FinMap as finite
 use Rattle.std.specs.FinMap.Entries.{find, is_sorted, below_all, put, by_order}
 use Rattle.db_value.specs.Value.{Value}
+use Rattle.db_value.specs.Schema.{most_relations}
+use Rattle.db_value.specs.declared.entry.Change.{Change}
 use Rattle.db_store.specs.Table.{Table, relation_at}
-use Rattle.db_store.specs.Overlay.{Overlay, overlay_at, is_touched, count_touched, touch, over, laid, own_widths, change_of, changes_from}
+use Rattle.db_store.specs.Overlay.{Overlay, overlay_at, is_touched, count_touched, touch, untouched, over, laid, own_widths, change_of, changes_from}
 use Rattle.db_store.specs.OverlayRules.{get_laid}
 use Rattle.db_store.proofs.OverlayLemmas.{laid_touched}
-use Rattle.branch_tx.specs.Keeping.{privately, is_among, with_key, keys_at, count_keys, state_in, states_from}
+use Rattle.branch_tx.specs.Keeping.{privately, over_table, is_among, with_key, keys_at, count_keys, state_in, states_from}
+use Rattle.branch_tx.specs.Merging.{put_all}
 use Rattle.branch_tx.specs.Laws.{keys_of, private_of}
 
 abbrev pub State : Type 0
@@ -139,3 +143,35 @@ changes_same wss t os h = states_are wss (laid t os) 0 os (λ r key st g. there 
         let e : r ≡ 0 + r = omega arith in
         subst (λ k. finite.get (relation_at (laid t os) k) key ≡ st) e (get_laid t os r key l ∙ ap (λ (c : Option State). over c (finite.get (relation_at t r) key)) g)
     there r key st g (inr l) = absurd (none-some st (sym (h r key l) ∙ g))
+
+-- ---- the work of a transaction
+
+-- an overlay for each relation that there can be, and no touched key of a relation that the table lacks
+pub record IsWork (t : Table) (os : List Overlay) : Type 0 where
+  pub wide : length os ≡ most_relations
+  pub inside : IsIn t os
+
+empties : (n r : ℕ) → get_or (replicate n (finite.empty {X = State} {R = nat_cmp})) r finite.empty ≡ finite.empty
+empties zero r = refl
+empties (suc n) zero = refl
+empties (suc n) (suc r) = empties n r
+
+pub work_untouched : (t : Table) → IsWork t untouched
+work_untouched t = record {
+  wide = length-replicate most_relations (finite.empty {X = State} {R = nat_cmp});
+  inside = λ r key h. ap (λ (o : Overlay). finite.get o key) (empties most_relations r) ∙ finite.get-empty nat_cmp key;
+}
+
+pub work_touched : (t : Table) (os : List Overlay) (r key : ℕ) (st : State) → r < length t → IsWork t os → IsWork t (touch os r key st)
+work_touched t os r key st h w = record {
+  wide = length-set os r (finite.insert (overlay_at os r) key st) ∙ w.wide;
+  inside = λ j other l.
+      let apart : j ≢ r = λ e. omega (arith, e, l, h) in
+      ap (λ (o : Overlay). finite.get o other) (get_or-set_other os r j (finite.insert (overlay_at os r) key st) finite.empty apart) ∙ w.inside j other l;
+}
+
+pub work_all : (t : Table) (os : List Overlay) (cs : List Change) → list_all (λ c. nat_lt c.relation (length t)) cs ≡ true → IsWork t os → IsWork t (put_all (over_table t) os cs)
+work_all t os [] h w = w
+work_all t os (c ∷ cs) h w =
+    let two = and_parts (nat_lt c.relation (length t)) (list_all (λ c. nat_lt c.relation (length t)) cs) h in
+    work_all t (touch os c.relation c.key c.fields) cs two.1 (work_touched t os c.relation c.key c.fields (ltb-true c.relation (length t) two.0) w)

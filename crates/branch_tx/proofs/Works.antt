@@ -23,7 +23,7 @@ use Rattle.db_store.proofs.WidthLemmas.{widths_here}
 use Rattle.branch_tx.specs.Shown.{Shown, parts_by, ViewsAgree}
 use Rattle.branch_tx.specs.TxState.{AreMet}
 use Rattle.branch_tx.proofs.Private.{State}
-use Rattle.line_needs.proofs.SetLemmas.{AreNumbers}
+use Rattle.line_needs.proofs.SetLemmas.{AreFitting}
 use Rattle.branch_tx.proofs.Tables.{change_fit}
 use Rattle.branch_tx.proofs.WithSets.{updated_meets}
 
@@ -66,8 +66,8 @@ module _ {V : Type 0} {g : Ghosts V} (schema : List Relation) where
       let few = w.viewable.relations in
       ap (λ (wss : List (List ℕ)). own_widths wss r) e ∙ widths_here schema r h (omega (arith, h, wide, few))
 
-  -- what it has at a key with new values of columns of numbers
-  pub updated_at_meets : (w : Work V g) → length (g.table (under_of w)) ≡ length schema → AreMet schema (laid (g.table (under_of w)) (overlays_of w)) → (r key : ℕ) (sets : List Set) → r < length schema → AreNumbers (widths_at schema r) sets
+  -- what it has at a key with new values that have their places in their columns
+  pub updated_at_meets : (w : Work V g) → length (g.table (under_of w)) ≡ length schema → AreMet schema (laid (g.table (under_of w)) (overlays_of w)) → (r key : ℕ) (sets : List Set) → r < length schema → AreFitting (widths_at schema r) sets
       → has_fields (widths_at schema r) (updated sets (fields_at (working_of w) r key)) ≡ true
   updated_at_meets w wide m r key sets h n =
       let long = length_laid (g.table (under_of w)) (overlays_of w) in

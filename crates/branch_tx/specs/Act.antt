@@ -1,12 +1,10 @@
 -- What a statement that reads or changes records does in a transaction.
-use Rattle.std.specs.Prelude.{ℕ, ◌||◌, nat_lt, cond, Bool, true, false, List, [], ◌∷◌, length, map, Option, Some, None, Result, Ok, Err}
+use Rattle.std.specs.Prelude.{ℕ, ◌||◌, nat_lt, nat_le, cond, Bool, true, false, List, [], ◌∷◌, length, map, Option, Some, None, Result, Ok, Err}
 use Rattle.std.specs.FinMap as finite
 use Rattle.std.specs.List.{filter}
 use Rattle.db_value.specs.Value.{Value}
 use Rattle.db_value.specs.Relations.{columns_at, widths_at}
-use Rattle.db_value.specs.Widths.{meets}
 use Rattle.db_value.specs.Condition.{holds}
-use Rattle.db_value.specs.Pred.{first_unknown}
 use Rattle.db_value.specs.declared.schema.Relation.{Relation}
 use Rattle.db_value.specs.declared.record.Record.{Record}
 use Rattle.db_value.specs.declared.condition.Set.{Set}
@@ -16,10 +14,12 @@ use Rattle.db_value.specs.declared.version.VersionPlace.{VersionPlace}
 use Rattle.db_value.specs.declared.reply.Reply.{Reply}
 use Rattle.db_value.specs.declared.reply.Reply.TheVariants.{Done, One, Listed, Paired, Refused}
 use Rattle.db_value.specs.declared.reply.Refusal.{Refusal}
-use Rattle.db_value.specs.declared.reply.Refusal.TheVariants.{Line, InTransaction, NotFirst, NoRelation, NoColumn, KeyThere, KeyMissing, Room, VersionsFull, TableFull, ValueCount}
+use Rattle.db_value.specs.declared.reply.Refusal.TheVariants.{Line, InTransaction, NotFirst, NoRelation, NoColumn, KeyThere, KeyMissing, Room, VersionsFull, TableFull, BodyFull}
 use Rattle.db_store.specs.Table.{Contents, relation_at, rows_of}
 use Rattle.db_store.specs.Fits.{most_keys}
-use Rattle.db_store.specs.Work.{with_sets}
+use Rattle.db_store.specs.Body.{commit_size, most_entry}
+use Rattle.db_store.specs.RowWidths.{all_widths}
+pub use Rattle.db_store.specs.Work.{updated}
 pub use Rattle.db_store.specs.Rows.{marked}
 pub use Rattle.multi_scan.specs.Multi.{union_marked}
 pub use Rattle.version_join.specs.Join.{pairs_of, unlike}
@@ -29,7 +29,8 @@ use Rattle.stmt_text.specs.declared.stmt.NamedSet.{NamedSet}
 use Rattle.stmt_text.specs.declared.stmt.ScanOver.{ScanOver}
 use Rattle.stmt_text.specs.declared.stmt.ScanOver.TheVariants.{Current, Named, Heads}
 use Rattle.line_needs.specs.Columns.{relation_named, resolved}
-use Rattle.line_needs.specs.Early.{column_refusal}
+use Rattle.line_needs.specs.Misfits.{sets_misfit}
+use Rattle.line_needs.specs.Early.{row_refusal, terms_refusal}
 use Rattle.branch_tx.specs.Keeping.{Keeping}
 use Rattle.db_store.specs.Found.{plain}
 use Rattle.branch_tx.specs.Found.{Source, Own, Other, Lacking, first_lacking}
@@ -67,10 +68,10 @@ change_refusal name key room None free = Some (KeyMissing name key)
 change_refusal name key room (Some old) false = Some (Room room)
 change_refusal name key room (Some old) true = None
 
--- fields with new values
-abbrev pub updated : List Set → Option (List Value) → Option (List Value)
-updated sets None = None
-updated sets (Some old) = Some (with_sets old sets)
+-- what would make the transaction's entry too large is refused
+abbrev pub body_refusal : Bool → Option Refusal
+body_refusal true = None
+body_refusal false = Some BodyFull
 
 -- the record of a key with these fields, if it has any
 abbrev pub record_with : ℕ → Option (List Value) → Option Record
@@ -90,9 +91,9 @@ abbrev pub unless : {W : Type 0} → Tx W → Option Refusal → Outcome W → O
 unless tx None o = o
 unless tx (Some why) o = refused tx why
 
--- a question with a condition on the rows of a relation with these columns
-abbrev pub where_known : {W : Type 0} → Tx W → List (List ℕ) → List Term → ((Record → Bool) → Outcome W) → Outcome W
-where_known tx columns terms ask = unless tx (column_refusal (first_unknown columns terms)) (ask (holds columns terms))
+-- a question with a condition on the rows of a relation
+abbrev pub where_known : {W : Type 0} → Tx W → List Relation → ℕ → List Term → ((Record → Bool) → Outcome W) → Outcome W
+where_known tx schema r terms ask = unless tx (terms_refusal schema r terms) (ask (holds (columns_at schema r) terms))
 
 -- a branch with as many versions as it can have takes no change
 abbrev pub unless_full : {W : Type 0} → Ground → Tx W → Outcome W → Outcome W
@@ -111,39 +112,47 @@ module _ {W : Type 0} (k : Keeping W) where
   abbrev pub has_room : Tx W → ℕ → ℕ → Bool
   has_room tx r key = k.is_touched tx.work r key || nat_lt (k.touches tx.work) tx.room
 
+  -- the entry that a working table makes isn't too large
+  abbrev pub is_body : List Relation → Option VersionPlace → W → Bool
+  is_body schema second work = nat_le (commit_size second (k.changes (all_widths schema) work)) most_entry
+
+  -- a working table with a second parent after a change or a merge, unless its entry would be too large
+  abbrev pub taken_to : List Relation → Tx W → Option VersionPlace → W → Outcome W
+  taken_to schema tx second work = unless tx (body_refusal (is_body schema second work)) (answered (record tx { work = work; second = second }) Done)
+
   -- an accepted change sets one key and touches it
-  abbrev pub changed_to : Tx W → ℕ → ℕ → Option (List Value) → Option Refusal → Outcome W
-  changed_to tx r key state (Some why) = refused tx why
-  changed_to tx r key state None = answered (record tx { work = k.put tx.work r key state }) Done
+  abbrev pub changed_to : List Relation → Tx W → ℕ → ℕ → Option (List Value) → Option Refusal → Outcome W
+  changed_to schema tx r key state (Some why) = refused tx why
+  changed_to schema tx r key state None = taken_to schema tx tx.second (k.put tx.work r key state)
 
   -- a change on a branch that isn't full
-  abbrev pub insert_free : Tx W → ℕ → List ℕ → ℕ → List Value → Outcome W
-  insert_free tx r name key fields = changed_to tx r key (Some fields) (insert_refusal name key tx.room (fields_at tx r key) (has_space tx r) (has_room tx r key))
+  abbrev pub insert_free : List Relation → Tx W → ℕ → List ℕ → ℕ → List Value → Outcome W
+  insert_free schema tx r name key fields = changed_to schema tx r key (Some fields) (insert_refusal name key tx.room (fields_at tx r key) (has_space tx r) (has_room tx r key))
 
-  abbrev pub update_free : Tx W → ℕ → List ℕ → ℕ → List Set → Outcome W
-  update_free tx r name key sets = changed_to tx r key (updated sets (fields_at tx r key)) (change_refusal name key tx.room (fields_at tx r key) (has_room tx r key))
+  abbrev pub update_free : List Relation → Tx W → ℕ → List ℕ → ℕ → List Set → Outcome W
+  update_free schema tx r name key sets = changed_to schema tx r key (updated sets (fields_at tx r key)) (change_refusal name key tx.room (fields_at tx r key) (has_room tx r key))
 
-  abbrev pub delete_free : Tx W → ℕ → List ℕ → ℕ → Outcome W
-  delete_free tx r name key = changed_to tx r key None (change_refusal name key tx.room (fields_at tx r key) (has_room tx r key))
+  abbrev pub delete_free : List Relation → Tx W → ℕ → List ℕ → ℕ → Outcome W
+  delete_free schema tx r name key = changed_to schema tx r key None (change_refusal name key tx.room (fields_at tx r key) (has_room tx r key))
 
   abbrev pub insert_in : Ground → Tx W → ℕ → List ℕ → ℕ → List Value → Outcome W
-  insert_in g tx r name key fields = unless_full g tx (insert_free tx r name key fields)
+  insert_in g tx r name key fields = unless_full g tx (insert_free g.schema tx r name key fields)
 
   abbrev pub insert_of : Ground → Tx W → List ℕ → ℕ → List Value → Option ℕ → Outcome W
   insert_of g tx name key fields None = refused tx (NoRelation name)
-  insert_of g tx name key fields (Some r) = cond (meets (widths_at g.schema r) fields) (insert_in g tx r name key fields) (refused tx (ValueCount name (length (columns_at g.schema r))))
+  insert_of g tx name key fields (Some r) = unless tx (row_refusal g.schema name fields (Some r)) (insert_in g tx r name key fields)
 
-  abbrev pub update_in : Ground → Tx W → ℕ → List ℕ → ℕ → Result (List Set) (List ℕ) → Outcome W
-  update_in g tx r name key (Err column) = refused tx (NoColumn column)
-  update_in g tx r name key (Ok sets) = unless_full g tx (update_free tx r name key sets)
+  abbrev pub update_in : Ground → Tx W → ℕ → List ℕ → ℕ → Result (List Set) (List ℕ) → Option Refusal → Outcome W
+  update_in g tx r name key (Err column) misfit = refused tx (NoColumn column)
+  update_in g tx r name key (Ok sets) misfit = unless tx misfit (unless_full g tx (update_free g.schema tx r name key sets))
 
   abbrev pub update_of : Ground → Tx W → List ℕ → ℕ → List NamedSet → Option ℕ → Outcome W
   update_of g tx name key sets None = refused tx (NoRelation name)
-  update_of g tx name key sets (Some r) = update_in g tx r name key (resolved (widths_at g.schema r) (columns_at g.schema r) sets)
+  update_of g tx name key sets (Some r) = update_in g tx r name key (resolved (columns_at g.schema r) sets) (sets_misfit (widths_at g.schema r) (columns_at g.schema r) sets)
 
   abbrev pub delete_of : Ground → Tx W → List ℕ → ℕ → Option ℕ → Outcome W
   delete_of g tx name key None = refused tx (NoRelation name)
-  delete_of g tx name key (Some r) = unless_full g tx (delete_free tx r name key)
+  delete_of g tx name key (Some r) = unless_full g tx (delete_free g.schema tx r name key)
 
   abbrev pub get_from : Tx W → ℕ → ℕ → Source → Outcome W
   get_from tx r key Own = answered tx (One (record_with key (fields_at tx r key)))
@@ -180,7 +189,7 @@ module _ {W : Type 0} (k : Keeping W) where
 
   abbrev pub scan_of : List Relation → (VersionName → Source) → List (List ℕ) → Tx W → List ℕ → ScanOver → List Term → Option ℕ → Outcome W
   scan_of schema sources heads tx name over terms None = refused tx (NoRelation name)
-  scan_of schema sources heads tx name over terms (Some r) = where_known tx (columns_at schema r) terms (λ p. scan_over sources heads tx r p over)
+  scan_of schema sources heads tx name over terms (Some r) = where_known tx schema r terms (λ p. scan_over sources heads tx r p over)
 
   -- the rows of relation r of a version beside those with their keys of relation s of another
   abbrev pub join_in : Tx W → ℕ → ℕ → Source → Source → (Record → Bool) → Outcome W
@@ -188,7 +197,7 @@ module _ {W : Type 0} (k : Keeping W) where
 
   abbrev pub join_with : List Relation → Tx W → ℕ → List ℕ → Source → Source → List Term → Option ℕ → Outcome W
   join_with schema tx r name left right terms None = refused tx (NoRelation name)
-  join_with schema tx r name left right terms (Some s) = where_known tx (columns_at schema r) terms (join_in tx r s left right)
+  join_with schema tx r name left right terms (Some s) = where_known tx schema r terms (join_in tx r s left right)
 
   abbrev pub join_of : List Relation → Tx W → List ℕ → List ℕ → Source → Source → List Term → Option ℕ → Option ℕ → Outcome W
   join_of schema tx name other left right terms None o = refused tx (NoRelation name)

@@ -186,7 +186,7 @@ with_merge g o = record g { overlays = o.tx.work; second = o.tx.second }
 
 -- what its merge does once the changes of left are found
 abbrev pub adopted : Granted → VersionPlace → List Change → Outcome (List Overlay)
-adopted g from cs = merged_to (over_table g.head) (tx_in g) from cs (merge_refusal g.schema g.room (length cs) None (full_from 0 (with_changes g.head cs)))
+adopted g from cs = merged_to (over_table g.head) g.schema (tx_in g) from cs (merge_refusal g.schema g.room (length cs) None (full_from 0 (with_changes g.head cs)))
 
 -- what a look-up in a relation, a scan, a join and a difference do
 abbrev pub looked_up : Granted → ℕ → ℕ → Source → Outcome (List Overlay)

@@ -4,6 +4,7 @@ use Rattle.std.specs.FinMap as finite
 use Rattle.db_value.specs.declared.entry.Entry.{Entry}
 use Rattle.db_store.specs.Table.{Table, with_changes}
 use Rattle.db_store.specs.Overlay.{Overlay, laid, untouched}
+use Rattle.db_store.specs.Body.{IsShort}
 use Rattle.db_store.specs.RowWidths.{all_widths}
 use Rattle.db_store.specs.Dataset.{Dataset, head_of}
 use Rattle.db_store.specs.Fits.{fits}
@@ -54,3 +55,8 @@ AllRoomy (x ∷ xs) = IsRoomy x × AllRoomy xs
 abbrev pub EntryLaw : Type 0
 EntryLaw = (d : Dataset) (b : ℕ) (xs : List Stmt) (e : Entry) → IsSound d → IsCounted d → b < length d.branches → AllRoomy xs
     → entry_of (over_table (head_of d b)) d.schema b (overlaid d b xs) ≡ Some e → fits d e ≡ true
+
+-- the entry of a transaction isn't too large
+abbrev pub ShortLaw : Type 0
+ShortLaw = (d : Dataset) (b : ℕ) (xs : List Stmt) (e : Entry) → IsSound d → IsCounted d → b < length d.branches → AllRoomy xs
+    → entry_of (over_table (head_of d b)) d.schema b (overlaid d b xs) ≡ Some e → IsShort e

@@ -6,7 +6,6 @@ use Rattle.db_value.specs.declared.schema.Relation.{Relation}
 use Rattle.db_value.specs.declared.condition.Prefer.{Prefer}
 use Rattle.db_value.specs.declared.entry.Change.{Change}
 use Rattle.db_value.specs.declared.version.VersionPlace.{VersionPlace}
-use Rattle.db_value.specs.declared.reply.Reply.TheVariants.{Done}
 use Rattle.db_value.specs.declared.reply.Refusal.{Refusal}
 use Rattle.db_value.specs.declared.reply.Refusal.TheVariants.{Conflict, TableFull, Room}
 use Rattle.db_store.specs.Table.{Table, with_changes}
@@ -14,7 +13,7 @@ use Rattle.db_store.specs.Adopt.{full_from}
 use Rattle.db_store.specs.RowWidths.{all_widths}
 use Rattle.field_merge.specs.Merge.{Clash, least_clash, table_changes, table_clashes}
 use Rattle.branch_tx.specs.Keeping.{Keeping}
-use Rattle.branch_tx.specs.Act.{Tx, Outcome, Ground, refused, answered, unless_full}
+use Rattle.branch_tx.specs.Act.{Tx, Outcome, Ground, refused, unless_full, taken_to}
 
 -- the name of a relation, by its number
 abbrev pub relation_name : List Relation → ℕ → List ℕ
@@ -47,13 +46,13 @@ module _ {W : Type 0} (k : Keeping W) where
   put_all w (c ∷ cs) = put_all (k.put w c.relation c.key c.fields) cs
 
   -- an accepted merge sets the keys that change, and gives its second parent
-  abbrev pub merged_to : Tx W → VersionPlace → List Change → Option Refusal → Outcome W
-  merged_to tx from changes (Some why) = refused tx why
-  merged_to tx from changes None = answered (record tx { work = put_all tx.work changes; second = Some from }) Done
+  abbrev pub merged_to : List Relation → Tx W → VersionPlace → List Change → Option Refusal → Outcome W
+  merged_to schema tx from changes (Some why) = refused tx why
+  merged_to schema tx from changes None = taken_to k schema tx (Some from) (put_all tx.work changes)
 
   -- a merge of the right table, which stands at a place, into the left one
   abbrev pub merge_free : List Relation → Tx W → VersionPlace → Prefer → Table → Table → Table → Outcome W
-  merge_free schema tx from prefer base left right = merged_to tx from (table_changes (all_widths schema) prefer base left right) (refusal_of_merge schema tx.room prefer base left right)
+  merge_free schema tx from prefer base left right = merged_to schema tx from (table_changes (all_widths schema) prefer base left right) (refusal_of_merge schema tx.room prefer base left right)
 
   abbrev pub merge_in : Ground → Tx W → VersionPlace → Prefer → Table → Table → Table → Outcome W
   merge_in g tx from prefer base left right = unless_full g tx (merge_free g.schema tx from prefer base left right)

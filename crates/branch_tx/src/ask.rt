@@ -1,9 +1,9 @@
 //! Questions to views, where nobody counts the steps.
 ghost use Rattle.std.specs.Prelude.{◌≡◌, ◌<◌, None, length, map, IfOk};
 ghost use Rattle.std.specs.List.{All};
-ghost use Rattle.db_value.specs.Relations.{columns_at};
+ghost use Rattle.db_value.specs.Relations.{columns_at, widths_at};
 ghost use Rattle.db_value.specs.Condition.{holds};
-ghost use Rattle.db_value.specs.Pred.{pred_holds, first_unknown};
+ghost use Rattle.db_value.specs.Pred.{pred_holds, condition_stop};
 ghost use Rattle.db_store.specs.Rows.{marked, rows_where};
 ghost use Rattle.multi_scan.specs.Agree.{AllAgree};
 ghost use Rattle.multi_scan.specs.Places.{shown};
@@ -21,7 +21,7 @@ use std::marker::Brand;
 use std::sync::ledger::{Blank, Ledger};
 use version_join::{join, minus};
 
-/// A condition on a relation that has its columns.
+/// A condition on a relation that has its columns, of the kinds of their values.
 pub fn condition(
     alloc: Global,
     schema: &Schema,
@@ -29,12 +29,14 @@ pub fn condition(
     terms: &Terms,
 ) -> Result<Pred, AllocError>
     requires relation { relation < length schema.now }
-    requires known { first_unknown (columns_at schema.now relation) terms.now ≡ None }
+    requires asked { condition_stop (columns_at schema.now relation)
+        (widths_at schema.now relation) terms.now ≡ None }
     ensures { IfOk result (λ p. pred_holds p ≡ holds (columns_at schema.now relation) terms.now) }
 {
     match Pred::resolve(alloc, schema, relation, terms) {
         Ok(pred) => Ok(pred),
         Err(PredStop::NoColumn { .. }) => unreachable!(),
+        Err(PredStop::WrongKind { .. }) => unreachable!(),
         Err(PredStop::Memory) => Err(AllocError),
     }
 }

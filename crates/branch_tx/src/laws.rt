@@ -1,5 +1,5 @@
 //! Laws of the definitions: each function does nothing, and its contract is the law.
-ghost use Rattle.branch_tx.specs.Laws.{PrivateLaw, TableLaw, EntryLaw};
+ghost use Rattle.branch_tx.specs.Laws.{PrivateLaw, TableLaw, EntryLaw, ShortLaw};
 ghost use Rattle.branch_tx.specs.Frame.{FrameLaw};
 ghost use Rattle.branch_tx.specs.Covers.{CoveredLaw};
 
@@ -16,6 +16,11 @@ pub fn table_law()
 /// The entry of a transaction fits.
 pub fn entry_law()
     ensures { EntryLaw }
+{}
+
+/// The entry of a transaction isn't too large.
+pub fn short_law()
+    ensures { ShortLaw }
 {}
 
 /// A transaction doesn't notice what others do outside its needs.

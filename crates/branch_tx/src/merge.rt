@@ -60,17 +60,15 @@ impl<St: Store> Tx<St> {
         ensures left { self.new ≡ with_merge self.old
             (adopted self.old from changes.now) }
     {
-        match self.work.adopt(changes) {
-            Ok(()) => {
-                self.second = Some(from);
-                Reply::Done
-            }
+        match self.work.adopt(from, changes) {
+            Ok(()) => Reply::Done,
             Err(WorkStop::TableFull { relation }) => refused(Refusal::TableFull {
                 relation: relation_name(&self.schema, relation),
             }),
             Err(WorkStop::Room) => refused(Refusal::Room {
                 room: self.work.room(),
             }),
+            Err(WorkStop::BodyFull) => refused(Refusal::BodyFull),
             Err(_) => unreachable!(),
         }
     }

@@ -16,9 +16,9 @@ use stmt_text::{ScanOver, Stmt};
 impl<St: Store> Tx<St> {
     ghost use Rattle.std.specs.Prelude.{◌<◌, IfNone, IfSome};
     ghost use Rattle.std.specs.List.{All};
-    ghost use Rattle.db_value.specs.Pred.{pred_holds, first_unknown};
+    ghost use Rattle.db_value.specs.Pred.{pred_holds, condition_stop};
     ghost use Rattle.db_value.specs.Condition.{holds};
-    ghost use Rattle.db_value.specs.Relations.{columns_at};
+    ghost use Rattle.db_value.specs.Relations.{columns_at, widths_at};
     ghost use Rattle.db_store.specs.SeenState.{seen_table};
     ghost use Rattle.db_store.specs.Found.{plain};
     ghost use Rattle.branch_tx.specs.Found.{lacking, first_lacking};
@@ -84,10 +84,11 @@ impl<St: Store> Tx<St> {
         Ok(Some(all))
     }
 
-    // A condition on a relation that has its columns.
+    // A condition on a relation that has its columns, of the kinds of their values.
     fn condition(&self, relation: u8, terms: &Terms) -> Result<Pred, AllocError>
         requires relation { relation < length self.now.schema }
-        requires known { first_unknown (columns_at self.now.schema relation) terms.now ≡ None }
+        requires asked { condition_stop (columns_at self.now.schema relation)
+            (widths_at self.now.schema relation) terms.now ≡ None }
         ensures { IfOk result
             (λ p. pred_holds p ≡ holds (columns_at self.now.schema relation) terms.now) }
     {

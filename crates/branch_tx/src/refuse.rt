@@ -39,5 +39,6 @@ pub fn refusal_of(stop: WorkStop, relation: Name, key: u64, room: u32) -> Refusa
         WorkStop::KeyMissing => Refusal::KeyMissing { relation, key },
         WorkStop::TableFull { .. } => Refusal::TableFull { relation },
         WorkStop::Room => Refusal::Room { room },
+        WorkStop::BodyFull => Refusal::BodyFull,
     }
 }

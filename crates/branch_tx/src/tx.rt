@@ -1,9 +1,10 @@
 //! A granted transaction.
 ghost use Rattle.std.specs.Prelude.{◌≡◌, ◌++◌, ◌∷◌, [], None, Some, length, IfOk, OnOk, OnErr};
+ghost use Rattle.db_store.specs.Body.{IsShortIf};
 ghost use Rattle.db_store.specs.Overlay.{laid, untouched};
 ghost use Rattle.db_store.specs.Parts.{IsViewable};
 ghost use Rattle.db_store.specs.RowWidths.{all_widths};
-ghost use Rattle.db_store.specs.WorkState.{under_of, overlays_of, room_of, widths_of};
+ghost use Rattle.db_store.specs.WorkState.{under_of, overlays_of, room_of, widths_of, second_of};
 ghost use Rattle.branch_tx.specs.Keeping.{over_table};
 ghost use Rattle.branch_tx.specs.Alone.{commit_entry};
 ghost use Rattle.branch_tx.specs.Granted.{ungranted, tx_in, has_done, lent_table, views_of};
@@ -11,7 +12,7 @@ ghost use Rattle.branch_tx.specs.Shown.{parts_by, ViewsAgree};
 
 use crate::lent::Lending;
 use db_store::{Store, View, Work};
-use db_value::{Entry, Name, Names, Schema, VersionName, VersionPlace};
+use db_value::{Entry, Name, Names, Schema, VersionName};
 use std::alloc::{AllocError, Global};
 use std::marker::Model;
 
@@ -46,7 +47,6 @@ pub struct Tx<St: Store> {
     pub(crate) schema: Schema,
     pub(crate) current: Name,
     pub(crate) work: Work<St::View>,
-    pub(crate) second: Option<VersionPlace>,
     pub(crate) held: Option<Held>,
     pub(crate) lent: Lending<St::View>,
     pub(crate) heads: Option<Names>,
@@ -56,7 +56,7 @@ impl<St: Store> Model for Tx<St> {
     ghost use Rattle.std.specs.Prelude.{◌≡◌, ◌∷◌, length, map};
     ghost use Rattle.db_store.specs.Overlay.{laid};
     ghost use Rattle.db_store.specs.RowWidths.{all_widths};
-    ghost use Rattle.db_store.specs.WorkState.{under_of, overlays_of, room_of, widths_of};
+    ghost use Rattle.db_store.specs.WorkState.{under_of, overlays_of, room_of, widths_of, second_of};
     ghost use Rattle.branch_tx.specs.Granted.{Granted, granted_code};
     ghost use Rattle.branch_tx.specs.Shown.{parts_by, ViewsAgree};
     ghost use Rattle.branch_tx.specs.TxState.{held_of, AllWide, AreMet};
@@ -72,7 +72,7 @@ impl<St: Store> Model for Tx<St> {
       head = St.View.table (under_of t.work);
       overlays = overlays_of t.work;
       room = room_of t.work;
-      second = t.second;
+      second = second_of t.work;
       lent = t.lent.0;
       below = parts_by (St.View.parts_of (under_of t.work));
       shown = t.lent.1;
@@ -98,6 +98,7 @@ impl<St: Store> Tx<St> {
         requires wide { length (St.View.table (under_of work)) ≡ length schema.now }
         requires agree { ViewsAgree (parts_by (St.View.parts_of (under_of work)) ∷ []) }
         requires widths { widths_of work ≡ all_widths schema.now }
+        requires unmerged { second_of work ≡ None }
         requires met { AreMet schema.now (laid (St.View.table (under_of work))
             (overlays_of work)) }
         ensures { IfOk result (λ t. t ≡ ungranted schema.now current (St.View.table (under_of work))
@@ -109,7 +110,6 @@ impl<St: Store> Tx<St> {
             schema,
             current,
             work,
-            second: None,
             held: None,
             lent,
             heads: None,
@@ -177,13 +177,14 @@ impl<St: Store> Tx<St> {
     pub fn has_done(&self) -> bool
         ensures { result ≡ has_done self.now }
     {
-        self.work.touched() > 0 || self.second.is_some()
+        self.work.touched() > 0 || self.work.second().is_some()
     }
 
     /// The entry of its changes as a commit on a branch, if there are any or it merged.
     pub fn entry(&self, branch: u32) -> Result<Option<Entry>, AllocError>
-        ensures { IfOk result (λ e.
+        ensures entry { IfOk result (λ e.
             e ≡ commit_entry (over_table self.now.head) self.now.schema branch (tx_in self.now)) }
+        ensures short { IfOk result (λ e. IsShortIf e) }
     {
         if !self.has_done() {
             return Ok(None);
@@ -191,7 +192,7 @@ impl<St: Store> Tx<St> {
         let changes = self.work.changes()?;
         Ok(Some(Entry::Commit {
             branch,
-            second: self.second,
+            second: self.work.second(),
             changes,
         }))
     }

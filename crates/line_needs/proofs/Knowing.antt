@@ -131,6 +131,7 @@ resolved_is q (Ok sets) None r columns e = (cc, refl, (sets, refl, cc))
 pub record AreSets (schema : List Relation) (r : ℕ) (named : List NamedSet) (columns : List ℕ) : Type 0 where
   pub long : length columns ≡ length named
   pub found : resolved (columns_at schema r) named ≡ Ok (sets_at columns named)
+  pub taken : sets_misfit (widths_at schema r) (columns_at schema r) named ≡ None
   pub fitting : AreFitting (widths_at schema r) (sets_at columns named)
 
 sets_are : (schema : List Relation) (name : List ℕ) (named : List NamedSet) (o : Option ℕ) (r : ℕ) (columns : List ℕ) → refused_or (set_refusal schema name named o) (with_named schema named o) ≡ With r columns
@@ -146,6 +147,7 @@ sets_are schema name named (Some q) r columns e =
       record {
         long = ap length is.2.2 ∙ back.0;
         found = ap (λ (n : ℕ). resolved (columns_at schema n) named) (sym is.0) ∙ is.2.1 ∙ ap Ok same;
+        taken = ap (λ (n : ℕ). sets_misfit (widths_at schema n) (columns_at schema n) named) (sym is.0) ∙ is.1;
         fitting = subst (λ (n : ℕ). AreFitting (widths_at schema n) (sets_at columns named)) is.0 (subst (AreFitting (widths_at schema q)) same fitting);
       },
     )

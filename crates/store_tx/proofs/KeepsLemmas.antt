@@ -11,7 +11,6 @@ use Rattle.db_value.specs.declared.schema.Relation.{Relation}
 use Rattle.db_value.specs.declared.version.VersionName.{VersionName}
 use Rattle.db_value.specs.Relations.{columns_at}
 use Rattle.db_value.specs.Condition.{holds}
-use Rattle.db_value.specs.Pred.{first_unknown}
 use Rattle.db_value.specs.declared.record.Record.{Record}
 use Rattle.db_value.specs.declared.condition.Term.{Term}
 use Rattle.db_value.specs.declared.condition.Prefer.{Prefer}
@@ -35,7 +34,7 @@ use Rattle.branch_tx.specs.Act.{Tx, Outcome, refused, answered, unless, record_w
 use Rattle.line_needs.specs.Columns.{relation_named}
 use Rattle.line_needs.specs.Known.{known_of}
 use Rattle.line_needs.specs.declared.known.Known.{Known}
-use Rattle.line_needs.specs.Early.{column_refusal, relation_refusal, join_refusal, is_early}
+use Rattle.line_needs.specs.Early.{terms_refusal, relation_refusal, join_refusal, is_early}
 use Rattle.branch_tx.specs.Alone.{ground_of}
 use Rattle.branch_tx.specs.Frame.{is_changed}
 use Rattle.branch_tx.specs.Granted.{Granted, has_done, known_in, is_current, lent_table, lent_source, source_in, names_or_none, held_full, ground_in, tx_in, acted, left}
@@ -215,7 +214,7 @@ module _ (d : Dataset) (rows : List Row) (s b : ℕ) (g : Granted) (k : Keeps d 
     scan_acts : (schema : List Relation) (name : List ℕ) (over : ScanOver) (terms : List Term) (o : Option ℕ) → has_over g over ≡ true
         → scan_of (over_table g.head) schema (source_in g) (names_or_none g.heads) (tx_in g) name over terms o ≡ scan_of (over_table (head_of d b)) schema sources (branch_names d) (tx_in g) name over terms o
     scan_acts schema name over terms None e = refl
-    scan_acts schema name over terms (Some r) e = ap (unless (tx_in g) (column_refusal (first_unknown (columns_at schema r) terms))) (over_acts r (holds (columns_at schema r) terms) over e)
+    scan_acts schema name over terms (Some r) e = ap (unless (tx_in g) (terms_refusal schema r terms)) (over_acts r (holds (columns_at schema r) terms) over e)
 
     -- two versions
     join_acts : (schema : List Relation) (name other : List ℕ) (v w : VersionName) (terms : List Term) (o q : Option ℕ) → IsSame d b g v → IsSame d b g w
@@ -227,7 +226,7 @@ module _ (d : Dataset) (rows : List Row) (s b : ℕ) (g : Granted) (k : Keeps d 
         let second = two.source in
         let rows = one.contents r in
         let others = two.contents t in
-        λ i. unless (tx_in g) (column_refusal (first_unknown (columns_at schema r) terms)) (unless (tx_in g) (first_lacking (first i ∷ second i ∷ [])) (answered (tx_in g) (Paired (pairs_of (filter (holds (columns_at schema r) terms) (rows_of (rows i))) (others i)))))
+        λ i. unless (tx_in g) (terms_refusal schema r terms) (unless (tx_in g) (first_lacking (first i ∷ second i ∷ [])) (answered (tx_in g) (Paired (pairs_of (filter (holds (columns_at schema r) terms) (rows_of (rows i))) (others i)))))
 
     minus_acts : (name : List ℕ) (v w : VersionName) (o : Option ℕ) → IsSame d b g v → IsSame d b g w
         → minus_of (over_table g.head) (tx_in g) name (source_in g v) (source_in g w) o ≡ minus_of (over_table (head_of d b)) (tx_in g) name (sources v) (sources w) o
@@ -535,7 +534,7 @@ both_there : (schema : List Relation) (left right : List ℕ) (terms : List Term
     → (r : ℕ) × (t : ℕ) × (o ≡ Some r) × (q ≡ Some t) × (column_refusal (first_unknown (columns_at schema r) terms) ≡ None)
 both_there schema left right terms None q e = absurd (true≢false e)
 both_there schema left right terms (Some r) None e = absurd (true≢false e)
-both_there schema left right terms (Some r) (Some t) e = (r, t, refl, refl, none_is (column_refusal (first_unknown (columns_at schema r) terms)) e)
+both_there schema left right terms (Some r) (Some t) e = (r, t, refl, refl, none_is (terms_refusal schema r terms) e)
 
 pub join_lacking : (d : Dataset) (b : ℕ) (tx : Tx (List Overlay)) (left right : List ℕ) (v w : VersionName) (terms : List Term) (why : Refusal) → is_early d.schema true false (Join left right v w terms) ≡ false → lacking_of d b (v ∷ w ∷ []) ≡ Some why
     → act_over d b tx (Join left right v w terms) ≡ refused tx why

@@ -19,9 +19,9 @@ use Rattle.lock_table.specs.declared.need.Need.{Need}
 use Rattle.lock_table.specs.Grants.{Has, row}
 use Rattle.stmt_text.specs.declared.stmt.Stmt.TheVariants.{Merge}
 use Rattle.branch_tx.specs.Keeping.{over_table}
-use Rattle.branch_tx.specs.Act.{Outcome, refused}
+use Rattle.branch_tx.specs.Act.{Outcome, body_refusal, refused, unless, is_body}
 use Rattle.field_merge.specs.Merge.{table_changes}
-use Rattle.branch_tx.specs.Merging.{refusal_of_merge, merged_to, merge_in}
+use Rattle.branch_tx.specs.Merging.{refusal_of_merge, put_all, merged_to, merge_in}
 use Rattle.branch_tx.specs.Alone.{ground_of, common_table, merge_named}
 use Rattle.branch_tx.specs.Granted.{Granted, ground_in, tx_in, merged, with_merge}
 use Rattle.line_needs.specs.Early.{first_refusal}
@@ -31,9 +31,13 @@ use Rattle.store_tx.specs.Keeps.{AllGranted, HeldFor, Keeps, IsMore}
 use Rattle.store_tx.proofs.KeepsLemmas.{head_by, more_tx}
 
 -- the transaction after a merge
-merged_to_is : (g : Granted) (from : VersionPlace) (cs : List Change) (o : Option Refusal) → tx_in (with_merge g (merged_to (over_table g.head) (tx_in g) from cs o)) ≡ (merged_to (over_table g.head) (tx_in g) from cs o).tx
+taken_is : (g : Granted) (why : Option Refusal) (o : Outcome (List Overlay)) → tx_in (with_merge g o) ≡ o.tx → tx_in (with_merge g (unless (tx_in g) why o)) ≡ (unless (tx_in g) why o).tx
+taken_is g None o e = e
+taken_is g (Some why) o e = refl
+
+merged_to_is : (g : Granted) (from : VersionPlace) (cs : List Change) (o : Option Refusal) → tx_in (with_merge g (merged_to (over_table g.head) g.schema (tx_in g) from cs o)) ≡ (merged_to (over_table g.head) g.schema (tx_in g) from cs o).tx
 merged_to_is g from cs (Some why) = refl
-merged_to_is g from cs None = refl
+merged_to_is g from cs None = taken_is g (body_refusal (is_body (over_table g.head) g.schema (Some from) (put_all (over_table g.head) g.overlays cs))) _ refl
 
 unless_is : (g : Granted) (q : Bool) (why : Refusal) (o : Outcome (List Overlay)) → tx_in (with_merge g o) ≡ o.tx → tx_in (with_merge g (cond q (refused (tx_in g) why) o)) ≡ (cond q (refused (tx_in g) why) o).tx
 unless_is g true why o e = refl
@@ -43,7 +47,7 @@ pub merged_is : (g : Granted) (from : VersionPlace) (prefer : Prefer) (base righ
 merged_is g from prefer base right =
     let cs = table_changes (all_widths g.schema) prefer base g.head right in
     let why = refusal_of_merge g.schema g.room prefer base g.head right in
-    unless_is g (ground_in g).full (VersionsFull g.name) (merged_to (over_table g.head) (tx_in g) from cs why) (merged_to_is g from cs why)
+    unless_is g (ground_in g).full (VersionsFull g.name) (merged_to (over_table g.head) g.schema (tx_in g) from cs why) (merged_to_is g from cs why)
 
 module _ (d : Dataset) (rows : List Row) (s b : ℕ) (old g : Granted) (k : Keeps d rows s b g) (held : is_some g.held ≡ true) (more : IsMore old g) where
   -- its branch is held, so that it is over the head

@@ -29,15 +29,15 @@ use Rattle.stmt_text.specs.declared.stmt.Stmt.{Stmt}
 use Rattle.stmt_text.specs.declared.stmt.Stmt.TheVariants.{Begin, Commit, Abort, On, LogOf, Graph, Segments, Checkpoint, Branch, Merge}
 use Rattle.line_needs.specs.declared.known.Known.{Known}
 use Rattle.line_needs.specs.Known.{known_of}
-use Rattle.branch_tx.specs.Keeping.{over_table}
+use Rattle.branch_tx.specs.Keeping.{Keeping, over_table}
 use Rattle.db_store.specs.Found.{found, lack, branch_names}
 use Rattle.branch_tx.specs.Found.{source_of}
-use Rattle.branch_tx.specs.Act.{Tx, Outcome, refused, answered}
+use Rattle.branch_tx.specs.Act.{Tx, Outcome, body_refusal, refused, answered, unless, is_body}
 use Rattle.branch_tx.specs.Merging.{put_all, merged_to}
 use Rattle.branch_tx.specs.Frame.{is_changed}
 use Rattle.branch_tx.specs.Alone.{merge_named, fresh, told, told_of, ground_of, made_next, has_changed, commit_reply, entry_made, entry_of, place_in, branch_as, on_of}
 use Rattle.branch_tx.specs.Laws.{IsRoomy}
-use Rattle.branch_tx.proofs.Acts.{is_done, act_does, act_begun, begun, done_begun}
+use Rattle.branch_tx.proofs.Acts.{is_done, act_does, act_begun, asked_begun, begun, done_begun}
 use Rattle.branch_tx.proofs.Ends.{entry_is}
 use Rattle.branch_tx.proofs.Keeps.{merge_changes}
 use Rattle.store_tx.specs.Ends.{is_abort, is_begin}
@@ -85,9 +85,11 @@ own_known schema x k room tx a is e =
     e ∙ known_begun schema x a ∙ ap (λ (q : Bool). known_of schema true q x) (sym clean)
 
 -- in a transaction that was opened for it, it does the same
-merged_begun : (d : Dataset) (b : ℕ) (from : VersionPlace) (cs : List Change) (o : Option Refusal) → merged_to (over_table (head_of d b)) (begun none_yet) from cs o ≡ done_begun (merged_to (over_table (head_of d b)) none_yet from cs o)
+merged_begun : (d : Dataset) (b : ℕ) (from : VersionPlace) (cs : List Change) (o : Option Refusal) → merged_to (over_table (head_of d b)) d.schema (begun none_yet) from cs o ≡ done_begun (merged_to (over_table (head_of d b)) d.schema none_yet from cs o)
 merged_begun d b from cs (Some why) = refl
-merged_begun d b from cs None = refl
+merged_begun d b from cs None =
+    let k : Keeping (List Overlay) = over_table (head_of d b) in
+    asked_begun k none_yet (body_refusal (is_body k d.schema (Some from) (put_all k untouched cs))) _ _ refl
 
 cond_begun : (q : Bool) (o p o' p' : Outcome (List Overlay)) → o' ≡ done_begun o → p' ≡ done_begun p → cond q o' p' ≡ done_begun (cond q o p)
 cond_begun true o p o' p' e f = e
@@ -110,9 +112,15 @@ module _ (P : Outcome (List Overlay) → Type 0) (refuses : (why : Refusal) → 
   cond_does true o p h l = h
   cond_does false o p h l = l
 
-  merged_does : (d : Dataset) (b : ℕ) (from : VersionPlace) (cs : List Change) (o : Option Refusal) → P (merged_to (over_table (head_of d b)) none_yet from cs o)
+  taken_does : (o : Option Refusal) (x : Outcome (List Overlay)) → P x → P (unless none_yet o x)
+  taken_does None x h = h
+  taken_does (Some why) x h = refuses why
+
+  merged_does : (d : Dataset) (b : ℕ) (from : VersionPlace) (cs : List Change) (o : Option Refusal) → P (merged_to (over_table (head_of d b)) d.schema none_yet from cs o)
   merged_does d b from cs (Some why) = refuses why
-  merged_does d b from cs None = merges (put_all (over_table (head_of d b)) untouched cs) from
+  merged_does d b from cs None =
+      let k : Keeping (List Overlay) = over_table (head_of d b) in
+      taken_does (body_refusal (is_body k d.schema (Some from) (put_all k untouched cs))) _ (merges (put_all k untouched cs) from)
 
   named_does : (d : Dataset) (b : ℕ) (name : List ℕ) (prefer : Prefer) (o : Option ℕ) → P (merge_named (over_table (head_of d b)) d b none_yet name prefer o)
   named_does d b name prefer None = refuses _

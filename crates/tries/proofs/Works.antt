@@ -1,10 +1,10 @@
 -- Working tables whose rows meet their widths, after a change.
-use Rattle.std.proofs.Common.{◌≡◌, ◌∙◌, ◌<◌, ◌&&◌, ℕ, pos, true, Bool, List, [], ◌∷◌, length, Option, Some, sym, ap, refl, subst, arith}
+use Rattle.std.proofs.Common.{◌≡◌, ◌∙◌, ◌<◌, ◌&&◌, ℕ, pos, true, Bool, List, [], ◌∷◌, length, get_or, Option, Some, sym, ap, refl, subst, arith}
 use Rattle.std.specs.Prelude.{Result, Ok, Err, OnOk, OnErr, IfOk, IfSome}
 use Rattle.std.specs.List.{list_all}
 use Rattle.std.proofs.lemmas.Bool.{lt-ltb}
 use Rattle.db_value.specs.Value.{Value}
-use Rattle.db_value.specs.Widths.{meets}
+use Rattle.db_value.specs.Widths.{fits_width, meets}
 use Rattle.db_value.specs.Relations.{widths_at}
 use Rattle.db_value.specs.declared.value.Value.TheVariants.{Number}
 use Rattle.db_value.specs.declared.schema.Relation.{Relation}
@@ -18,8 +18,7 @@ use Rattle.db_store.specs.Adopt.{AreAdoptable, change_meets}
 use Rattle.db_store.specs.Work.{fields_at, updated}
 use Rattle.db_store.specs.WorkState.{under_of, overlays_of, widths_of, working_of, StaysOver}
 use Rattle.db_store.proofs.LayerLemmas.{length_overlays}
-use Rattle.line_needs.specs.Columns.{is_number}
-use Rattle.line_needs.proofs.SetLemmas.{AreNumbers}
+use Rattle.line_needs.proofs.SetLemmas.{AreFitting}
 use Rattle.branch_tx.specs.TxState.{AreMet}
 use Rattle.branch_tx.proofs.WithSets.{fields_meet}
 use Rattle.branch_tx.proofs.Works.{met_touched, met_untouched, own_are, updated_at_meets}
@@ -51,8 +50,8 @@ module _ {V : Type 0} {g : Ghosts V} (schema : List Relation) (two : HasTwoNumbe
   -- with a new value of the first column
   pub set_fits : (w : Work V g) (key : ℕ) (sets : List Set) → IsOver schema w → sets ≡ first_set ∷ [] → has_fields (widths_at schema 0) (updated sets (fields_at (working_of w) 0 key)) ≡ true
   set_fits w key sets o e =
-      let number : is_number (widths_at schema 0) 0 ≡ true = ap (λ (ws : List ℕ). is_number ws 0) two.1 in
-      updated_at_meets schema w o.wide o.met 0 key sets two.0 (subst (AreNumbers (widths_at schema 0)) (sym e) (number, tt))
+      let fit : fits_width (get_or (widths_at schema 0) 0 0) (Number (pos 5)) ≡ true = ap (λ (ws : List ℕ). fits_width (get_or ws 0 0) (Number (pos 5))) two.1 in
+      updated_at_meets schema w o.wide o.met 0 key sets two.0 (subst (AreFitting (widths_at schema 0)) (sym e) (fit, tt))
 
   pub set_meets : (w : Work V g) (key : ℕ) (sets : List Set) → IsOver schema w → sets ≡ first_set ∷ []
       → IfSome (updated sets (fields_at (working_of w) 0 key)) (λ fields. meets (own_widths (widths_of w) 0) fields ≡ true)

@@ -24,7 +24,7 @@ pub record IsOver {V : Type 0} {g : Ghosts V} (schema : List Relation) (w : Work
 
 -- the first column gets a new value
 abbrev pub first_set : Set
-first_set = record { column = 0; value = pos 5 }
+first_set = record { column = 0; value = Number (pos 5) }
 
 -- a record of a key that is put into the first relation, whose columns have these widths
 abbrev pub one_change : List ℕ → ℕ → Change

@@ -59,9 +59,11 @@ fn head_place<St: Store>(store: &St) -> VersionPlace
 fn one_set() -> Sets
     ensures { result ≡ first_set ∷ [] }
 {
-    let (column, value) = (0, 5);
     let mut sets = Sets::new();
-    sets.push(Set { column, value });
+    sets.push(Set {
+        column: 0,
+        value: Value::Number { value: 5 },
+    });
     sets
 }
 
@@ -104,6 +106,7 @@ fn answers_of<V: View>(
     work: &mut Work<V>,
     merged: &mut Work<V>,
     crowded: &mut Work<V>,
+    from: VersionPlace,
     sets: &Sets,
     changes: &Changes,
 ) -> [Result<(), WorkStop>; 12]
@@ -126,8 +129,8 @@ fn answers_of<V: View>(
         take_step(schema, work, Step::Insert(3), sets),
         take_step(schema, work, Step::Insert(4), sets),
         take_step(schema, work, Step::Insert(2), sets),
-        merged.adopt(changes),
-        crowded.adopt(changes),
+        merged.adopt(from, changes),
+        crowded.adopt(from, changes),
     ]
 }
 
@@ -138,6 +141,7 @@ fn text_of(answer: &Result<(), WorkStop>) -> &'static str {
         Err(WorkStop::KeyMissing) => "key missing",
         Err(WorkStop::TableFull { .. }) => "table full",
         Err(WorkStop::Room) => "room",
+        Err(WorkStop::BodyFull) => "body full",
     }
 }
 
@@ -183,6 +187,7 @@ fn tell_changes<St: Store, R: Print + AllocGlobal>(rt: &R, store: &St) -> Result
         &mut work,
         &mut merged,
         &mut crowded,
+        at,
         &sets,
         &changes,
     );

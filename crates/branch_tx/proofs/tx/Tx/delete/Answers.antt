@@ -1,8 +1,12 @@
-use Rattle.std.proofs.Common.{rules, arith, ◌<◌, None, refl, ap, sym, subst, ◌∙◌, length, List}
+use Rattle.std.proofs.Common.{rules, arith, ◌≡◌, ◌<◌, ℕ, None, refl, ap, sym, subst, ◌∙◌, length, List}
 use Rattle.db_store.specs.Overlay.{Overlay}
+use Rattle.db_store.specs.RowWidths.{all_widths}
+use Rattle.db_store.specs.Work.{change_stop}
+use Rattle.db_store.specs.WorkState.{widths_of, working_of}
 use Rattle.branch_tx.specs.Act.{Outcome}
 use Rattle.branch_tx.specs.Granted.{Granted, with_work}
-use Rattle.branch_tx.proofs.KnownLines.{delete_stopped, delete_is}
+use Rattle.branch_tx.proofs.KnownLines.{changed, delete_stopped, delete_is}
+use Rattle.branch_tx.proofs.Stopping.{working_with, working_in}
 use Rattle.branch_tx.proofs.Works.{holds_put}
 use Rattle.branch_tx.proofs.tx.Tx.delete.Goals as goal
 
@@ -32,10 +36,20 @@ returns-then-is_full g c =
 
 pub returns-clause-reply : goal.returns-clause-reply
 returns-clause-reply g c =
-    let is = (delete_is c.args.self.now c.args.name c.args.key c.in-Of.relation (sym c.requires ∙ c.in-Of.is)).1 in
+    let old : Granted = c.args.self.now in
+    let work = c.self.inside.work in
+    let at : working_in old ≡ working_of work =
+        ap (λ (wss : List (List ℕ)). working_with wss old) (sym (c.self.invariant.3 ∙ ap (λ (x : Granted). all_widths x.schema) c.self.view_is)) ∙ ap (working_with (widths_of work)) (sym c.self.view_is) in
+    let is = (delete_is c.args.self.now c.args.name c.args.key c.in-Of.relation (sym c.requires ∙ c.in-Of.is)).1
+    ∙ (λ i. changed old c.in-Of.relation c.args.name c.args.key None (change_stop (at i) c.in-Of.relation c.args.key None)) in
     rw is (search rules)
 
 pub returns-clause-left : goal.returns-clause-left
 returns-clause-left g c =
-    let is = (delete_is c.args.self.now c.args.name c.args.key c.in-Of.relation (sym c.requires ∙ c.in-Of.is)).1 in
+    let old : Granted = c.args.self.now in
+    let work = c.self.inside.work in
+    let at : working_in old ≡ working_of work =
+        ap (λ (wss : List (List ℕ)). working_with wss old) (sym (c.self.invariant.3 ∙ ap (λ (x : Granted). all_widths x.schema) c.self.view_is)) ∙ ap (working_with (widths_of work)) (sym c.self.view_is) in
+    let is = (delete_is c.args.self.now c.args.name c.args.key c.in-Of.relation (sym c.requires ∙ c.in-Of.is)).1
+    ∙ (λ i. changed old c.in-Of.relation c.args.name c.args.key None (change_stop (at i) c.in-Of.relation c.args.key None)) in
     rw is (search rules)

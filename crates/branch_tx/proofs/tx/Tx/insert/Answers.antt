@@ -4,10 +4,13 @@ use Rattle.db_value.specs.Widths.{meets}
 use Rattle.db_value.specs.Relations.{widths_at}
 use Rattle.db_value.specs.declared.record.Record.{Record}
 use Rattle.db_store.specs.Overlay.{Overlay, own_widths, touch}
-use Rattle.db_store.specs.WorkState.{overlays_of, widths_of}
+use Rattle.db_store.specs.WorkState.{overlays_of, widths_of, working_of}
+use Rattle.db_store.specs.RowWidths.{all_widths}
+use Rattle.db_store.specs.Work.{insert_stop}
 use Rattle.branch_tx.specs.Act.{Outcome}
 use Rattle.branch_tx.specs.Granted.{Granted, with_work}
-use Rattle.branch_tx.proofs.KnownLines.{insert_stopped, insert_is}
+use Rattle.branch_tx.proofs.KnownLines.{changed, insert_stopped, insert_is}
+use Rattle.branch_tx.proofs.Stopping.{working_with, working_in}
 use Rattle.branch_tx.proofs.Works.{own_are, holds_put}
 use Rattle.branch_tx.proofs.tx.Tx.insert.Goals as goal
 use Rattle.branch_tx.proofs.tx.Tx.insert.Goals.{in-Ok, in-Err}
@@ -49,12 +52,22 @@ returns-then-is_full g c =
 
 pub returns-clause-reply : goal.returns-clause-reply
 returns-clause-reply g c =
-    let is = (insert_is c.args.self.now c.args.name c.args.key c.args.kept.now c.in-Of.relation (sym c.requires ∙ c.in-Of.is)).1 in
+    let old : Granted = c.args.self.now in
+    let work = c.self.inside.work in
+    let at : working_in old ≡ working_of work =
+        ap (λ (wss : List (List ℕ)). working_with wss old) (sym (c.self.invariant.3 ∙ ap (λ (x : Granted). all_widths x.schema) c.self.view_is)) ∙ ap (working_with (widths_of work)) (sym c.self.view_is) in
+    let is = (insert_is c.args.self.now c.args.name c.args.key c.args.kept.now c.in-Of.relation (sym c.requires ∙ c.in-Of.is)).1
+    ∙ (λ i. changed old c.in-Of.relation c.args.name c.args.key (Some c.args.kept.now) (insert_stop (at i) c.in-Of.relation (sym c.read_row.ensures i))) in
     rw is (search rules)
 
 pub returns-clause-left : goal.returns-clause-left
 returns-clause-left g c =
-    let is = (insert_is c.args.self.now c.args.name c.args.key c.args.kept.now c.in-Of.relation (sym c.requires ∙ c.in-Of.is)).1 in
+    let old : Granted = c.args.self.now in
+    let work = c.self.inside.work in
+    let at : working_in old ≡ working_of work =
+        ap (λ (wss : List (List ℕ)). working_with wss old) (sym (c.self.invariant.3 ∙ ap (λ (x : Granted). all_widths x.schema) c.self.view_is)) ∙ ap (working_with (widths_of work)) (sym c.self.view_is) in
+    let is = (insert_is c.args.self.now c.args.name c.args.key c.args.kept.now c.in-Of.relation (sym c.requires ∙ c.in-Of.is)).1
+    ∙ (λ i. changed old c.in-Of.relation c.args.name c.args.key (Some c.args.kept.now) (insert_stop (at i) c.in-Of.relation (sym c.read_row.ensures i))) in
     elim c.match-insert.branch [
       | in-Ok w ↦ rw is (search rules)
       | in-Err w ↦ rw is (search rules)

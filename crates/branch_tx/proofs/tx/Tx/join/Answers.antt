@@ -14,7 +14,7 @@ returns-in_default g c = λ left right e.
 pub condition-requires : goal.condition-requires
 condition-requires g c =
     let is = join_is c.args.self.now c.requires.0 c.requires.1 c.args.first.now c.args.second.now c.args.terms.now c.in-Both.left c.in-Both.right (sym c.requires.2 ∙ c.in-Both.is) in
-    record { relation = is.0; known = is.2 }
+    record { relation = is.0; asked = is.2 }
 
 pub join_in-requires : goal.join_in-requires
 join_in-requires g c =

@@ -14,7 +14,7 @@ returns-in_default g c = λ name e.
 pub condition-requires : goal.condition-requires
 condition-requires g c =
     let is = scan_is c.args.self.now c.requires.0 c.args.over.now c.args.terms.now c.in-Of.relation (sym c.requires.1 ∙ c.in-Of.is) in
-    record { relation = is.0; known = is.1 }
+    record { relation = is.0; asked = is.1 }
 
 pub scan_over-requires : goal.scan_over-requires
 scan_over-requires g c = (scan_is c.args.self.now c.requires.0 c.args.over.now c.args.terms.now c.in-Of.relation (sym c.requires.1 ∙ c.in-Of.is)).0
