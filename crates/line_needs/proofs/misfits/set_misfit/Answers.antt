@@ -9,4 +9,4 @@ bounds-as_slice-column c =
     let columns = columns_of c.args.schema.now c.args.relation in
     let names = length-map columns (λ (k : Column). k.name) in
     let widths = length-map columns (λ (k : Column). k.width) in
-    omega (arith, c.in-Some.ensures.within, names, widths, ap length c.requires.widths)
+    omega (arith, c.in-Some.ensures.within, names, widths, ap length c.requires.widths, ap length c.as_slice.ensures.value)
