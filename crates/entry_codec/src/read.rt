@@ -34,12 +34,8 @@ pub enum EntryStop {
 fn first_u32(b: &[u8]) -> Option<u32>
     ensures { result ≡ u32_in b.now }
 {
-    if b.len() < 4 {
-        return None;
-    }
-    let mut bytes = [0u8; 4];
-    bytes.copy_from_slice(&b[..4]);
-    Some(u32::from_le_bytes(bytes))
+    let bytes = b.first_chunk::<4>()?;
+    Some(u32::from_le_bytes(*bytes))
 }
 
 // The number in the first eight bytes.
@@ -47,9 +43,10 @@ fn first_u64(b: &[u8]) -> u64
     requires { 8 ≤ length b.now }
     ensures { result ≡ from_le_bytes w64 (take 8 b.now) }
 {
-    let mut bytes = [0u8; 8];
-    bytes.copy_from_slice(&b[..8]);
-    u64::from_le_bytes(bytes)
+    match b.first_chunk::<8>() {
+        Some(bytes) => u64::from_le_bytes(*bytes),
+        None => unreachable!(),
+    }
 }
 
 fn first_place(b: &[u8]) -> Option<VersionPlace>
