@@ -1,8 +1,10 @@
 //! Fields in memory of their own.
 ghost use Rattle.std.specs.Prelude.{◌≡◌, ◌<◌, ◌≤◌, length, IfOk};
+ghost use Rattle.db_value.specs.Widths.{meets};
 
 use crate::fields::{Fields, MOST_FIELDS};
 use crate::packing::count_in;
+use crate::widths::{Widths, packed_meet};
 use std::alloc::{AllocError, Global};
 use std::marker::Model;
 
@@ -45,6 +47,13 @@ impl KeptFields {
         ensures few { result ≤ MOST_FIELDS }
     {
         count_in(&self.bytes)
+    }
+
+    /// Do they meet widths? They are not read for it.
+    pub fn meets(&self, widths: &Widths) -> bool
+        ensures { result ≡ meets widths.now self.now }
+    {
+        packed_meet(widths.as_slice(), &self.bytes)
     }
 
     /// Reads them. It touches their bytes, and those that were there.

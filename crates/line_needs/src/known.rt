@@ -74,6 +74,10 @@ fn kept_refusal(schema: &Schema, relation: u8, name: &Name, kept: &KeptFields) -
     requires { relation < length schema.now }
     ensures { result ≡ row_refusal schema.now name.now kept.now (Some relation) }
 {
+    // Most rows meet the widths, and that is seen where they are packed.
+    if kept.meets(&schema.widths(relation)) {
+        return None;
+    }
     let mut fields = Fields::blank();
     kept.read(&mut fields);
     row_refusal(schema, relation, name, &fields)
