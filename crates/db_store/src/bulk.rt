@@ -134,7 +134,8 @@ impl Bulk {
 
 /// Takes an entry surely all changes of so many keys, whose rows take at most so many bytes?
 pub fn is_sure(room: u32, most: u16) -> bool
-    ensures { result ≡ true → 18 + room * (9 + most) ≤ most_entry }
+    ensures sure { result ≡ true → 18 + room * (9 + most) ≤ most_entry }
+    ensures few { most < 2 ^ 16 }
 {
     room as u64 <= (MOST_ENTRY - 18) / (9 + most as u64)
 }
