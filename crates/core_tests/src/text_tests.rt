@@ -1,10 +1,13 @@
 //! Texts that the program doesn't show: statements that are spelled again, sections of an input with
-//! the numbers of their lines, load scripts, and a condition that no line has. Texts and sums of load
-//! scripts were made by another program.
-use crate::asserts::holds;
-use db_value::{Fields, ListOf, Name, Op, Pred, Record, Schema, Term, TermValue, Value};
+//! the numbers of their lines, load scripts, why values are refused, and a condition that no line has.
+//! Texts and sums of load scripts were made by another program.
+use crate::asserts::{holds, is_answered};
+use db_value::{
+    Fields, ListOf, Name, Op, Pred, Record, Refusal, Reply, Schema, Term, TermValue, Value,
+};
 use load_maker::script_of;
 use std::alloc::Global;
+use std::process::Abort;
 use std::test::Fail;
 use stmt_text::{LineStop, Section, read_line, sections_between, write_line};
 
@@ -122,8 +125,30 @@ fn refuses_what_is_nearly_a_text(rt: HostRuntime) -> Result<(), Fail> {
         holds(&rt, name, stop == Some(LineStop::BadLine { session: 7 }));
     }
     let stop = read_line(rt.alloc(), b"\"7\" commit").err();
-    holds(&rt, "a text as a session", stop == Some(LineStop::BadLine { session: 0 }));
+    holds(
+        &rt,
+        "a text as a session",
+        stop == Some(LineStop::BadLine { session: 0 }),
+    );
     Ok(())
+}
+
+// The reply to a line `x` that is refused is the row.
+fn is_refused(rt: &impl Abort, alloc: Global, row: &str, why: Refusal) -> Result<(), Fail> {
+    let text = ListOf::of(Vec::from_slice(alloc, b"x")?);
+    is_answered(rt, alloc, row, "", &text, &Reply::Refused { why })
+}
+
+#[test]
+fn tells_why_a_value_is_refused(rt: HostRuntime) -> Result<(), Fail> {
+    let alloc = rt.alloc();
+    is_refused(&rt, alloc, "> x\nrefused 20 body full\n", Refusal::BodyFull)?;
+    let column = Name::read(b"name").ok_or("name")?;
+    let why = Refusal::WrongKind { column };
+    is_refused(&rt, alloc, "> x\nrefused 22 wrong kind name\n", why)?;
+    let column = Name::read(b"name").ok_or("name")?;
+    let why = Refusal::TextTooLong { column };
+    is_refused(&rt, alloc, "> x\nrefused 23 text too long name\n", why)
 }
 
 const INPUT: &str = "# sections\n2 begin\n\n1 get items 1\nx\n65 commit\n64 log master\n2 commit";

@@ -106,7 +106,7 @@ space_behind k (b ∷ bs) rest e =
 
 behind_is : (w rest : List ℕ) → drop (length w + 1) (w ++ 32 ∷ rest) ≡ rest
 behind_is [] rest = refl
-behind_is (b ∷ bs) rest = behind_is bs rest
+behind_is (b ∷ bs) rest = let one : suc (length bs) + 1 ≡ suc (length bs + 1) = omega arith in ap (λ (n : ℕ). drop n (b ∷ bs ++ 32 ∷ rest)) one ∙ behind_is bs rest
 
 -- a session, and the words of a statement behind spaces, are read as the line
 pub line_read : (n : ℕ) (w v : List ℕ) (vs : List (List ℕ)) (x : Stmt) → list_all is_plain w ≡ true → session_with (key_of w) ≡ suc n → Whole false v → AllByRecursion (Whole false) vs → stmt_of (v ∷ vs) ≡ Some x
@@ -114,7 +114,8 @@ pub line_read : (n : ℕ) (w v : List ℕ) (vs : List (List ℕ)) (x : Stmt) →
 line_read n w v vs x plain session whole wholes stmt short =
     let rest : List ℕ = v ++ behind_spaces vs in
     let text : List ℕ = w ++ 32 ∷ rest in
-    let place : first_space text ≡ Some (length w) = position_from-zero is_space text ∙ space_behind 0 w rest plain in
+    let far : 0 + length w ≡ length w = omega arith in
+    let place : first_space text ≡ Some (length w) = position_from-zero is_space text ∙ space_behind 0 w rest plain ∙ ap (λ (n : ℕ). Some n) far in
     let long : nat_le (length text) 4096 ≡ true = le-leb (length text) 4096 short in
     let number : session_with (key_of (take (length w) text)) ≡ suc n = ap (λ (u : List ℕ). session_with (key_of u)) (front_is w (32 ∷ rest)) ∙ session in
     let said : stmt_of (parts_of (drop (length w + 1) text)) ≡ Some x = ap (λ (u : List ℕ). stmt_of (parts_of u)) (behind_is w rest) ∙ ap stmt_of (parts_behind v vs whole wholes) ∙ stmt in
