@@ -32,9 +32,10 @@ two_numbers = Number (pos 1) ∷ Number (pos 2) ∷ []
 pub two_adoptable : (ws : List ℕ) (n : ℕ) → 0 < n → AreAdoptable n (two_changes ws)
 two_adoptable ws n h = record { relations = ap (λ (b : Bool). b && (b && true)) (lt-ltb 0 n h); differ = refl }
 
--- two numbers meet the widths of its first relation
-pub row_fits : (schema : List Relation) → HasTwoNumbers schema → (fields : List Value) → fields ≡ two_numbers → has_fields (widths_at schema 0) (Some fields) ≡ true
-row_fits schema two fields e = ap (λ (ws : List ℕ). meets ws fields) two.1 ∙ ap (meets (0 ∷ 0 ∷ [])) e
+-- two numbers fit a schema whose first relation has two columns of numbers
+module _ (schema : List Relation) (two : HasTwoNumbers schema) where
+  pub row_fits : (fields : List Value) → fields ≡ two_numbers → has_fields (widths_at schema 0) (Some fields) ≡ true
+  row_fits fields e = ap (λ (ws : List ℕ). meets ws fields) two.1 ∙ ap (meets (0 ∷ 0 ∷ [])) e
 
 module _ {V : Type 0} {g : Ghosts V} (schema : List Relation) (two : HasTwoNumbers schema) where
   -- its first relation has two columns of numbers
