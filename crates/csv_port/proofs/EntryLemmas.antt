@@ -122,8 +122,11 @@ module _ (ws : List ℕ) (t : Table) (r : ℕ) where
   one_more : (n size : ℕ) → size + n * size ≡ suc n * size
   one_more n size = omega arith
 
+  none_more : (size : ℕ) → 0 ≡ 0 * size
+  none_more size = omega arith
+
   states_size : (wide : Bool) (ks : List ℕ) → AllThere (relation_at t r) ks → changes_size wide (states ks) ≡ length ks * (10 + form_size wide ws)
-  states_size wide [] h = refl
+  states_size wide [] h = none_more (10 + form_size wide ws)
   states_size wide (k ∷ ks) h =
       ap (λ (o : Option (List ℕ)). 10 + fields_size wide o + changes_size wide (states ks)) (has_widths ws (finite.get (relation_at t r) k) h.0)
       ∙ ap (λ (n : ℕ). 10 + form_size wide ws + n) (states_size wide ks h.1)
