@@ -1,13 +1,13 @@
 -- How many bytes the entry of inserted rows has, by the touched keys of a whole private table.
-use Rattle.std.proofs.Common.{◌≡◌, ◌∙◌, ℕ, zero, suc, ◌+◌, ◌*◌, ◌<◌, ◌==◌, ◌||◌, nat_lt, cond, Bool, true, false, List, [], ◌∷◌, ◌++◌, length, map, set, replicate, get_or, Option, Some, None, refl, sym, ap, arith, append-nil}
+use Rattle.std.proofs.Common.{◌≡◌, ◌∙◌, ℕ, zero, suc, ◌+◌, ◌*◌, ◌<◌, ◌==◌, ◌||◌, nat_lt, cond, Bool, true, false, List, [], ◌∷◌, ◌++◌, length, map, set, replicate, Option, Some, None, refl, sym, ap, arith, append-nil}
 use Rattle.std.specs.Prelude.{is_some}
 use Rattle.std.specs.FinMap as finite
-use Rattle.std.specs.List.{AllByRecursion, list_any}
+use Rattle.std.specs.List.{AllByRecursion}
 use Rattle.std.proofs.lemmas.Bool.{eq-eqb, false≢true, ne_eqb}
 use Rattle.std.proofs.lemmas.Cmp.{nat_cmp_total}
 use Rattle.db_value.specs.Value.{Value}
 use Rattle.db_value.specs.declared.entry.Change.{Change}
-use Rattle.db_store.specs.Body.{any_of_texts, any_text, changes_size, commit_size, fields_size, form_size, has_text, have_texts}
+use Rattle.db_store.specs.Body.{any_of_texts, any_text, changes_size, commit_size, fields_size, form_size, have_texts}
 use Rattle.db_store.specs.Overlay.{own_widths, widths_if}
 use Rattle.db_store.specs.Table.{Contents, Table, relation_at}
 use Rattle.db_store.specs.TouchRules.{same_key}
