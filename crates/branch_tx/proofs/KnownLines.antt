@@ -107,8 +107,7 @@ module _ (g : Granted) where
 
   pub delete_is : (name : List ℕ) (key r : ℕ) → known_in g (Delete name key) ≡ Of r → (r < length g.schema) × (acted g (Delete name key) ≡ deleted r name key)
   delete_is name key r e =
-      let is = relation_is name (relation_named g.schema name) r e in
-      (
+      let is = relation_is name (relation_named g.schema name) r e in (
         named_within g.schema name r is,
         ap (delete_of (over_table g.head) (ground_in g) (tx_in g) name key) is ∙ ap (unless_full (ground_in g) (tx_in g)) (delete_by g r name key),
       )

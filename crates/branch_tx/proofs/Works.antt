@@ -15,7 +15,7 @@ use Rattle.db_store.specs.RowWidths.{all_widths}
 use Rattle.db_store.specs.Fits.{has_fields, has_widths, change_fits}
 use Rattle.db_store.specs.Adopt.{change_meets}
 use Rattle.db_store.specs.Work.{fields_at, updated}
-use Rattle.db_store.specs.WorkState.{under_of, overlays_of, widths_of, working_of, StaysOver}
+use Rattle.db_store.specs.WorkState.{under_of, overlays_of, widths_of, second_of, working_of, StaysOver}
 use Rattle.db_store.proofs.CountedLemmas.{IsShaped, change_shaped, changes_shaped}
 use Rattle.db_store.proofs.LayerLemmas.{length_overlays}
 use Rattle.db_store.proofs.OverlayLemmas.{length_laid, laid_touched, laid_untouched}
@@ -114,3 +114,9 @@ module _ {V : Type 0} {g : Ghosts V} (schema : List Relation) where
       let wide = length_laid (g.table (under_of old)) (overlays_of old) ∙ h.0 in
       let made = ap (λ (v : V). laid (g.table v) (overlays_of new)) (sym s.under) ∙ e in
       holds_still X shown old new (overlays_of new) s refl (subst (AreMet schema) (sym made) (met_changed schema (laid (g.table (under_of old)) (overlays_of old)) cs wide f h.4)) h
+
+  -- after those of a merge that was made or not
+  pub holds_merged : {T E : Type 0} (result : Result T E) (X : Type 0) (shown : List Shown) (old new : Work V g) (cs : List Change) → StaysOver old new → OnOk result (laid (g.table (under_of new)) (overlays_of new) ≡ with_changes (laid (g.table (under_of old)) (overlays_of old)) cs)
+      → OnErr result ((overlays_of new ≡ overlays_of old) × (second_of new ≡ second_of old)) → list_all (change_fits schema) cs ≡ true → Holds X shown old → Holds X shown new
+  holds_merged (Ok x) X shown old new cs s e n f h = holds_adopted X shown old new cs s e f h
+  holds_merged (Err x) X shown old new cs s e n f h = holds_same X shown old new s n.0 h

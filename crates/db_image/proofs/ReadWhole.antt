@@ -18,7 +18,7 @@ use Rattle.image_text.specs.declared.image.Image.{Image}
 use Rattle.image_text.specs.Reading.{◌>>=◌, test, repeat, branches_at, versions_at, next_segments, parts_at}
 use Rattle.image_text.specs.Spelling.{counted, branch_bytes, version_bytes, segments_bytes, spelling}
 use Rattle.image_parts.specs.Whole.{is_whole, image_at}
-use Rattle.db_image.specs.Rules.{EachNext, after, onto, IsNextColumn, IsNextRelation, branch_next, version_next, branches_seen, versions_seen, lasts_of, AreByRelation, IsRuled}
+use Rattle.db_image.specs.Rules.{EachNext, after, onto, tells, IsNextColumn, IsNextRelation, branch_next, version_next, branches_seen, versions_seen, lasts_of, AreByRelation, IsRuled}
 use Rattle.db_image.proofs.ReadSteps.{step, test_is}
 use Rattle.db_image.proofs.ReadLines.{relations_back, branches_back, versions_back}
 use Rattle.db_image.proofs.ReadRows.{segments_back}
@@ -31,7 +31,7 @@ no_parts = []
 
 columns_wide : (seen cs : List Column) → EachNext onto IsNextColumn seen cs → list_all (λ c. is_width c.width) cs ≡ true
 columns_wide seen [] each = refl
-columns_wide seen (c ∷ cs) each = and_from (is_width c.width) (list_all (λ (d : Column). is_width d.width) cs) (ap is_width each.0.number) (columns_wide (seen ++ c ∷ []) cs each.1)
+columns_wide seen (c ∷ cs) each = and_from (is_width c.width) (list_all (λ (d : Column). is_width d.width) cs) each.0.width (columns_wide (seen ++ c ∷ []) cs each.1)
 
 -- a relation that keeps its rules has columns of widths
 pub relation_counted : (seen : List Relation) (r : Relation) → IsNextRelation seen r → has_columns r ≡ true
@@ -73,10 +73,10 @@ versions_are lasts seen (v ∷ vs) = versions_are (version_next (lasts, seen) v)
 counted_is : (i : Image) → IsRuled i → is_counted i.relations ≡ true
 counted_is i is = and_from _ _ (and_from _ _ (lt-ltb 0 (length i.relations) is.some_relations) (le-leb (length i.relations) 8 is.few_relations)) (each_counted [] i.relations is.relations)
 
-pub parts_back : (format : Format) (i : Image) → IsRuled i → parts_at format (spelling format i) ≡ Ok (i, lasts_of i)
+pub parts_back : (format : Format) (i : Image) → IsRuled i → tells format i.relations ≡ true → parts_at format (spelling format i) ≡ Ok (i, lasts_of i)
 unfolding parts_at spelling
-parts_back format i is =
-    step (λ relations. branches_at relations.1 >>= λ branches. versions_at branches.0.1 branches.1 >>= λ versions. repeat (next_segments relations.0 versions.0.0) (length relations.0) no_parts versions.1 >>= λ segments. test (length segments.1 == 0) segments.1 >>= λ ended. Ok (record { relations = relations.0; branches = branches.0.0; versions = versions.0.1; segments = segments.0 }, versions.0.0)) (relations_back format i.relations (counted branch_bytes i.branches ++ (counted version_bytes i.versions ++ segments_bytes i.relations i.segments)) is.some_relations is.few_relations is.relations)
+parts_back format i is told =
+    step (λ relations. branches_at relations.1 >>= λ branches. versions_at branches.0.1 branches.1 >>= λ versions. repeat (next_segments relations.0 versions.0.0) (length relations.0) no_parts versions.1 >>= λ segments. test (length segments.1 == 0) segments.1 >>= λ ended. Ok (record { relations = relations.0; branches = branches.0.0; versions = versions.0.1; segments = segments.0 }, versions.0.0)) (relations_back format i.relations (counted branch_bytes i.branches ++ (counted version_bytes i.versions ++ segments_bytes i.relations i.segments)) is.some_relations is.few_relations is.relations told)
     ∙ step (λ branches. versions_at branches.0.1 branches.1 >>= λ versions. repeat (next_segments i.relations versions.0.0) (length i.relations) no_parts versions.1 >>= λ segments. test (length segments.1 == 0) segments.1 >>= λ ended. Ok (record { relations = i.relations; branches = branches.0.0; versions = versions.0.1; segments = segments.0 }, versions.0.0)) (branches_back i.branches (counted version_bytes i.versions ++ segments_bytes i.relations i.segments) is.some_branches is.few_branches is.branches)
     ∙ step (λ versions. repeat (next_segments i.relations versions.0.0) (length i.relations) no_parts versions.1 >>= λ segments. test (length segments.1 == 0) segments.1 >>= λ ended. Ok (record { relations = i.relations; branches = (branches_seen i).0; versions = versions.0.1; segments = segments.0 }, versions.0.0)) (versions_back (branches_seen i).1 i.versions (segments_bytes i.relations i.segments) is.few_versions is.versions)
     ∙ step (λ segments. test (length segments.1 == 0) segments.1 >>= λ ended. Ok (record { relations = i.relations; branches = (branches_seen i).0; versions = (versions_seen i).1; segments = segments.0 }, (versions_seen i).0)) (ap (λ n. repeat (next_segments i.relations (lasts_of i)) n no_parts (segments_bytes i.relations i.segments)) (sym is.same_count) ∙ all_back i.relations (lasts_of i) (counted_is i is) no_parts i.segments (let e = is.same_count in omega (arith, e)) is.segments)
@@ -90,6 +90,6 @@ kept : (w : Bool) (i : Image) → w ≡ true → cond w (done i) (Err 0) ≡ Ok 
 kept true i e = refl
 kept false i e = absurd cc
 
-pub image_back : (format : Format) (i : Image) → IsRuled i → image_at format (spelling format i) ≡ Ok i
+pub image_back : (format : Format) (i : Image) → IsRuled i → tells format i.relations ≡ true → image_at format (spelling format i) ≡ Ok i
 unfolding image_at
-image_back format i is = step (λ (parts : Image × List ℕ). cond (is_whole parts.0 parts.1) (done parts.0) (Err 0)) (parts_back format i is) ∙ kept (is_whole i (lasts_of i)) i is.whole
+image_back format i is told = step (λ (parts : Image × List ℕ). cond (is_whole parts.0 parts.1) (done parts.0) (Err 0)) (parts_back format i is told) ∙ kept (is_whole i (lasts_of i)) i is.whole

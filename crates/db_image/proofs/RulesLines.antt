@@ -5,6 +5,7 @@ use Rattle.std.specs.Int.{w32}
 use Rattle.std.proofs.lemmas.Bool.{and_parts, ltb-true, leb-true}
 use Rattle.db_value.specs.Text.{is_name}
 use Rattle.db_value.specs.Schema.{is_declared}
+use Rattle.db_value.specs.Width.{is_width}
 use Rattle.db_value.specs.declared.schema.Column.{Column}
 use Rattle.db_value.specs.declared.schema.Relation.{Relation}
 use Rattle.db_value.specs.declared.version.VersionPlace.{VersionPlace}
@@ -31,8 +32,8 @@ name_kept b =
     if_tested (is_name (take n.0 n.1)) b _ (λ named.
     all_read (take n.0 n.1, drop n.0 n.1) named))))
 
--- a width that is read is 0
-width_kept : (format : Format) (b : List ℕ) → Keeps (width_at format b) (λ x. x.0 ≡ 0)
+-- a width that is read is one
+width_kept : (format : Format) (b : List ℕ) → Keeps (width_at format b) (λ x. is_width x.0 ≡ true)
 width_kept format b = record { holds = λ x e. width_known format b x e }
 
 next_column_kept : (format : Format) (s : List Column) (b : List ℕ) → Keeps (next_column format s b) (MakesOne onto IsNextColumn s)
@@ -40,8 +41,8 @@ unfolding next_column
 next_column_kept format s b =
     first_read _ (name_kept b) (λ n named.
     if_tested (not (has_column s n.0)) b _ (λ fresh.
-    first_read _ (width_kept format n.1) (λ w number.
-    all_read _ (record { name = n.0; width = w.0 }, refl, record { name = named; fresh = not_true _ fresh; number = number }))))
+    first_read _ (width_kept format n.1) (λ w wide.
+    all_read _ (record { name = n.0; width = w.0 }, refl, record { name = named; fresh = not_true _ fresh; width = wide }))))
 
 next_relation_kept : (format : Format) (s : List Relation) (b : List ℕ) → Keeps (next_relation format s b) (MakesOne onto IsNextRelation s)
 unfolding next_relation

@@ -1,13 +1,16 @@
 -- The rules of an image, part by part.
-use Rattle.std.specs.Prelude.{◌≡◌, ℕ, suc, ◌+◌, ◌-◌, ◌*◌, ◌^◌, ◌<◌, ◌≤◌, ◌==◌, ◌||◌, true, false, List, [], ◌∷◌, ◌++◌, length, set, take, replicate, Option, Some, None}
-use Rattle.std.specs.List.{All}
+use Rattle.std.specs.Prelude.{◌≡◌, ℕ, suc, ◌+◌, ◌-◌, ◌*◌, ◌^◌, ◌<◌, ◌≤◌, ◌==◌, ◌||◌, Bool, true, false, List, [], ◌∷◌, ◌++◌, length, set, take, replicate, Option, Some, None}
+use Rattle.std.specs.List.{All, list_all}
 use Rattle.db_value.specs.Text.{is_name}
 use Rattle.db_value.specs.Schema.{is_declared}
+use Rattle.db_value.specs.Width.{is_width}
 use Rattle.db_value.specs.Relations.{widths_at}
 use Rattle.db_value.specs.declared.schema.Column.{Column}
 use Rattle.db_value.specs.declared.schema.Relation.{Relation}
 use Rattle.db_value.specs.declared.version.VersionPlace.{VersionPlace}
 use Rattle.record_page.specs.Page.{IsRecord}
+use Rattle.image_text.specs.declared.image.Format.{Format}
+use Rattle.image_text.specs.declared.image.Format.TheVariants.{One, Two}
 use Rattle.image_text.specs.declared.image.BranchPart.{BranchPart}
 use Rattle.image_text.specs.declared.image.MadeVersion.{MadeVersion}
 use Rattle.image_text.specs.declared.image.Delta.{Delta}
@@ -33,11 +36,11 @@ onto seen x = seen ++ x ∷ []
 
 -- ---- relations
 
--- a column of numbers with a name that none of those before it has
+-- a column of a width, with a name that none of those before it has
 pub record IsNextColumn (seen : List Column) (c : Column) : Type 0 where
   pub name : is_name c.name ≡ true
   pub fresh : has_column seen c.name ≡ false
-  pub number : c.width ≡ 0
+  pub width : is_width c.width ≡ true
 
 -- a relation of a new name, with one to 15 columns
 pub record IsNextRelation (seen : List Relation) (r : Relation) : Type 0 where
@@ -46,6 +49,11 @@ pub record IsNextRelation (seen : List Relation) (r : Relation) : Type 0 where
   pub some : 0 < length r.columns
   pub few : length r.columns ≤ 15
   pub columns : EachNext onto IsNextColumn [] r.columns
+
+-- a format tells the widths of the columns: format two always, and format one if all are of numbers
+abbrev pub tells : Format → List Relation → Bool
+tells One rs = list_all (λ r. list_all (λ c. c.width == 0) r.columns) rs
+tells Two rs = true
 
 -- ---- branches and versions
 

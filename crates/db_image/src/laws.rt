@@ -22,7 +22,7 @@ ghost use Rattle.db_image.specs.Parts.{bits_of, parts_of};
 ghost use Rattle.db_image.specs.Read.{IsFit};
 ghost use Rattle.db_image.specs.Images.{delta_image, image_of};
 ghost use Rattle.db_image.specs.Imaged.{AreSlots, AreWithin, AreInOrder, AllNumbersFit, HasLines, HasOrigins, HasSegments, IsImaged, IsNamed};
-ghost use Rattle.db_image.specs.Rules.{lasts_of, onto, AreByRelation, EachNext, IsDelta, IsNextRelation, IsRuled};
+ghost use Rattle.db_image.specs.Rules.{lasts_of, onto, tells, AreByRelation, EachNext, IsDelta, IsNextRelation, IsRuled};
 
 use hybrid_store::HybridStore;
 
@@ -59,9 +59,11 @@ pub fn order_law()
         → AreInOrder (layout_of_parts p) }
 {}
 
-/// An image that keeps all rules is read from its spelling in either format.
+/// An image that keeps all rules is read from its spelling in a format that tells the widths of its
+/// columns.
 pub fn rules_law()
-    ensures { (f : Format) (i : Image) → IsRuled i → image_at f (spelling f i) ≡ Ok i }
+    ensures { (f : Format) (i : Image) → IsRuled i → tells f i.relations ≡ true
+        → image_at f (spelling f i) ≡ Ok i }
 {}
 
 /// The delta of an image of slots keeps the rules of deltas, and changes these slots.

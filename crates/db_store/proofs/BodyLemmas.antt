@@ -4,7 +4,7 @@ use Rattle.std.specs.List.{list_all, list_any}
 use Rattle.std.specs.Ordering.{nat_cmp, is_lt, is_eq, eq_by_cmp}
 use Rattle.std.specs.Cmp.{ranked}
 use Rattle.std.proofs.lemmas.Cmp.{nat_cmp_total}
-use Rattle.std.proofs.lemmas.Bool.{and_parts, and_from, not-true, lt-ltb, ltb-true, le-leb, lt-leb, leb-true, ne_eqb, cases_lt, false≢true}
+use Rattle.std.proofs.lemmas.Bool.{and_parts, and_from, not-true, lt-ltb, ltb-true, le-leb, leb-true, ne_eqb, cases_lt, false≢true}
 use Rattle.std.proofs.lemmas.List.{length-set, drop_more}
 use Rattle.std.proofs.lemmas.Nat.{mul-le}
 use Rattle.std.proofs.Math.Nat.{div-mul-le_self}
@@ -19,12 +19,12 @@ use Rattle.db_value.specs.declared.schema.Relation.{Relation}
 use Rattle.db_value.specs.declared.version.VersionPlace.{VersionPlace}
 use Rattle.db_value.specs.declared.entry.Change.{Change}
 use Rattle.work_region.specs.declared.rows.RowFrame.{RowFrame as Touch}
-use Rattle.db_store.specs.declared.tally.Tally.{Tally}
+use Rattle.db_store.specs.declared.bulk.Bulk.{Bulk}
 use Rattle.db_store.specs.Touched.{state_of}
 use Rattle.db_store.specs.Fits.{has_fields, has_widths, change_fits}
 use Rattle.db_store.specs.RowWidths.{all_widths, most_of, most_from}
 use Rattle.db_store.specs.Body.{any_of_texts, have_texts, has_text, any_text, wide_size, form_size, fields_size, change_size, changes_size, second_size, commit_size, most_entry}
-use Rattle.db_store.specs.Tally.{text_count, tally_of, no_tally, weight, weight_at, exchanged, size_in, with_own}
+use Rattle.db_store.specs.Bulk.{text_count, bulk_of, no_bulk, weight, weight_at, exchanged, size_in, with_own}
 use Rattle.db_store.specs.Overlay.{Overlay, untouched, overlay_at, is_touched, count_touched, touch, own_widths, widths_if, change_of, changes_in, changes_from}
 use Rattle.db_store.specs.OverlayRules.{two_true, less_is}
 use Rattle.db_store.specs.TouchRules.{same_key}
@@ -72,12 +72,12 @@ by_form : (b : Bool) (cs : List Change) → changes_size b cs ≡ cond b (change
 by_form true cs = refl
 by_form false cs = refl
 
--- the bytes of changes are those of their tally
-pub size_tallied : (cs : List Change) → changes_size (any_text cs) cs ≡ size_in (tally_of cs)
-size_tallied cs = by_form (any_text cs) cs ∙ ap (λ (b : Bool). cond b (changes_size true cs) (changes_size false cs)) (any_is cs)
+-- the bytes of changes are those of their bulk
+pub size_bulk : (cs : List Change) → changes_size (any_text cs) cs ≡ size_in (bulk_of cs)
+size_bulk cs = by_form (any_text cs) cs ∙ ap (λ (b : Bool). cond b (changes_size true cs) (changes_size false cs)) (any_is cs)
 
-pub commit_tallied : (second : Option VersionPlace) (cs : List Change) → commit_size second cs ≡ 9 + second_size second + size_in (tally_of cs)
-commit_tallied second cs = ap (λ n. 9 + second_size second + n) (size_tallied cs)
+pub commit_bulk : (second : Option VersionPlace) (cs : List Change) → commit_size second cs ≡ 9 + second_size second + size_in (bulk_of cs)
+commit_bulk second cs = ap (λ n. 9 + second_size second + n) (size_bulk cs)
 
 -- ---- bounds
 
@@ -147,13 +147,13 @@ texts_most wss os =
     one false = omega arith
 
 -- and none of the numbers is large
-pub record IsSmall (t : Tally) : Type 0 where
+pub record IsSmall (t : Bulk) : Type 0 where
   pub plain : t.plain < 2 ^ 62
   pub wide : t.wide < 2 ^ 62
   pub texts : t.texts < 2 ^ 62
 
-pub tally_small : (wss : List (List ℕ)) (os : List Overlay) (room : ℕ) → count_touched os ≤ room → room < 2 ^ 32 → most_from 10 wss < 2 ^ 16 → IsSmall (tally_of (changes_from wss 0 os))
-tally_small wss os room few wide small =
+pub bulk_small : (wss : List (List ℕ)) (os : List Overlay) (room : ℕ) → count_touched os ≤ room → room < 2 ^ 32 → most_from 10 wss < 2 ^ 16 → IsSmall (bulk_of (changes_from wss 0 os))
+bulk_small wss os room few wide small =
     let product = mul-le (count_touched os) (9 + most_from 10 wss) (2 ^ 32) (2 ^ 17) (omega (arith, few, wide)) (omega (arith, small)) in
     let a = changes_most false wss os in
     let b = changes_most true wss os in
@@ -189,14 +189,6 @@ sure_short second wss os room most is few enough =
     let c = second_most second in
     omega (arith, a, b, c, enough)
 
--- an entry takes what is left beside its other parts
-pub fits_is : (a b m : ℕ) → b ≤ m → nat_le a (m - b) ≡ nat_le (b + a) m
-fits_is a b m l = by (cases_lt m (b + a))
-  where
-    by : (m < b + a) ⊎ (b + a ≤ m) → nat_le a (m - b) ≡ nat_le (b + a) m
-    by (inl h) = lt-leb a (m - b) (omega (arith, l, h)) ∙ sym (lt-leb (b + a) m h)
-    by (inr h) = le-leb a (m - b) (omega (arith, l, h)) ∙ sym (le-leb (b + a) m h)
-
 -- ---- a touch
 
 -- what a state had, and nothing where the key was not touched
@@ -205,16 +197,16 @@ had h ws None = 0
 had h ws (Some st) = h (widths_if ws st)
 
 -- a sum with one of its parts, and with another in the place of this
-pub record Exchanges (old new before after : ℕ) : Type 0 where
+pub record Exchanges (old new x y : ℕ) : Type 0 where
   pub rest : ℕ
-  pub before : before ≡ rest + old
-  pub after : after ≡ rest + new
+  pub before : x ≡ rest + old
+  pub after : y ≡ rest + new
 
-more_rest : (n old new before after : ℕ) → Exchanges old new before after → Exchanges old new (n + before) (n + after)
-more_rest n old new before after e = let b = e.before in let a = e.after in record { rest = n + e.rest; before = omega (arith, b); after = omega (arith, a) }
+more_rest : (n old new x y : ℕ) → Exchanges old new x y → Exchanges old new (n + x) (n + y)
+more_rest n old new x y e = let b = e.before in let a = e.after in record { rest = n + e.rest; before = omega (arith, b); after = omega (arith, a) }
 
-rest_more : (n old new before after : ℕ) → Exchanges old new before after → Exchanges old new (before + n) (after + n)
-rest_more n old new before after e = let b = e.before in let a = e.after in record { rest = n + e.rest; before = omega (arith, b); after = omega (arith, a) }
+rest_more : (n old new x y : ℕ) → Exchanges old new x y → Exchanges old new (x + n) (y + n)
+rest_more n old new x y e = let b = e.before in let a = e.after in record { rest = n + e.rest; before = omega (arith, b); after = omega (arith, a) }
 
 -- no key is below all of these and among them
 none_under : {X : Type 0} (k x : ℕ) (es : List (ℕ × X)) → k < x → T (below_all nat_cmp x es) → find nat_cmp k es ≡ None
@@ -227,17 +219,18 @@ none_under k x (e ∷ es) h s =
 module _ (h : Option (List ℕ) → ℕ) (ws : List ℕ) (n : ℕ) (k : ℕ) (st : Option (List Value)) where
   put_entries : (es : List (ℕ × Option (List Value))) → T (is_sorted nat_cmp es) → Exchanges (had h ws (find nat_cmp k es)) (h (widths_if ws st)) (weigh h (map (change_of ws n) es)) (weigh h (map (change_of ws n) (put nat_cmp k st es)))
   put_entries [] s = record { rest = 0; before = refl; after = omega arith }
-  put_entries (e ∷ es) s = by (nat_cmp k e.0) refl
+  put_entries (e ∷ es) s = by (put_entries es (two_true (below_all nat_cmp e.0 es) (is_sorted nat_cmp es) s).1) (nat_cmp k e.0) refl
     where
       two : T (below_all nat_cmp e.0 es) × T (is_sorted nat_cmp es)
       two = two_true _ _ s
 
-      by : (r : Ordering) → nat_cmp k e.0 ≡ r → Exchanges (had h ws (cond (is_eq r) (Some e.1) (find nat_cmp k es))) (h (widths_if ws st)) (weigh h (map (change_of ws n) (e ∷ es))) (weigh h (map (change_of ws n) (by_order r ((k, st) ∷ e ∷ es) ((e.0, st) ∷ es) (e ∷ put nat_cmp k st es))))
-      by Less q =
+      by : Exchanges (had h ws (find nat_cmp k es)) (h (widths_if ws st)) (weigh h (map (change_of ws n) es)) (weigh h (map (change_of ws n) (put nat_cmp k st es)))
+          → (r : Ordering) → nat_cmp k e.0 ≡ r → Exchanges (had h ws (cond (is_eq r) (Some e.1) (find nat_cmp k es))) (h (widths_if ws st)) (weigh h (map (change_of ws n) (e ∷ es))) (weigh h (map (change_of ws n) (by_order r ((k, st) ∷ e ∷ es) ((e.0, st) ∷ es) (e ∷ put nat_cmp k st es))))
+      by later Less q =
           let none : had h ws (find nat_cmp k es) ≡ 0 = ap (had h ws) (none_under k e.0 es (ranked k e.0 Less (sym q)) two.0) in
           record { rest = weigh h (map (change_of ws n) (e ∷ es)); before = omega (arith, none); after = omega arith }
-      by Equal q = record { rest = weigh h (map (change_of ws n) es); before = omega arith; after = omega arith }
-      by Greater q = more_rest (h (widths_if ws e.1)) _ _ _ _ (put_entries es two.1)
+      by later Equal q = record { rest = weigh h (map (change_of ws n) es); before = omega arith; after = omega arith }
+      by later Greater q = more_rest (h (widths_if ws e.1)) _ _ _ _ later
 
 -- the changes of a relation after a touch of it
 touched_in : (h : Option (List ℕ) → ℕ) (ws : List ℕ) (n k : ℕ) (st : Option (List Value)) (o : Overlay) → Exchanges (had h ws (finite.get o k)) (h (widths_if ws st)) (weigh h (changes_in ws n o)) (weigh h (changes_in ws n (finite.insert o k st)))
@@ -276,17 +269,17 @@ touched_weigh h wss os r key st l =
     subst (λ m. Exchanges (had h (own_widths wss m) (finite.get (overlay_at os r) key)) (h (widths_if (own_widths wss m) st)) (weigh h (changes_from wss 0 os)) (weigh h (changes_from wss 0 (touch os r key st)))) same
     (touched_from h wss 0 os r key st l)
 
--- ---- the tally after a touch
+-- ---- the bulk after a touch
 
 -- tallies with the same numbers
-pub same_tally : (t u : Tally) → t.plain ≡ u.plain → t.wide ≡ u.wide → t.texts ≡ u.texts → t ≡ u
-same_tally t u p w x =
-    ap (λ n. let y : Tally = record { plain = n; wide = t.wide; texts = t.texts } in y) p
-    ∙ ap (λ n. let y : Tally = record { plain = u.plain; wide = n; texts = t.texts } in y) w
-    ∙ ap (λ n. let y : Tally = record { plain = u.plain; wide = u.wide; texts = n } in y) x
+pub same_bulk : (t u : Bulk) → t.plain ≡ u.plain → t.wide ≡ u.wide → t.texts ≡ u.texts → t ≡ u
+same_bulk t u p w x =
+    ap (λ n. let y : Bulk = record { plain = n; wide = t.wide; texts = t.texts } in y) p
+    ∙ ap (λ n. let y : Bulk = record { plain = u.plain; wide = n; texts = t.texts } in y) w
+    ∙ ap (λ n. let y : Bulk = record { plain = u.plain; wide = u.wide; texts = n } in y) x
 
--- what the old tally has of a key
-pub record IsPartOf (old t : Tally) : Type 0 where
+-- what the old bulk has of a key
+pub record IsPartOf (old t : Bulk) : Type 0 where
   pub plain : old.plain ≤ t.plain
   pub wide : old.wide ≤ t.wide
   pub texts : old.texts ≤ t.texts
@@ -318,7 +311,7 @@ texted wss os r key st l =
     let b = e.after in
     record { rest = e.rest; before = texts_are (changes_from wss 0 os) ∙ a ∙ ap (λ n. e.rest + n) (had_texts (own_widths wss r) (finite.get (overlay_at os r) key)); after = texts_are (changes_from wss 0 (touch os r key st)) ∙ b }
 
-pub part_of : (wss : List (List ℕ)) (os : List Overlay) (r key : ℕ) → r < length os → IsPartOf (weight_at (own_widths wss r) (finite.get (overlay_at os r) key)) (tally_of (changes_from wss 0 os))
+pub part_of : (wss : List (List ℕ)) (os : List Overlay) (r key : ℕ) → r < length os → IsPartOf (weight_at (own_widths wss r) (finite.get (overlay_at os r) key)) (bulk_of (changes_from wss 0 os))
 part_of wss os r key l =
     let a = sized false wss os r key None l in
     let b = sized true wss os r key None l in
@@ -328,17 +321,17 @@ part_of wss os r key l =
     let t = c.before in
     record { plain = omega (arith, p); wide = omega (arith, w); texts = omega (arith, t) }
 
-less_more : (old new before after : ℕ) → Exchanges old new before after → before - old + new ≡ after
-less_more old new before after e = let a = e.before in let b = e.after in omega (arith, a, b)
+less_more : (old new x y : ℕ) → Exchanges old new x y → x - old + new ≡ y
+less_more old new x y e = let a = e.before in let b = e.after in omega (arith, a, b)
 
-pub tally_touched : (wss : List (List ℕ)) (os : List Overlay) (r key : ℕ) (st : Option (List Value)) → r < length os
-    → exchanged (tally_of (changes_from wss 0 os)) (weight_at (own_widths wss r) (finite.get (overlay_at os r) key)) (weight (widths_if (own_widths wss r) st)) ≡ tally_of (changes_from wss 0 (touch os r key st))
-tally_touched wss os r key st l =
-    let old : Tally = weight_at (own_widths wss r) (finite.get (overlay_at os r) key) in
-    let new : Tally = weight (widths_if (own_widths wss r) st) in
-    let t : Tally = tally_of (changes_from wss 0 os) in
-    let u : Tally = tally_of (changes_from wss 0 (touch os r key st)) in
-    same_tally (exchanged t old new) u (less_more _ _ _ _ (sized false wss os r key st l)) (less_more _ _ _ _ (sized true wss os r key st l)) (less_more _ _ _ _ (texted wss os r key st l))
+pub bulk_touched : (wss : List (List ℕ)) (os : List Overlay) (r key : ℕ) (st : Option (List Value)) → r < length os
+    → exchanged (bulk_of (changes_from wss 0 os)) (weight_at (own_widths wss r) (finite.get (overlay_at os r) key)) (weight (widths_if (own_widths wss r) st)) ≡ bulk_of (changes_from wss 0 (touch os r key st))
+bulk_touched wss os r key st l =
+    let old : Bulk = weight_at (own_widths wss r) (finite.get (overlay_at os r) key) in
+    let new : Bulk = weight (widths_if (own_widths wss r) st) in
+    let t : Bulk = bulk_of (changes_from wss 0 os) in
+    let u : Bulk = bulk_of (changes_from wss 0 (touch os r key st)) in
+    same_bulk (exchanged t old new) u (less_more _ _ _ _ (sized false wss os r key st l)) (less_more _ _ _ _ (sized true wss os r key st l)) (less_more _ _ _ _ (texted wss os r key st l))
 
 -- the widths beside the final state of a key
 pub live_widths : (ws : List ℕ) (t : Touch) → cond t.live (Some ws) None ≡ widths_if ws (state_of t)
@@ -349,25 +342,25 @@ pub widths_beside : (ws : List ℕ) (fields : Option (List Value)) → cond (is_
 widths_beside ws None = refl
 widths_beside ws (Some vs) = refl
 
--- what a tally is that was kept
-pub old_part : (wss : List (List ℕ)) (os : List Overlay) (r key : ℕ) (t old : Tally) → r < length os → t ≡ tally_of (changes_from wss 0 os) → old ≡ weight_at (own_widths wss r) (finite.get (overlay_at os r) key) → IsPartOf old t
-old_part wss os r key t old l is e = subst (λ (x : Tally). IsPartOf x t) (sym e) (subst (λ (x : Tally). IsPartOf (weight_at (own_widths wss r) (finite.get (overlay_at os r) key)) x) (sym is) (part_of wss os r key l))
+-- what a bulk is that was kept
+pub old_part : (wss : List (List ℕ)) (os : List Overlay) (r key : ℕ) (t old : Bulk) → r < length os → t ≡ bulk_of (changes_from wss 0 os) → old ≡ weight_at (own_widths wss r) (finite.get (overlay_at os r) key) → IsPartOf old t
+old_part wss os r key t old l is e = subst (λ (x : Bulk). IsPartOf x t) (sym e) (subst (λ (x : Bulk). IsPartOf (weight_at (own_widths wss r) (finite.get (overlay_at os r) key)) x) (sym is) (part_of wss os r key l))
 
-pub small_part : (wss : List (List ℕ)) (os : List Overlay) (room : ℕ) (t : Tally) → t ≡ tally_of (changes_from wss 0 os) → count_touched os ≤ room → room < 2 ^ 32 → most_from 10 wss < 2 ^ 16 → IsSmall t
-small_part wss os room t is few wide small = subst IsSmall (sym is) (tally_small wss os room few wide small)
+pub small_part : (wss : List (List ℕ)) (os : List Overlay) (room : ℕ) (t : Bulk) → t ≡ bulk_of (changes_from wss 0 os) → count_touched os ≤ room → room < 2 ^ 32 → most_from 10 wss < 2 ^ 16 → IsSmall t
+small_part wss os room t is few wide small = subst IsSmall (sym is) (bulk_small wss os room few wide small)
 
 -- and what it becomes
-pub new_tally : (wss : List (List ℕ)) (os : List Overlay) (r key : ℕ) (st : Option (List Value)) (t old : Tally) (ws : Option (List ℕ)) → r < length os → t ≡ tally_of (changes_from wss 0 os) → old ≡ weight_at (own_widths wss r) (finite.get (overlay_at os r) key) → ws ≡ widths_if (own_widths wss r) st
-    → exchanged t old (weight ws) ≡ tally_of (changes_from wss 0 (touch os r key st))
-new_tally wss os r key st t old ws l is e own =
-    ap (λ (x : Tally). exchanged x old (weight ws)) is
-    ∙ ap (λ (x : Tally). exchanged (tally_of (changes_from wss 0 os)) x (weight ws)) e
-    ∙ ap (λ (x : Option (List ℕ)). exchanged (tally_of (changes_from wss 0 os)) (weight_at (own_widths wss r) (finite.get (overlay_at os r) key)) (weight x)) own
-    ∙ tally_touched wss os r key st l
+pub new_bulk : (wss : List (List ℕ)) (os : List Overlay) (r key : ℕ) (st : Option (List Value)) (t old : Bulk) (ws : Option (List ℕ)) → r < length os → t ≡ bulk_of (changes_from wss 0 os) → old ≡ weight_at (own_widths wss r) (finite.get (overlay_at os r) key) → ws ≡ widths_if (own_widths wss r) st
+    → exchanged t old (weight ws) ≡ bulk_of (changes_from wss 0 (touch os r key st))
+new_bulk wss os r key st t old ws l is e own =
+    ap (λ (x : Bulk). exchanged x old (weight ws)) is
+    ∙ ap (λ (x : Bulk). exchanged (bulk_of (changes_from wss 0 os)) x (weight ws)) e
+    ∙ ap (λ (x : Option (List ℕ)). exchanged (bulk_of (changes_from wss 0 os)) (weight_at (own_widths wss r) (finite.get (overlay_at os r) key)) (weight x)) own
+    ∙ bulk_touched wss os r key st l
 
 -- whether an entry can take changes
-pub body_tallied : (second : Option VersionPlace) (cs : List Change) (t : Tally) → t ≡ tally_of cs → nat_le (9 + second_size second + size_in t) most_entry ≡ nat_le (commit_size second cs) most_entry
-body_tallied second cs t is = ap (λ n. nat_le n most_entry) (ap (λ (x : Tally). 9 + second_size second + size_in x) is ∙ sym (commit_tallied second cs))
+pub body_bulk : (second : Option VersionPlace) (cs : List Change) (t : Bulk) → t ≡ bulk_of cs → nat_le (9 + second_size second + size_in t) most_entry ≡ nat_le (commit_size second cs) most_entry
+body_bulk second cs t is = ap (λ n. nat_le n most_entry) (ap (λ (x : Bulk). 9 + second_size second + size_in x) is ∙ sym (commit_bulk second cs))
 
 -- ---- all changes of a merge
 
@@ -402,15 +395,15 @@ none_weigh h wss = by (changes_from wss 0 untouched) (length_none wss)
     by [] e = refl
     by (c ∷ cs) e = absurd (omega (arith, e))
 
-pub tally_untouched : (wss : List (List ℕ)) → tally_of (changes_from wss 0 untouched) ≡ no_tally
-tally_untouched wss =
+pub bulk_untouched : (wss : List (List ℕ)) → bulk_of (changes_from wss 0 untouched) ≡ no_bulk
+bulk_untouched wss =
     let none : List Change = changes_from wss 0 untouched in
     let plain : changes_size false none ≡ 0 = size_is false none ∙ none_weigh (size_by false) wss in
     let wide : changes_size true none ≡ 0 = size_is true none ∙ none_weigh (size_by true) wss in
     let texts : text_count none ≡ 0 = texts_are none ∙ none_weigh text_by wss in
-    ap (λ n. let y : Tally = record { plain = n; wide = changes_size true none; texts = text_count none } in y) plain
-    ∙ ap (λ n. let y : Tally = record { plain = 0; wide = n; texts = text_count none } in y) wide
-    ∙ ap (λ n. let y : Tally = record { plain = 0; wide = 0; texts = n } in y) texts
+    ap (λ n. let y : Bulk = record { plain = n; wide = changes_size true none; texts = text_count none } in y) plain
+    ∙ ap (λ n. let y : Bulk = record { plain = 0; wide = n; texts = text_count none } in y) wide
+    ∙ ap (λ n. let y : Bulk = record { plain = 0; wide = 0; texts = n } in y) texts
 
 pub short_untouched : (second : Option VersionPlace) (wss : List (List ℕ)) → commit_size second (changes_from wss 0 untouched) ≤ most_entry
 short_untouched second wss =
@@ -418,17 +411,17 @@ short_untouched second wss =
     let few = second_most second in
     omega (arith, none, few)
 
--- the tally of a merge
-pub tally_merged : (wss : List (List ℕ)) (cs : List Change) → list_all (λ c. nat_lt c.relation 8) cs ≡ true → keys_differ cs ≡ true → tally_of (map (with_own wss) cs) ≡ tally_of (changes_from wss 0 (touched_by untouched cs))
-tally_merged wss cs w d =
+-- the bulk of a merge
+pub bulk_merged : (wss : List (List ℕ)) (cs : List Change) → list_all (λ c. nat_lt c.relation 8) cs ≡ true → keys_differ cs ≡ true → bulk_of (map (with_own wss) cs) ≡ bulk_of (changes_from wss 0 (touched_by untouched cs))
+bulk_merged wss cs w d =
     let own : List Change = map (with_own wss) cs in
     let all : List Change = changes_from wss 0 (touched_by untouched cs) in
     let plain : changes_size false own ≡ changes_size false all = size_is false own ∙ same (size_by false) ∙ sym (size_is false all) in
     let wide : changes_size true own ≡ changes_size true all = size_is true own ∙ same (size_by true) ∙ sym (size_is true all) in
     let texts : text_count own ≡ text_count all = texts_are own ∙ same text_by ∙ sym (texts_are all) in
-    ap (λ n. let y : Tally = record { plain = n; wide = changes_size true own; texts = text_count own } in y) plain
-    ∙ ap (λ n. let y : Tally = record { plain = changes_size false all; wide = n; texts = text_count own } in y) wide
-    ∙ ap (λ n. let y : Tally = record { plain = changes_size false all; wide = changes_size true all; texts = n } in y) texts
+    ap (λ n. let y : Bulk = record { plain = n; wide = changes_size true own; texts = text_count own } in y) plain
+    ∙ ap (λ n. let y : Bulk = record { plain = changes_size false all; wide = n; texts = text_count own } in y) wide
+    ∙ ap (λ n. let y : Bulk = record { plain = changes_size false all; wide = changes_size true all; texts = n } in y) texts
   where
     same : (h : Option (List ℕ) → ℕ) → weigh h (map (with_own wss) cs) ≡ weigh h (changes_from wss 0 (touched_by untouched cs))
     same h =
@@ -438,21 +431,21 @@ tally_merged wss cs w d =
 
 -- ---- one change more
 
--- with one change more the tally has what it has
-pub record AddsNext (t u : Tally) (wss : List (List ℕ)) (cs : List Change) (i : ℕ) : Type 0 where
+-- with one change more the bulk has what it has
+pub record AddsNext (t u : Bulk) (wss : List (List ℕ)) (cs : List Change) (i : ℕ) : Type 0 where
   pub plain : u.plain + changes_size false (map (with_own wss) (drop (i + 1) cs)) ≡ t.plain + changes_size false (map (with_own wss) (drop i cs))
   pub wide : u.wide + changes_size true (map (with_own wss) (drop (i + 1) cs)) ≡ t.wide + changes_size true (map (with_own wss) (drop i cs))
   pub texts : u.texts + text_count (map (with_own wss) (drop (i + 1) cs)) ≡ t.texts + text_count (map (with_own wss) (drop i cs))
 
-pub next_tally : (t none u : Tally) (ws : Option (List ℕ)) (wss : List (List ℕ)) (cs : List Change) (i : ℕ) → i < length cs → none ≡ no_tally → u ≡ exchanged t none (weight ws) → ws ≡ widths_if (own_widths wss (change_here cs i).relation) (change_here cs i).fields → AddsNext t u wss cs i
-next_tally t none u ws wss cs i h zeros is own =
+pub next_bulk : (t none u : Bulk) (ws : Option (List ℕ)) (wss : List (List ℕ)) (cs : List Change) (i : ℕ) → i < length cs → none ≡ no_bulk → u ≡ exchanged t none (weight ws) → ws ≡ widths_if (own_widths wss (change_here cs i).relation) (change_here cs i).fields → AddsNext t u wss cs i
+next_bulk t none u ws wss cs i h zeros is own =
     let one : Change = with_own wss (change_here cs i) in
-    let sum : u ≡ exchanged t no_tally (weight one.widths) = is ∙ ap (λ (x : Tally). exchanged t x (weight ws)) zeros ∙ ap (λ (x : Option (List ℕ)). exchanged t no_tally (weight x)) own in
+    let sum : u ≡ exchanged t no_bulk (weight one.widths) = is ∙ ap (λ (x : Bulk). exchanged t x (weight ws)) zeros ∙ ap (λ (x : Option (List ℕ)). exchanged t no_bulk (weight x)) own in
     let next : drop i cs ≡ change_here cs i ∷ drop (i + 1) cs = next_change cs i h in
     record {
-      plain = omega (arith, ap (λ (x : Tally). x.plain) sum, ap (λ (ds : List Change). changes_size false (map (with_own wss) ds)) next);
-      wide = omega (arith, ap (λ (x : Tally). x.wide) sum, ap (λ (ds : List Change). changes_size true (map (with_own wss) ds)) next);
-      texts = omega (arith, ap (λ (x : Tally). x.texts) sum, ap (λ (ds : List Change). text_count (map (with_own wss) ds)) next);
+      plain = omega (arith, ap (λ (x : Bulk). x.plain) sum, ap (λ (ds : List Change). changes_size false (map (with_own wss) ds)) next);
+      wide = omega (arith, ap (λ (x : Bulk). x.wide) sum, ap (λ (ds : List Change). changes_size true (map (with_own wss) ds)) next);
+      texts = omega (arith, ap (λ (x : Bulk). x.texts) sum, ap (λ (ds : List Change). text_count (map (with_own wss) ds)) next);
     }
 
 -- ---- changes that fit
@@ -490,7 +483,7 @@ fit_within schema (c ∷ cs) few fit =
 pub merged_size : (schema : List Relation) (second : Option VersionPlace) (cs : List Change) → length schema ≤ 8 → list_all (change_fits schema) cs ≡ true → keys_differ cs ≡ true
     → commit_size second (changes_from (all_widths schema) 0 (touched_by untouched cs)) ≡ commit_size second cs
 merged_size schema second cs few fit differ =
-    commit_tallied second (changes_from (all_widths schema) 0 (touched_by untouched cs))
-    ∙ ap (λ (t : Tally). 9 + second_size second + size_in t)
-    (sym (tally_merged (all_widths schema) cs (fit_within schema cs few fit) differ) ∙ ap tally_of (all_own schema cs few fit))
-    ∙ sym (commit_tallied second cs)
+    commit_bulk second (changes_from (all_widths schema) 0 (touched_by untouched cs))
+    ∙ ap (λ (t : Bulk). 9 + second_size second + size_in t)
+    (sym (bulk_merged (all_widths schema) cs (fit_within schema cs few fit) differ) ∙ ap bulk_of (all_own schema cs few fit))
+    ∙ sym (commit_bulk second cs)

@@ -1,5 +1,5 @@
 //! The widths of all relations, and how many bytes their rows may take.
-ghost use Rattle.std.specs.Prelude.{[], ◌∷◌, ◌≡◌, ◌<◌, ◌^◌, IfOk};
+ghost use Rattle.std.specs.Prelude.{[], ◌∷◌, ◌≡◌, IfOk};
 ghost use Rattle.db_store.specs.RowWidths.{widths_or, all_widths, most_of, most_from};
 
 use db_value::row_form::size_of_row;
@@ -48,8 +48,7 @@ fn most_of(widths: &Widths) -> u16
 
 /// The most bytes that the fields of a row take in any relation, or those that one number takes.
 pub fn most_in(all: &[Widths]) -> u16
-    ensures most { result ≡ most_from 10 all.now }
-    ensures few { result < 2 ^ 16 }
+    ensures { result ≡ most_from 10 all.now }
 {
     let mut most = 10;
     for widths in all {

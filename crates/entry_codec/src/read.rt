@@ -11,7 +11,7 @@ ghost use Rattle.entry_codec.specs.Pushed.{Pushes, PushesForm};
 
 use crate::wide_read::{first_widths, take_wide};
 use crate::write::any_text;
-use db_store::tally::size_of_second;
+use db_store::bulk::size_of_second;
 use db_value::{Changes, Entry, Fields, Name, Record, VersionPlace, Widths};
 use std::alloc::{AllocError, Global};
 use thiserror::Error;

@@ -11,7 +11,7 @@ ghost use Rattle.entry_codec.specs.Laws.{AreValuesIfAny, AreRanged, HasRanges};
 ghost use Rattle.db_value.specs.declared.entry.Entry.TheVariants.{Commit, Branch};
 
 use crate::wide_write::{push_row, push_wide};
-use db_store::tally::any_of_texts;
+use db_store::bulk::any_of_texts;
 use db_value::{Changes, Entry, Fields, ListOf, Name, Record, VersionPlace, Widths};
 use std::alloc::{AllocError, Global};
 

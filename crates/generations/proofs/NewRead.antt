@@ -145,7 +145,7 @@ rooms : (rs : List Relation) → AreGood rs → (i : ℕ) → 0 < capacity (widt
 rooms [] good zero = omega arith
 rooms [] good (suc i) = omega arith
 rooms (r ∷ rs) good zero = capacity_some (map (λ (c : Column). c.width) r.columns) (columns_widths r good.0)
-rooms (r ∷ rs) good (suc i) = rooms rs good.3 i
+rooms (r ∷ rs) good (suc i) = rooms rs good.2 i
 
 segments_there : (rs left : List Relation) (seen : List (List SegmentPart)) → ((i : ℕ) → 0 < capacity (widths_at rs i)) → repeat (next_segments rs lasts) (length left) seen (segments_bytes left) ≡ Ok (seen ++ new_segments left, [])
 unfolding repeat

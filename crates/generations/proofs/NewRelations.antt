@@ -1,5 +1,5 @@
 -- The relations of a new dataset's image are read as they are.
-use Rattle.std.proofs.Common.{◌≡◌, ℕ, suc, ◌+◌, ◌-◌, ◌≤◌, ◌==◌, ◌&&◌, ◌||◌, not, nat_lt, nat_le, cond, Bool, true, false, List, [], ◌∷◌, ◌++◌, length, map, take, drop, Result, Ok, Err, refl, sym, ◌∙◌, ap, arith, append_assoc, length-append}
+use Rattle.std.proofs.Common.{◌≡◌, ℕ, suc, ◌+◌, ◌-◌, ◌≤◌, ◌&&◌, ◌||◌, not, nat_lt, nat_le, cond, Bool, true, false, List, [], ◌∷◌, ◌++◌, length, map, take, drop, Result, Ok, Err, refl, sym, ◌∙◌, ap, arith, append_assoc, length-append}
 use Rattle.std.proofs.lemmas.Bool.{and_from, and_parts, or_parts}
 use Rattle.std.proofs.lemmas.List.{take_at, drop_at, append-nil}
 use Rattle.std.specs.List.{list_any, list_all}
@@ -13,7 +13,7 @@ use Rattle.db_value.specs.declared.schema.Relation.{Relation}
 use Rattle.image_text.specs.declared.image.Format.TheVariants.{Two}
 use Rattle.image_text.specs.Reading.{◌>>=◌, Read, test, enough, repeat, byte_at, number_at, name_at, width_at, has_column, next_column, next_relation, relations_at}
 use Rattle.new_image.specs.Image.{name_bytes, column_bytes, columns_bytes, relation_bytes, relations_bytes, are_distinct, are_apart, names_of}
-use Rattle.new_image.specs.Schemas.{AreNames, AreNamed, IsSchema, has_numbers}
+use Rattle.new_image.specs.Schemas.{AreNames, AreNamed, IsSchema}
 
 -- ---- one step
 
@@ -108,25 +108,25 @@ fresh_columns seen (c ∷ cs) are distinct =
     let parts = and_parts (not (list_any (same c.name) (names_in cs))) (are_distinct (names_in cs)) distinct in
     (are.0, fresh_columns (seen ++ c ∷ []) cs (others_more seen cs c are.1 (not_true (list_any (same c.name) (names_in cs)) parts.0)) parts.1)
 
-width_there : (w : ℕ) (rest : List ℕ) → (w == 0) ≡ true → width_at Two (w ∷ rest) ≡ Ok (w, rest)
+width_there : (w : ℕ) (rest : List ℕ) → is_width w ≡ true → width_at Two (w ∷ rest) ≡ Ok (w, rest)
 unfolding width_at
-width_there w rest is = then_test (w == 0) (w ∷ rest) (λ u. Ok (w, rest)) is
+width_there w rest is = then_test (is_width w) (w ∷ rest) (λ u. Ok (w, rest)) is
 
-column_there : (seen : List Column) (c : Column) (rest : List ℕ) → is_name c.name ≡ true → (c.width == 0) ≡ true → has_column seen c.name ≡ false → next_column Two seen (column_bytes c ++ rest) ≡ Ok (seen ++ c ∷ [], rest)
+column_there : (seen : List Column) (c : Column) (rest : List ℕ) → is_name c.name ≡ true → is_width c.width ≡ true → has_column seen c.name ≡ false → next_column Two seen (column_bytes c ++ rest) ≡ Ok (seen ++ c ∷ [], rest)
 unfolding next_column
-column_there seen c rest named number fresh =
+column_there seen c rest named wide fresh =
     let b1 = c.width ∷ rest in
     let b = name_bytes c.name ++ b1 in
     ap (λ (l : List ℕ). next_column Two seen l) (append_assoc (name_bytes c.name) (c.width ∷ []) rest)
     ∙ step (name_at b) (c.name, b1) (λ n. test (not (has_column seen n.0)) b >>= λ u. width_at Two n.1 >>= λ w. Ok (seen ++ record { name = n.0; width = w.0 } ∷ [], w.1)) (name_there c.name b1 named)
     ∙ then_test (not (has_column seen c.name)) b (λ u. width_at Two b1 >>= λ w. Ok (seen ++ record { name = c.name; width = w.0 } ∷ [], w.1)) (ap not fresh)
-    ∙ step (width_at Two b1) (c.width, rest) (λ w. Ok (seen ++ record { name = c.name; width = w.0 } ∷ [], w.1)) (width_there c.width rest number)
+    ∙ step (width_at Two b1) (c.width, rest) (λ w. Ok (seen ++ record { name = c.name; width = w.0 } ∷ [], w.1)) (width_there c.width rest wide)
 
-columns_there : (seen cs : List Column) (rest : List ℕ) → AreNames (names_in cs) → list_all (λ (c : Column). c.width == 0) cs ≡ true → AreFresh seen cs → repeat (next_column Two) (length cs) seen (columns_bytes cs ++ rest) ≡ Ok (seen ++ cs, rest)
+columns_there : (seen cs : List Column) (rest : List ℕ) → AreNames (names_in cs) → list_all (λ (c : Column). is_width c.width) cs ≡ true → AreFresh seen cs → repeat (next_column Two) (length cs) seen (columns_bytes cs ++ rest) ≡ Ok (seen ++ cs, rest)
 unfolding repeat
-columns_there seen [] rest are numbers fresh = ap (λ (l : List Column). Ok (l, rest)) (sym (append-nil seen))
-columns_there seen (c ∷ cs) rest are numbers fresh =
-    let parts = and_parts (c.width == 0) (list_all (λ (x : Column). x.width == 0) cs) numbers in
+columns_there seen [] rest are wide fresh = ap (λ (l : List Column). Ok (l, rest)) (sym (append-nil seen))
+columns_there seen (c ∷ cs) rest are wide fresh =
+    let parts = and_parts (is_width c.width) (list_all (λ (x : Column). is_width x.width) cs) wide in
     let more = columns_bytes cs ++ rest in
     let go : (List Column × List ℕ) → Read (List Column) = λ (x : List Column × List ℕ). repeat (next_column Two) (length cs) x.0 x.1 in
     ap (λ (l : List ℕ). repeat (next_column Two) (suc (length cs)) seen l) (append_assoc (column_bytes c) (columns_bytes cs) rest)
@@ -160,18 +160,20 @@ fresh_relations seen (r ∷ rs) are apart =
     let parts = and_parts (not (list_any (λ (s : Relation). same r.name s.name) rs)) (are_apart rs) apart in
     (are.0, fresh_relations (seen ++ r ∷ []) rs (others_more_relations seen rs r are.1 (not_true (list_any (λ (s : Relation). same r.name s.name) rs) parts.0)) parts.1)
 
--- one to 15
-some_and_few : (r : Relation) → has_columns r ≡ true → (nat_lt 0 (length r.columns) && nat_le (length r.columns) 15) ≡ true
+-- one to 15, each with a width
+some_and_few : (r : Relation) → has_columns r ≡ true → ((nat_lt 0 (length r.columns) && nat_le (length r.columns) 15) ≡ true) × (list_all (λ (c : Column). is_width c.width) r.columns ≡ true)
 some_and_few r is =
     let k = length r.columns in
     let widths = list_all (λ (c : Column). is_width c.width) r.columns in
     let some = and_parts (nat_lt 0 k) (nat_le k 15 && widths) is in
-    and_from (nat_lt 0 k) (nat_le k 15) some.0 (and_parts (nat_le k 15) widths some.1).0
+    let few = and_parts (nat_le k 15) widths some.1 in
+    (and_from (nat_lt 0 k) (nat_le k 15) some.0 few.0, few.1)
 
-relation_there : (seen : List Relation) (r : Relation) (rest : List ℕ) → is_name r.name ≡ true → AreNames (names_of r) → is_declared seen r.name ≡ false → has_columns r ≡ true → are_distinct (names_of r) ≡ true → has_numbers r ≡ true
+relation_there : (seen : List Relation) (r : Relation) (rest : List ℕ) → is_name r.name ≡ true → AreNames (names_of r) → is_declared seen r.name ≡ false → has_columns r ≡ true → are_distinct (names_of r) ≡ true
     → next_relation Two seen (relation_bytes r ++ rest) ≡ Ok (seen ++ r ∷ [], rest)
 unfolding next_relation
-relation_there seen r rest named are fresh counted distinct numbers =
+relation_there seen r rest named are fresh counted distinct =
+    let count = some_and_few r counted in
     let k = length r.columns in
     let b2 = columns_bytes r.columns ++ rest in
     let b1 = k ∷ b2 in
@@ -180,12 +182,12 @@ relation_there seen r rest named are fresh counted distinct numbers =
     ap (λ (l : List ℕ). next_relation Two seen l) (append_assoc (name_bytes r.name) (k ∷ columns_bytes r.columns) rest)
     ∙ step (name_at b) (r.name, b1) (λ name. test (not (is_declared seen name.0)) b >>= λ u. byte_at name.1 >>= λ n. test (nat_lt 0 n.0 && nat_le n.0 15) name.1 >>= λ v. repeat (next_column Two) n.0 [] n.1 >>= λ columns. Ok (seen ++ record { name = name.0; columns = columns.0 } ∷ [], columns.1)) (name_there r.name b1 named)
     ∙ then_test (not (is_declared seen r.name)) b (λ u. byte_at b1 >>= λ n. test (nat_lt 0 n.0 && nat_le n.0 15) b1 >>= λ v. repeat (next_column Two) n.0 [] n.1 >>= made) (ap not fresh)
-    ∙ then_test (nat_lt 0 k && nat_le k 15) b1 (λ v. repeat (next_column Two) k [] b2 >>= made) (some_and_few r counted)
-    ∙ step (repeat (next_column Two) k [] b2) (r.columns, rest) made (columns_there [] r.columns rest are numbers (fresh_columns [] r.columns (others_none r.columns) distinct))
+    ∙ then_test (nat_lt 0 k && nat_le k 15) b1 (λ v. repeat (next_column Two) k [] b2 >>= made) count.0
+    ∙ step (repeat (next_column Two) k [] b2) (r.columns, rest) made (columns_there [] r.columns rest are count.1 (fresh_columns [] r.columns (others_none r.columns) distinct))
 
 abbrev pub AreGood : List Relation → Type 0
 AreGood [] = Unit {0}
-AreGood (r ∷ rs) = (has_columns r ≡ true) × (are_distinct (names_of r) ≡ true) × (has_numbers r ≡ true) × AreGood rs
+AreGood (r ∷ rs) = (has_columns r ≡ true) × (are_distinct (names_of r) ≡ true) × AreGood rs
 
 relations_there : (seen rs : List Relation) (rest : List ℕ) → AreNamed rs → AreGood rs → AreFreshRelations seen rs → repeat (next_relation Two) (length rs) seen (relations_bytes rs ++ rest) ≡ Ok (seen ++ rs, rest)
 unfolding repeat
@@ -194,17 +196,16 @@ relations_there seen (r ∷ rs) rest named good fresh =
     let more = relations_bytes rs ++ rest in
     let go : (List Relation × List ℕ) → Read (List Relation) = λ (x : List Relation × List ℕ). repeat (next_relation Two) (length rs) x.0 x.1 in
     ap (λ (l : List ℕ). repeat (next_relation Two) (suc (length rs)) seen l) (append_assoc (relation_bytes r) (relations_bytes rs) rest)
-    ∙ step (next_relation Two seen (relation_bytes r ++ more)) (seen ++ r ∷ [], more) go (relation_there seen r more named.0 named.1 fresh.0 good.0 good.1 good.2)
-    ∙ relations_there (seen ++ r ∷ []) rs rest named.2 good.3 fresh.1
+    ∙ step (next_relation Two seen (relation_bytes r ++ more)) (seen ++ r ∷ [], more) go (relation_there seen r more named.0 named.1 fresh.0 good.0 good.1)
+    ∙ relations_there (seen ++ r ∷ []) rs rest named.2 good.2 fresh.1
     ∙ ap (λ (l : List Relation). Ok (l, rest)) (append_assoc seen (r ∷ []) rs)
 
-all_good : (rs : List Relation) → list_all has_columns rs ≡ true → list_all (λ (r : Relation). are_distinct (names_of r)) rs ≡ true → list_all has_numbers rs ≡ true → AreGood rs
-all_good [] counted distinct numbers = tt
-all_good (r ∷ rs) counted distinct numbers =
+all_good : (rs : List Relation) → list_all has_columns rs ≡ true → list_all (λ (r : Relation). are_distinct (names_of r)) rs ≡ true → AreGood rs
+all_good [] counted distinct = tt
+all_good (r ∷ rs) counted distinct =
     let a = and_parts (has_columns r) (list_all has_columns rs) counted in
     let b = and_parts (are_distinct (names_of r)) (list_all (λ (x : Relation). are_distinct (names_of x)) rs) distinct in
-    let n = and_parts (has_numbers r) (list_all has_numbers rs) numbers in
-    (a.0, b.0, n.0, all_good rs a.1 b.1 n.1)
+    (a.0, b.0, all_good rs a.1 b.1)
 
 pub record IsGoodSchema (rs : List Relation) : Type 0 where
   pub counted : (nat_lt 0 (length rs) && nat_le (length rs) 8) ≡ true
@@ -223,7 +224,7 @@ good_schema rs is =
     let parts = and_parts (nat_lt 0 (length rs) && nat_le (length rs) 8 && list_all has_columns rs) (are_apart rs && list_all (λ (r : Relation). are_distinct (names_of r)) rs) is.counted in
     let count = three_parts (nat_lt 0 (length rs)) (nat_le (length rs) 8) (list_all has_columns rs) parts.0 in
     let others = and_parts (are_apart rs) (list_all (λ (r : Relation). are_distinct (names_of r)) rs) parts.1 in
-    record { counted = count.0; good = all_good rs count.1 others.1 is.numbers; fresh = fresh_relations [] rs (others_none_relations rs) others.0; named = is.named }
+    record { counted = count.0; good = all_good rs count.1 others.1; fresh = fresh_relations [] rs (others_none_relations rs) others.0; named = is.named }
 
 pub relations_read : (rs : List Relation) (rest : List ℕ) → IsGoodSchema rs → relations_at Two (length rs ∷ (relations_bytes rs ++ rest)) ≡ Ok (rs, rest)
 unfolding relations_at

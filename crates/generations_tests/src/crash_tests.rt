@@ -1,18 +1,13 @@
 //! A crash at each call of making a dataset, of appends and of checkpoints, and after calls that
 //! failed. What is left was worked out by hand.
 use crate::asserts::{holds, holds_at_calls};
-use crate::files::{BOTH, ONE, TWO, batch_of, created, file_to, opened_old, stored};
+use crate::files::{BOTH, ONE, TWO, Told, batch_of, created, file_to, stored, told_of};
 use db_memdev::{Fill, MemDisk};
-use db_store::Store;
 use entry_codec::Log;
 use generations::{Dataset, DatasetStore, OpenStop, Pair, reopen};
 use std::alloc::Global;
 use std::process::Abort;
 use std::test::Fail;
-
-/// What opening tells: the generation, the file that counts, the place of its first closed gate, how
-/// many entries were read, and the last version of master.
-type Told = (u64, u8, u64, u64, u32);
 
 /// A call of the log.
 enum Call {
@@ -290,16 +285,6 @@ fn ran(alloc: Global, run: &Run) -> Option<Pair<MemDisk>> {
     None
 }
 
-fn told_of(dataset: &Dataset<MemDisk>, store: &DatasetStore) -> Told {
-    (
-        dataset.generation(),
-        dataset.counted(),
-        dataset.place(),
-        dataset.entries_read(),
-        store.last(0),
-    )
-}
-
 // Is this what a crash leaves, if pending ranges are filled so?
 fn leaves(
     alloc: Global,
@@ -375,27 +360,5 @@ fn writes_a_file_by_hand(rt: HostRuntime) -> Result<(), Fail> {
     let disk = written(rt.alloc()).ok_or("no file")?;
     let file = file_to(rt.alloc(), 272).ok_or("no bytes")?;
     holds(&rt, "the bytes", disk.bytes() == file.as_slice());
-    Ok(())
-}
-
-// What is told of the files once an image was written beside the file in the first format, and whether
-// that file stayed and the new one is in the second format.
-fn renewed(alloc: Global) -> Option<(Told, bool)> {
-    let (mut dataset, store) = opened_old(alloc)?;
-    if told_of(&dataset, &store) != (1, 0, 197, 1, 1) || dataset.checkpoint(&store).is_err() {
-        return None;
-    }
-    let disks = dataset.into_disks();
-    let stays = disks.first.bytes().get(..9) == Some(b"\x01DECIBEL1")
-        && disks.second.bytes().get(..9) == Some(b"\x01DECIBEL2");
-    let (dataset, store) = reopen(alloc, disks).ok()?;
-    Some((told_of(&dataset, &store), stays))
-}
-
-#[test]
-fn reads_the_first_format_and_writes_the_second(rt: HostRuntime) -> Result<(), Fail> {
-    let (told, stays) = renewed(rt.alloc()).ok_or("no files")?;
-    holds(&rt, "what is told", Some(told) == AT_ONE);
-    holds(&rt, "the formats", stays);
     Ok(())
 }

@@ -4,9 +4,14 @@ ghost use Rattle.std.specs.Prelude.{◌≡◌, [], IfSome};
 
 use db_memdev::MemDisk;
 use db_outside::Batch;
+use db_store::Store;
 use db_value::Schema;
-use generations::{Dataset, DatasetStore, Pair, create, reopen};
+use generations::{Dataset, DatasetStore, OpenStop, Pair, create, reopen};
 use std::alloc::{AllocError, Global};
+
+/// What opening tells: the generation, the file that counts, the place of its first closed gate, how
+/// many entries were read, and the last version of master.
+pub type Told = (u64, u8, u64, u64, u32);
 
 /// The entry that puts the record with key 1 and the values 1, 1 into relation 0, on branch 0.
 pub const ONE: [u8; 36] = [
@@ -67,7 +72,29 @@ const OLD: [u8; 198] = [
     0,
 ];
 
-/// That file with the records in front of a place, and a closed gate there.
+/// The entry that puts the record with key 1, the text "ab" and the value 5 into relation 0, which has a
+/// column of texts of width 8, on branch 0.
+#[rattlefmt::skip]
+pub const TAG: [u8; 38] = [
+    3, 0, 0, 0, 0, 0, 1, 0, 0, 0, 0, 2, 1, 0, 0, 0, 0, 0, 0, 0, 8, 97, 98, 0, 0, 0, 0, 0, 0, 0, 5, 0, 0, 0, 0, 0, 0, 0,
+];
+
+/// The file of the dataset with the relation `tags name:8 n` and this entry.
+#[rattlefmt::skip]
+pub const TAGS: [u8; 204] = [
+    1, 68, 69, 67, 73, 66, 69, 76, 50, 1, 0, 0, 0, 0, 0, 0, 0, 71, 0, 0, 0, 0, 0, 0, 0,
+    91, 207, 253, 186, 146, 86, 34, 69, 116, 46, 148, 186, 190, 119, 88, 12,
+    55, 208, 196, 111, 80, 167, 45, 120, 108, 175, 17, 14, 53, 134, 184, 222,
+    1, 4, 116, 97, 103, 115, 2, 4, 110, 97, 109, 101, 8, 1, 110, 0, 1, 0, 0, 0, 6, 109, 97, 115, 116, 101, 114, 0, 0, 0, 0, 0, 0, 0, 0, 0, 0, 0, 0,
+    1, 0, 0, 0, 1, 0, 0, 0, 0, 0, 0, 0, 1, 0, 0, 0, 0, 0, 0, 0, 0, 0, 0, 0, 0, 0, 0, 0, 0, 0, 0, 0,
+    1, 38, 0, 0, 0,
+    118, 174, 172, 20, 12, 139, 206, 249, 179, 172, 25, 52, 219, 211, 109, 224,
+    51, 212, 106, 34, 76, 185, 15, 21, 108, 192, 161, 183, 113, 244, 14, 7,
+    3, 0, 0, 0, 0, 0, 1, 0, 0, 0, 0, 2, 1, 0, 0, 0, 0, 0, 0, 0, 8, 97, 98, 0, 0, 0, 0, 0, 0, 0, 5, 0, 0, 0, 0, 0, 0, 0,
+    0,
+];
+
+/// The file of `items a b` with the records in front of a place, and a closed gate there.
 pub fn file_to(alloc: Global, place: usize) -> Option<Vec<u8>> {
     let mut bytes = FILE.get(..place)?.to_vec(alloc).ok()?;
     bytes.push(0).ok()?;
@@ -102,9 +129,14 @@ fn disks_of(
     Ok(Pair { first, second })
 }
 
-/// The new dataset with the relation `items a b`, on disks that fail at these calls.
-pub fn created(alloc: Global, first: &[u64], second: &[u64]) -> Option<Dataset<MemDisk>> {
-    let Ok((schema, _)) = Schema::read(alloc, b"relation items a b\nend\n") else {
+/// The new dataset of a schema, on disks that fail at these calls.
+pub fn created_by(
+    alloc: Global,
+    schema: &[u8],
+    first: &[u64],
+    second: &[u64],
+) -> Option<Dataset<MemDisk>> {
+    let Ok((schema, _)) = Schema::read(alloc, schema) else {
         return None;
     };
     let disks = disks_of(alloc, b"", first, second).ok()?;
@@ -114,10 +146,26 @@ pub fn created(alloc: Global, first: &[u64], second: &[u64]) -> Option<Dataset<M
     }
 }
 
+/// The new dataset with the relation `items a b`, on disks that fail at these calls.
+pub fn created(alloc: Global, first: &[u64], second: &[u64]) -> Option<Dataset<MemDisk>> {
+    created_by(alloc, b"relation items a b\nend\n", first, second)
+}
+
 /// The dataset of the file in the first format, and its store.
 pub fn opened_old(alloc: Global) -> Option<(Dataset<MemDisk>, DatasetStore)> {
     let disks = disks_of(alloc, &OLD, &[], &[]).ok()?;
     reopen(alloc, disks).ok()
+}
+
+/// Why that file isn't opened under the name of the second format, if it isn't.
+pub fn renamed_stop(alloc: Global) -> Option<OpenStop> {
+    let mut bytes = OLD;
+    bytes[8] = b'2';
+    let disks = disks_of(alloc, &bytes, &[], &[]).ok()?;
+    match reopen(alloc, disks) {
+        Ok(_) => None,
+        Err((stop, _)) => Some(stop),
+    }
 }
 
 /// The store of the file with the records in front of a place.
@@ -128,4 +176,15 @@ pub fn stored(alloc: Global, place: usize) -> Option<DatasetStore> {
         Ok((_, store)) => Some(store),
         Err(_) => None,
     }
+}
+
+/// What opening told of a dataset.
+pub fn told_of(dataset: &Dataset<MemDisk>, store: &DatasetStore) -> Told {
+    (
+        dataset.generation(),
+        dataset.counted(),
+        dataset.place(),
+        dataset.entries_read(),
+        store.last(0),
+    )
 }

@@ -13,3 +13,5 @@ mod db_outside_tests;
 mod db_realdev_tests;
 #[cfg(test)]
 mod files;
+#[cfg(test)]
+mod format_tests;

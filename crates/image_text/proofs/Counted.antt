@@ -1,9 +1,8 @@
 -- The relations that are read are one to 8, each with one to 15 columns of widths.
 use Rattle.std.proofs.Common.{◌≡◌, ℕ, zero, suc, ◌+◌, ◌<◌, ◌≤◌, Bool, true, false, ◌&&◌, not, List, [], ◌∷◌, ◌++◌, length, get_or, Ok, refl, sym, ap, subst, ◌∙◌, arith}
-use Rattle.std.specs.Prelude.{nat_lt, nat_le, ◌==◌}
+use Rattle.std.specs.Prelude.{nat_lt, nat_le}
 use Rattle.std.specs.List.{list_all}
 use Rattle.std.proofs.lemmas.List.{length-append}
-use Rattle.std.proofs.lemmas.Bool.{eqb-true}
 use Rattle.db_value.specs.Schema.{is_declared}
 use Rattle.db_value.specs.Width.{is_width}
 use Rattle.db_value.specs.Relations.{has_columns, is_counted}
@@ -32,14 +31,14 @@ pub both_true : (a b : Bool) → (a && b) ≡ true → (a ≡ true) × (b ≡ tr
 both_true true b e = (refl, e)
 both_true false b e = absurd cc
 
--- a width that is read is 0
-pub width_known : (format : Format) (b : List ℕ) (x : ℕ × List ℕ) → width_at format b ≡ Ok x → x.0 ≡ 0
+-- a width that is read is one
+pub width_known : (format : Format) (b : List ℕ) (x : ℕ × List ℕ) → width_at format b ≡ Ok x → is_width x.0 ≡ true
 unfolding width_at
-width_known One b x e = sym (ap (λ p. p.0) (ok_is (0, b) x e))
+width_known One b x e = ap is_width (sym (ap (λ p. p.0) (ok_is (0, b) x e)))
 width_known Two b x e =
-    let w = bind_ok (byte_at b) (λ w. test (w.0 == 0) b >>= λ u. Ok (w.0, w.1)) x e in
-    let u = bind_ok (test (w.0.0 == 0) b) (λ u. Ok (w.0.0, w.0.1)) x w.2 in
-    sym (ap (λ p. p.0) (ok_is (w.0.0, w.0.1) x u.2)) ∙ eqb-true w.0.0 0 (tested _ b u.0 u.1)
+    let w = bind_ok (byte_at b) (λ w. test (is_width w.0) b >>= λ u. Ok (w.0, w.1)) x e in
+    let u = bind_ok (test (is_width w.0.0) b) (λ u. Ok (w.0.0, w.0.1)) x w.2 in
+    ap is_width (sym (ap (λ p. p.0) (ok_is (w.0.0, w.0.1) x u.2))) ∙ tested _ b u.0 u.1
 
 -- one column more, of a width
 pub one_column : (format : Format) (s : List Column) (b : List ℕ) (x : List Column × List ℕ) → next_column format s b ≡ Ok x → (c : Column) × (x.0 ≡ s ++ c ∷ []) × (is_width c.width ≡ true)
@@ -49,7 +48,7 @@ one_column format s b x e =
     let u = bind_ok (test (not (has_column s n.0.0)) b) (λ u. width_at format n.0.1 >>= λ w. Ok (s ++ record { name = n.0.0; width = w.0 } ∷ [], w.1)) x n.2 in
     let w = bind_ok (width_at format n.0.1) (λ w. Ok (s ++ record { name = n.0.0; width = w.0 } ∷ [], w.1)) x u.2 in
     let h = ok_is (s ++ record { name = n.0.0; width = w.0.0 } ∷ [], w.0.1) x w.2 in
-    (record { name = n.0.0; width = w.0.0 }, sym (ap (λ p. p.0) h), ap is_width (width_known format n.0.1 w.0 w.1))
+    (record { name = n.0.0; width = w.0.0 }, sym (ap (λ p. p.0) h), width_known format n.0.1 w.0 w.1)
 
 adds_column : (format : Format) (s : List Column) (b : List ℕ) (x : List Column × List ℕ) → next_column format s b ≡ Ok x → length x.0 ≡ length s + 1
 adds_column format s b x e = let o = one_column format s b x e in ap length o.1 ∙ length-append s (o.0 ∷ [])

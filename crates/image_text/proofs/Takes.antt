@@ -145,8 +145,8 @@ pub width_takes : (format : Format) (b : List ℕ) (x : ℕ × List ℕ) → IsB
 unfolding width_at
 width_takes One b x fits e = subst (λ (y : ℕ × List ℕ). Takes b [] y.1) (ok_is (0, b) x e) (record { parts = refl; rest_fits = fits })
 width_takes Two b x fits e =
-    let w = bind_ok (byte_at b) (λ w. test (w.0 == 0) b >>= λ u. Ok (w.0, w.1)) x e in
-    let u = bind_ok (test (w.0.0 == 0) b) (λ u. Ok (w.0.0, w.0.1)) x w.2 in
+    let w = bind_ok (byte_at b) (λ w. test (is_width w.0) b >>= λ u. Ok (w.0, w.1)) x e in
+    let u = bind_ok (test (is_width w.0.0) b) (λ u. Ok (w.0.0, w.0.1)) x w.2 in
     subst (λ (y : ℕ × List ℕ). Takes b (y.0 ∷ []) y.1) (ok_is (w.0.0, w.0.1) x u.2) (byte_takes b w.0 fits w.1)
 
 pub next_column_takes : (format : Format) (s : List Column) (b : List ℕ) (x : List Column × List ℕ) → IsBytes b → next_column format s b ≡ Ok x → TakesOne IsShort (column_bytes format) s b x

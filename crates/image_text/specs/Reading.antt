@@ -5,6 +5,7 @@ use Rattle.std.specs.Int.{Width, w32, w64, byte_len, from_le_bytes}
 use Rattle.std.proofs.Common.{get_or}
 use Rattle.db_value.specs.Text.{same, is_name}
 use Rattle.db_value.specs.Schema.{is_declared}
+use Rattle.db_value.specs.Width.{is_width}
 use Rattle.db_value.specs.Relations.{widths_at}
 use Rattle.db_value.specs.declared.record.Record.{Record}
 use Rattle.db_value.specs.declared.schema.Column.{Column}
@@ -79,12 +80,12 @@ name_at bytes = do
   named ← test (is_name (take n.0 n.1)) bytes
   Ok (take n.0 n.1, drop n.0 n.1)
 
--- the width of a column: none stands in format one, and in format two a 0
+-- the width of a column: none stands in format one, whose columns are of numbers
 unfoldable pub width_at : Format → List ℕ → Read ℕ
 width_at One bytes = Ok (0, bytes)
 width_at Two bytes = do
   w ← byte_at bytes
-  number ← test (w.0 == 0) bytes
+  wide ← test (is_width w.0) bytes
   Ok (w.0, w.1)
 
 -- a column before has the name

@@ -5,6 +5,7 @@ ghost use Rattle.image_text.specs.Reading.{Gives, repeat, name_at, width_at, has
 
 use crate::image::{BranchPart, Format, Stop};
 use crate::numbers::Reader;
+use db_value::widths::MOST_WIDTH;
 use db_value::{Column, ListOf, Name, Relation, VersionPlace};
 use std::alloc::Global;
 
@@ -98,7 +99,7 @@ impl<'a> Reader<'a> {
         }
     }
 
-    // The width of a column. Columns of texts can't be made yet.
+    // The width of a column. Format one has none, since all of its columns are of numbers.
     #[tactic(auto, unfolding(crate::specs::Reading::width_at))]
     fn width(&mut self, format: Format) -> Result<u8, Stop>
         ensures { Gives (λ x. (x, self.new.rest.now)) result
@@ -109,7 +110,7 @@ impl<'a> Reader<'a> {
             Format::Two => {
                 let left = self.left();
                 let width = self.u8()?;
-                if width != 0 {
+                if width > MOST_WIDTH {
                     return Err(Stop::Fault(left));
                 }
                 Ok(width)

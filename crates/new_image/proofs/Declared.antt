@@ -189,7 +189,7 @@ relation_is (verb ∷ name ∷ columns) r is =
     let read = columns_some name (columns_from [] columns) r parts.1 in
     let made : List Column = read.0 in
     let are = columns_are columns [] made read.1 (record { names = tt; distinct = refl; widths = refl }) in
-    let long : length made ≡ length columns = are.1 in
+    let long : length made ≡ length columns = omega (arith, are.1) in
     subst IsGood read.2 (record {
       name = tests.0;
       columns = are.0.names;

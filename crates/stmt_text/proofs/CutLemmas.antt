@@ -63,14 +63,11 @@ parts_cut i inside bs e = let n : i - 0 ≡ i = omega arith in (cut_known 0 i in
 -- ---- parts, gathered
 
 -- one part more
-pub one_part : (done new : List (Bor (List ℕ))) (w : Bor (List ℕ)) (i : ℕ) (rest next : List ℕ) (all : List (List ℕ)) → new ≡ done ++ w ∷ [] → w.now ≡ take i rest → next ≡ drop (i + 1) rest → cut_from 0 false rest ≡ Some i → map (λ w. w.now) done ++ parts_of rest ≡ all
-    → map (λ w. w.now) new ++ parts_of next ≡ all
-one_part done new w i rest next all is front tail cut inv =
-    let one : w.now ∷ parts_of next ≡ parts_of rest = ap (λ (u : List ℕ). u ∷ parts_of next) front ∙ ap (λ (u : List ℕ). take i rest ∷ parts_of u) tail ∙ sym (parts_cut i false rest cut) in
-    rw (is, map-append, append_assoc) (ap (λ (us : List (List ℕ)). map (λ (v : Bor (List ℕ)). v.now) done ++ us) one ∙ inv)
+pub one_part : (done new : List (Bor (List ℕ))) (w : Bor (List ℕ)) (rest next : List ℕ) (all : List (List ℕ)) → new ≡ done ++ w ∷ [] → parts_of rest ≡ w.now ∷ parts_of next → map (λ w. w.now) done ++ parts_of rest ≡ all → map (λ w. w.now) new ++ parts_of next ≡ all
+one_part done new w rest next all is one inv = rw (is, map-append, append_assoc) (ap (λ (us : List (List ℕ)). map (λ (v : Bor (List ℕ)). v.now) done ++ us) (sym one) ∙ inv)
 
 -- and the last one
-pub last_part : (done new : List (Bor (List ℕ))) (w : Bor (List ℕ)) (rest : List ℕ) (all : List (List ℕ)) → new ≡ done ++ w ∷ [] → w.now ≡ rest → cut_from 0 false rest ≡ None → map (λ w. w.now) done ++ parts_of rest ≡ all → map (λ w. w.now) new ≡ all
-last_part done new w rest all is front none inv =
-    let one : w.now ∷ [] ≡ parts_of rest = ap (λ (u : List ℕ). u ∷ []) front ∙ sym (parts_none 0 false rest none) in
-    rw (is, map-append) (ap (λ (us : List (List ℕ)). map (λ (v : Bor (List ℕ)). v.now) done ++ us) one ∙ inv)
+pub last_part : (done new : List (Bor (List ℕ))) (w : Bor (List ℕ)) (rest : List ℕ) (all : List (List ℕ)) → new ≡ done ++ w ∷ [] → w.now ≡ rest → parts_of rest ≡ rest ∷ [] → map (λ w. w.now) done ++ parts_of rest ≡ all → map (λ w. w.now) new ≡ all
+last_part done new w rest all is front one inv =
+    let last : w.now ∷ [] ≡ parts_of rest = ap (λ (u : List ℕ). u ∷ []) front ∙ sym one in
+    rw (is, map-append) (ap (λ (us : List (List ℕ)). map (λ (v : Bor (List ℕ)). v.now) done ++ us) last ∙ inv)

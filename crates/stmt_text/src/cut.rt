@@ -1,5 +1,5 @@
 //! How a statement is cut into its parts.
-ghost use Rattle.std.specs.Prelude.{◌≡◌, ◌<◌, map, length, false, IfOk, IfSome};
+ghost use Rattle.std.specs.Prelude.{◌≡◌, ◌<◌, ◌∷◌, [], map, length, false, IfOk, IfSome, IfNone};
 ghost use Rattle.stmt_text.specs.Cut.{first_space, is_cut, is_inside, parts_of, cut_from};
 
 use std::alloc::{AllocError, Global};
@@ -42,6 +42,18 @@ fn cut_in(text: &[u8]) -> Option<usize>
     None
 }
 
+// What stands before the first space that stands in no text, and what stands behind it.
+fn first_part(text: &[u8]) -> Option<(&[u8], &[u8])>
+    ensures parts { IfSome result (λ p. parts_of text.now ≡ p.0.now ∷ parts_of p.1.now) }
+    ensures shorter { IfSome result (λ p. length p.1.now < length text.now) }
+    ensures whole { IfNone result (parts_of text.now ≡ text.now ∷ []) }
+{
+    match cut_in(text) {
+        None => None,
+        Some(at) => Some((&text[..at], &text[at + 1..])),
+    }
+}
+
 /// The parts of a statement. A space in a text belongs to it.
 #[tactic(auto, using(crate::proofs::CutLemmas::one_part, crate::proofs::CutLemmas::last_part))]
 pub fn parts_of(alloc: Global, text: &[u8]) -> Result<Vec<&[u8]>, AllocError>
@@ -49,9 +61,9 @@ pub fn parts_of(alloc: Global, text: &[u8]) -> Result<Vec<&[u8]>, AllocError>
 {
     let mut parts: Vec<&[u8]> = Vec::with_capacity(alloc, USUAL_PARTS)?;
     let mut rest = text;
-    while let Some(at) = cut_in(rest) {
-        parts.push(&rest[..at])?;
-        rest = &rest[at + 1..];
+    'cutting: while let Some((part, more)) = first_part(rest) {
+        parts.push(part)?;
+        rest = more;
     }
     parts.push(rest)?;
     Ok(parts)

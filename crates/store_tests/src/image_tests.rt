@@ -178,7 +178,34 @@ fn reads_two_formats(rt: HostRuntime) -> Result<(), Fail> {
         let store = read(alloc, bytes, format)?;
         holds(&rt, "its image", has_image(alloc, &store, &NEW)?);
     }
-    same(&rt, "a width of 1", fault_of(alloc, &OLD, Format::Two), 10);
+    same(
+        &rt,
+        "a length of 98",
+        fault_of(alloc, &OLD, Format::Two),
+        11,
+    );
     same(&rt, "a length of 0", fault_of(alloc, &NEW, Format::One), 10);
+    Ok(())
+}
+
+// The image in format two, where the first column has a width.
+fn with_width(width: u8) -> [u8; 69] {
+    let mut bytes = NEW;
+    bytes[10] = width;
+    bytes
+}
+
+#[test]
+fn reads_widths_to_64(rt: HostRuntime) -> Result<(), Fail> {
+    let alloc = rt.alloc();
+    let widest = with_width(64);
+    let store = read(alloc, &widest, Format::Two)?;
+    holds(&rt, "a width of 64", has_image(alloc, &store, &widest)?);
+    same(
+        &rt,
+        "a width of 65",
+        fault_of(alloc, &with_width(65), Format::Two),
+        10,
+    );
     Ok(())
 }

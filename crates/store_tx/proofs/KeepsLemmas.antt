@@ -531,7 +531,7 @@ none_is None e = refl
 none_is (Some why) e = absurd (true≢false e)
 
 both_there : (schema : List Relation) (left right : List ℕ) (terms : List Term) (o q : Option ℕ) → is_some (join_refusal schema left right terms o q) ≡ false
-    → (r : ℕ) × (t : ℕ) × (o ≡ Some r) × (q ≡ Some t) × (column_refusal (first_unknown (columns_at schema r) terms) ≡ None)
+    → (r : ℕ) × (t : ℕ) × (o ≡ Some r) × (q ≡ Some t) × (terms_refusal schema r terms ≡ None)
 both_there schema left right terms None q e = absurd (true≢false e)
 both_there schema left right terms (Some r) None e = absurd (true≢false e)
 both_there schema left right terms (Some r) (Some t) e = (r, t, refl, refl, none_is (terms_refusal schema r terms) e)

@@ -21,6 +21,7 @@ use Rattle.db_outside.specs.Device.{Rose}
 use Rattle.store_tx.specs.declared.stored.LogCall.TheVariants.{Nothing, Append, Save}
 use Rattle.store_tx.specs.Stored.{batch, image, all_grown, Has, GivesIn, GivesOwed, IsPendingOf, StoresAsked, Stores}
 use Rattle.entry_codec.proofs.Back.{size_is, all}
+use Rattle.entry_codec.proofs.Fitting.{met_fit}
 
 pub few_changes : (e : Entry) → IsEntry e → HasFewChanges e
 few_changes (Commit branch second cs) is = is.few
@@ -46,7 +47,7 @@ pub record IsBatch (s : State) (es : List Entry) (b : List ℕ) : Type 0 where
 pub one_batch : (s : State) (e : Entry) (b : List ℕ) → b ≡ spelling e → length b ≤ most_body → fits (dataset_of s) e ≡ true → IsEntry e → IsBatch s (e ∷ []) b
 one_batch s e b same few fit is = record {
   same = same ∙ sym (append-nil (spelling e));
-  some = omega (arith, ap length same, size_is e, size_some e);
+  some = omega (arith, ap length same, size_is e (met_fit (dataset_of s) e fit), size_some e);
   few = few;
   fit = ap (λ (q : Bool). cond q (Some (grow s e)) None) fit;
   are = (is, tt);

@@ -27,5 +27,5 @@ loop-widths-preserved c =
     ∙ most_next most own i all c.widths-item.result here c.widths-item.is c.most_of-own.ensures
     ∙ c.loop-widths.invariant
 
-pub returns-clause-most : goal.returns-clause-most
-returns-clause-most c = sym (ap (most_from c.loop-widths.most) (drop_all c.loop-widths.widths-index c.args.all.now c.loop-widths-test.false)) ∙ c.loop-widths.invariant
+pub returns : goal.returns
+returns c = sym (ap (most_from c.loop-widths.most) (drop_all c.loop-widths.widths-index c.args.all.now c.loop-widths-test.false)) ∙ c.loop-widths.invariant

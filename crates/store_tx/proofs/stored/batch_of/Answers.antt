@@ -29,5 +29,5 @@ unreachable-requires g c =
     let short = short_fit (dataset_of (g.St.Store.state c.args._store.now)) c.args.entry.now c.requires.fits c.requires.named c.requires.short in
     let none : length c.in_ok-batch.batch ≡ 0 = ap length c.in_ok-batch.ensures in
     let bytes : length c.as_slice.result.now ≡ length (spelling c.args.entry.now) = ap length (c.as_slice.ensures ∙ c.in_ok-bytes.ensures.bytes) in
-    let full = c.add.ensures.full.0 (subst (λ r. IsErrOf r Full) (sym c.in-Full.is) refl) in
+    let full = c.add.ensures.full.0 (subst (λ r. IsErrOf r Full) (sym c.in-Err-Full.is) refl) in
     omega (arith, short, none, bytes, full)

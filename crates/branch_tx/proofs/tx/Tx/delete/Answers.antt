@@ -39,7 +39,7 @@ returns-clause-reply g c =
     let old : Granted = c.args.self.now in
     let work = c.self.inside.work in
     let at : working_in old ≡ working_of work =
-        ap (λ (wss : List (List ℕ)). working_with wss old) (sym (c.self.invariant.3 ∙ ap (λ (x : Granted). all_widths x.schema) c.self.view_is)) ∙ ap (working_with (widths_of work)) (sym c.self.view_is) in
+    ap (λ (wss : List (List ℕ)). working_with wss old) (sym (c.self.invariant.3 ∙ ap (λ (x : Granted). all_widths x.schema) c.self.view_is)) ∙ ap (working_with (widths_of work)) (sym c.self.view_is) in
     let is = (delete_is c.args.self.now c.args.name c.args.key c.in-Of.relation (sym c.requires ∙ c.in-Of.is)).1
     ∙ (λ i. changed old c.in-Of.relation c.args.name c.args.key None (change_stop (at i) c.in-Of.relation c.args.key None)) in
     rw is (search rules)
@@ -49,7 +49,7 @@ returns-clause-left g c =
     let old : Granted = c.args.self.now in
     let work = c.self.inside.work in
     let at : working_in old ≡ working_of work =
-        ap (λ (wss : List (List ℕ)). working_with wss old) (sym (c.self.invariant.3 ∙ ap (λ (x : Granted). all_widths x.schema) c.self.view_is)) ∙ ap (working_with (widths_of work)) (sym c.self.view_is) in
+    ap (λ (wss : List (List ℕ)). working_with wss old) (sym (c.self.invariant.3 ∙ ap (λ (x : Granted). all_widths x.schema) c.self.view_is)) ∙ ap (working_with (widths_of work)) (sym c.self.view_is) in
     let is = (delete_is c.args.self.now c.args.name c.args.key c.in-Of.relation (sym c.requires ∙ c.in-Of.is)).1
     ∙ (λ i. changed old c.in-Of.relation c.args.name c.args.key None (change_stop (at i) c.in-Of.relation c.args.key None)) in
     rw is (search rules)

@@ -55,7 +55,7 @@ returns-clause-reply g c =
     let old : Granted = c.args.self.now in
     let work = c.self.inside.work in
     let at : working_in old ≡ working_of work =
-        ap (λ (wss : List (List ℕ)). working_with wss old) (sym (c.self.invariant.3 ∙ ap (λ (x : Granted). all_widths x.schema) c.self.view_is)) ∙ ap (working_with (widths_of work)) (sym c.self.view_is) in
+    ap (λ (wss : List (List ℕ)). working_with wss old) (sym (c.self.invariant.3 ∙ ap (λ (x : Granted). all_widths x.schema) c.self.view_is)) ∙ ap (working_with (widths_of work)) (sym c.self.view_is) in
     let is = (insert_is c.args.self.now c.args.name c.args.key c.args.kept.now c.in-Of.relation (sym c.requires ∙ c.in-Of.is)).1
     ∙ (λ i. changed old c.in-Of.relation c.args.name c.args.key (Some c.args.kept.now) (insert_stop (at i) c.in-Of.relation (sym c.read_row.ensures i))) in
     rw is (search rules)
@@ -65,7 +65,7 @@ returns-clause-left g c =
     let old : Granted = c.args.self.now in
     let work = c.self.inside.work in
     let at : working_in old ≡ working_of work =
-        ap (λ (wss : List (List ℕ)). working_with wss old) (sym (c.self.invariant.3 ∙ ap (λ (x : Granted). all_widths x.schema) c.self.view_is)) ∙ ap (working_with (widths_of work)) (sym c.self.view_is) in
+    ap (λ (wss : List (List ℕ)). working_with wss old) (sym (c.self.invariant.3 ∙ ap (λ (x : Granted). all_widths x.schema) c.self.view_is)) ∙ ap (working_with (widths_of work)) (sym c.self.view_is) in
     let is = (insert_is c.args.self.now c.args.name c.args.key c.args.kept.now c.in-Of.relation (sym c.requires ∙ c.in-Of.is)).1
     ∙ (λ i. changed old c.in-Of.relation c.args.name c.args.key (Some c.args.kept.now) (insert_stop (at i) c.in-Of.relation (sym c.read_row.ensures i))) in
     elim c.match-insert.branch [

@@ -71,10 +71,10 @@ returns-clause-reply g c =
     let old : Granted = c.args.self.now in
     let work = c.self.inside.work in
     let at : working_in old ≡ working_of work =
-        ap (λ (wss : List (List ℕ)). working_with wss old) (sym (c.self.invariant.3 ∙ ap (λ (x : Granted). all_widths x.schema) c.self.view_is)) ∙ ap (working_with (widths_of work)) (sym c.self.view_is) in
+    ap (λ (wss : List (List ℕ)). working_with wss old) (sym (c.self.invariant.3 ∙ ap (λ (x : Granted). all_widths x.schema) c.self.view_is)) ∙ ap (working_with (widths_of work)) (sym c.self.view_is) in
     let is = (update_is c.args.self.now c.args.name c.args.key c.args.named.now c.in-With.relation c.in-With.columns (sym c.requires ∙ c.in-With.is)).2
     ∙ (λ i. changed old c.in-With.relation c.args.name c.args.key (updated (sym c.sets_of-sets.ensures i) (fields_at (at i) c.in-With.relation c.args.key))
-        (change_stop (at i) c.in-With.relation c.args.key (updated (sym c.sets_of-sets.ensures i) (fields_at (at i) c.in-With.relation c.args.key)))) in
+    (change_stop (at i) c.in-With.relation c.args.key (updated (sym c.sets_of-sets.ensures i) (fields_at (at i) c.in-With.relation c.args.key)))) in
     rw is (search rules)
 
 pub returns-clause-left : goal.returns-clause-left
@@ -82,8 +82,8 @@ returns-clause-left g c =
     let old : Granted = c.args.self.now in
     let work = c.self.inside.work in
     let at : working_in old ≡ working_of work =
-        ap (λ (wss : List (List ℕ)). working_with wss old) (sym (c.self.invariant.3 ∙ ap (λ (x : Granted). all_widths x.schema) c.self.view_is)) ∙ ap (working_with (widths_of work)) (sym c.self.view_is) in
+    ap (λ (wss : List (List ℕ)). working_with wss old) (sym (c.self.invariant.3 ∙ ap (λ (x : Granted). all_widths x.schema) c.self.view_is)) ∙ ap (working_with (widths_of work)) (sym c.self.view_is) in
     let is = (update_is c.args.self.now c.args.name c.args.key c.args.named.now c.in-With.relation c.in-With.columns (sym c.requires ∙ c.in-With.is)).2
     ∙ (λ i. changed old c.in-With.relation c.args.name c.args.key (updated (sym c.sets_of-sets.ensures i) (fields_at (at i) c.in-With.relation c.args.key))
-        (change_stop (at i) c.in-With.relation c.args.key (updated (sym c.sets_of-sets.ensures i) (fields_at (at i) c.in-With.relation c.args.key)))) in
+    (change_stop (at i) c.in-With.relation c.args.key (updated (sym c.sets_of-sets.ensures i) (fields_at (at i) c.in-With.relation c.args.key)))) in
     rw is (search rules)

@@ -1,7 +1,7 @@
 use Rattle.std.proofs.Common.{◌≡◌, drop}
 use Rattle.std.specs.List.{list_any}
 use Rattle.db_store.specs.Body.{is_of_texts}
-use Rattle.db_store.proofs.tally.any_of_texts.Given as goal
+use Rattle.db_store.proofs.bulk.any_of_texts.Given as goal
 
 -- the columns that are left decide
 abbrev pub invariant-loop-at : goal.invariant-loop-at

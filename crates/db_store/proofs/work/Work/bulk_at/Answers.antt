@@ -1,12 +1,12 @@
 use Rattle.std.proofs.Common.{◌<◌, ◌∙◌, ℕ, List, Bool, Option, Some, None, arith, ap, sym, cond, get_or}
 use Rattle.work_region.specs.declared.rows.RowFrame.{RowFrame as Touch}
-use Rattle.db_store.specs.Tally.{weight, weight_at}
+use Rattle.db_store.specs.Bulk.{weight, weight_at}
 use Rattle.db_store.specs.Overlay.{own_widths}
 use Rattle.db_store.specs.Touched.{state_of, no_touch}
 use Rattle.db_store.proofs.TouchLemmas.{place_some, look_some, look_none}
 use Rattle.db_store.proofs.LayerLemmas.{look_is}
 use Rattle.db_store.proofs.BodyLemmas.{live_widths}
-use Rattle.db_store.proofs.work.Work.tally_at.Goals as goal
+use Rattle.db_store.proofs.work.Work.bulk_at.Goals as goal
 
 pub is_live-requires : goal.is_live-requires
 is_live-requires g c = (place_some c.args.self.now.touched.keys c.args.relation c.args.key c.in-Some.place (sym c.in-Some.ensures)).0

@@ -1,5 +1,0 @@
-use Rattle.db_store.proofs.BodyLemmas.{sure_enough}
-use Rattle.db_store.proofs.tally.is_sure.Goals as goal
-
-pub returns : goal.returns
-returns c = sure_enough c.args.room c.args.most
