@@ -1,13 +1,13 @@
 -- How many bytes the entry of inserted rows has, by the touched keys of a whole private table.
-use Rattle.std.proofs.Common.{◌≡◌, ◌∙◌, ℕ, zero, suc, ◌+◌, ◌*◌, ◌<◌, ◌==◌, ◌||◌, nat_lt, cond, Bool, true, false, List, [], ◌∷◌, ◌++◌, length, map, set, replicate, get_or, Option, Some, None, refl, sym, ap, arith, append-nil}
+use Rattle.std.proofs.Common.{◌≡◌, ◌∙◌, ℕ, zero, suc, ◌+◌, ◌*◌, ◌<◌, ◌==◌, ◌||◌, nat_lt, cond, Bool, true, false, List, [], ◌∷◌, ◌++◌, length, map, set, replicate, Option, Some, None, refl, sym, ap, arith, append-nil}
 use Rattle.std.specs.Prelude.{is_some}
 use Rattle.std.specs.FinMap as finite
-use Rattle.std.specs.List.{AllByRecursion, list_any}
+use Rattle.std.specs.List.{AllByRecursion}
 use Rattle.std.proofs.lemmas.Bool.{eq-eqb, false≢true, ne_eqb}
 use Rattle.std.proofs.lemmas.Cmp.{nat_cmp_total}
 use Rattle.db_value.specs.Value.{Value}
 use Rattle.db_value.specs.declared.entry.Change.{Change}
-use Rattle.db_store.specs.Body.{any_of_texts, any_text, changes_size, commit_size, fields_size, form_size, has_text, have_texts}
+use Rattle.db_store.specs.Body.{any_of_texts, any_text, changes_size, commit_size, fields_size, form_size, have_texts}
 use Rattle.db_store.specs.Overlay.{own_widths, widths_if}
 use Rattle.db_store.specs.Table.{Contents, Table, relation_at}
 use Rattle.db_store.specs.TouchRules.{same_key}
@@ -122,8 +122,11 @@ module _ (ws : List ℕ) (t : Table) (r : ℕ) where
   one_more : (n size : ℕ) → size + n * size ≡ suc n * size
   one_more n size = omega arith
 
+  none_more : (size : ℕ) → 0 ≡ 0 * size
+  none_more size = omega arith
+
   states_size : (wide : Bool) (ks : List ℕ) → AllThere (relation_at t r) ks → changes_size wide (states ks) ≡ length ks * (10 + form_size wide ws)
-  states_size wide [] h = refl
+  states_size wide [] h = none_more (10 + form_size wide ws)
   states_size wide (k ∷ ks) h =
       ap (λ (o : Option (List ℕ)). 10 + fields_size wide o + changes_size wide (states ks)) (has_widths ws (finite.get (relation_at t r) k) h.0)
       ∙ ap (λ (n : ℕ). 10 + form_size wide ws + n) (states_size wide ks h.1)
