@@ -3,6 +3,7 @@ use crate::asserts::holds;
 use crate::rows::{number, text};
 use db_value::{
     Column, Fields, ListOf, Name, Op, Pred, PredStop, Record, Schema, ShortText, Term, TermValue,
+    Terms,
 };
 use std::alloc::Global;
 use std::test::Fail;
@@ -69,28 +70,40 @@ fn against(bytes: &[u8]) -> Result<TermValue, Fail> {
     Ok(TermValue::Text { text })
 }
 
+// Why a condition can't be asked.
+fn told(stop: &PredStop) -> &'static str {
+    match stop {
+        PredStop::NoColumn { .. } => "no column",
+        PredStop::WrongKind { column } => {
+            if column.as_bytes() == b"n".as_slice() {
+                return "wrong kind n";
+            }
+            "wrong kind name"
+        }
+        PredStop::Memory => "memory",
+    }
+}
+
 // What a condition on the row `7 "ab" 5` of a relation with columns `name:4` and `n` says: yes, no, or
 // the column for which it can't be asked.
-fn ask(alloc: Global, terms: Vec<Term>) -> Result<&'static str, Fail> {
+fn ask(alloc: Global, terms: &Terms) -> Result<&'static str, Fail> {
     let (schema, _) = Schema::read(alloc, b"relation tags name:4 n\nend\n")?;
     let fields = Fields::of(&[text(b"ab"), number(5)]).ok_or("fields")?;
-    let terms = ListOf::of(terms);
-    match Pred::resolve(alloc, &schema, 0, &terms) {
+    match Pred::resolve(alloc, &schema, 0, terms) {
         Ok(pred) => {
             if pred.holds(&Record { key: 7, fields }) {
                 return Ok("yes");
             }
             Ok("no")
         }
-        Err(PredStop::NoColumn { .. }) => Ok("no column"),
-        Err(PredStop::WrongKind { column }) => {
-            if column.as_bytes() == b"n".as_slice() {
-                return Ok("wrong kind n");
-            }
-            Ok("wrong kind name")
-        }
-        Err(PredStop::Memory) => Err("memory".into()),
+        Err(stop) => Ok(told(&stop)),
     }
+}
+
+// The same of one term.
+fn ask_one(alloc: Global, term: Term) -> Result<&'static str, Fail> {
+    let terms = ListOf::of(Vec::from_slice(alloc, &[term])?);
+    ask(alloc, &terms)
 }
 
 #[rattlefmt::skip]
@@ -120,9 +133,7 @@ fn compares_texts_by_the_table(rt: HostRuntime) -> Result<(), Fail> {
             op: *op,
             value: against(bytes)?,
         };
-        let mut terms = Vec::new(rt.alloc());
-        terms.push(term)?;
-        let said = ask(rt.alloc(), terms)?;
+        let said = ask_one(rt.alloc(), term)?;
         holds(&rt, name, said == *expected);
     }
     Ok(())
@@ -141,6 +152,17 @@ fn equals(column: &str, number: Option<i128>) -> Result<Term, Fail> {
     })
 }
 
+// What a condition of two such terms says.
+fn ask_two(
+    alloc: Global,
+    (a, x): (&str, Option<i128>),
+    (b, y): (&str, Option<i128>),
+) -> Result<&'static str, Fail> {
+    let terms = [equals(a, x)?, equals(b, y)?];
+    let terms = ListOf::of(Vec::from_slice(alloc, &terms)?);
+    ask(alloc, &terms)
+}
+
 #[rattlefmt::skip]
 const STOPS: [(&str, [(&str, Option<i128>); 2], &str); 6] = [
     // what                                 two terms                        the answer
@@ -154,13 +176,8 @@ const STOPS: [(&str, [(&str, Option<i128>); 2], &str); 6] = [
 
 #[test]
 fn stops_at_the_first_wrong_kind(rt: HostRuntime) -> Result<(), Fail> {
-    for (name, pairs, expected) in &STOPS {
-        let mut terms = Vec::new(rt.alloc());
-        for (column, number) in pairs {
-            let term = equals(column, *number)?;
-            terms.push(term)?;
-        }
-        let said = ask(rt.alloc(), terms)?;
+    for (name, [first, second], expected) in &STOPS {
+        let said = ask_two(rt.alloc(), *first, *second)?;
         holds(&rt, name, said == *expected);
     }
     Ok(())
