@@ -1,7 +1,7 @@
 use Rattle.std.proofs.Common.{◌≡◌, ◌∙◌, ◌+◌, ◌<◌, ◌≤◌, refl, ap, sym, subst, length, arith}
 use Rattle.std.proofs.lemmas.List.{length-append}
 use Rattle.db_store.specs.State.{dataset_of}
-use Rattle.std.specs.Prelude.{IsErrOf}
+use Rattle.std.specs.Prelude.{Err, IsErrOf}
 use Rattle.db_outside.specs.declared.batch.BatchStop.TheVariants.{Full}
 use Rattle.entry_codec.specs.Spelling.{spelling}
 use Rattle.entry_codec.proofs.Fitting.{few_fit, met_fit, short_fit}
@@ -29,5 +29,5 @@ unreachable-requires g c =
     let short = short_fit (dataset_of (g.St.Store.state c.args._store.now)) c.args.entry.now c.requires.fits c.requires.named c.requires.short in
     let none : length c.in_ok-batch.batch ≡ 0 = ap length c.in_ok-batch.ensures in
     let bytes : length c.as_slice.result.now ≡ length (spelling c.args.entry.now) = ap length (c.as_slice.ensures ∙ c.in_ok-bytes.ensures.bytes) in
-    let full = c.add.ensures.full.0 (subst (λ r. IsErrOf r Full) (sym c.in-Err-Full.is) refl) in
+    let full = c.add.ensures.full.0 (subst (λ r. IsErrOf r Full) (sym (c.in-Err-Full.is ∙ ap (λ s. Err s) c.in-Err-Full.field-0-is)) refl) in
     omega (arith, short, none, bytes, full)
