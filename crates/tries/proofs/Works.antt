@@ -33,6 +33,11 @@ two_numbers = Number (pos 1) ∷ Number (pos 2) ∷ []
 pub two_adoptable : (ws : List ℕ) (n : ℕ) → 0 < n → AreAdoptable n (two_changes ws)
 two_adoptable ws n h = record { relations = ap (λ (b : Bool). b && (b && true)) (lt-ltb 0 n h); differ = refl }
 
+-- two numbers fit a schema whose first relation has two columns of numbers
+module _ (schema : List Relation) (two : HasTwoNumbers schema) where
+  pub row_fits : (fields : List Value) → fields ≡ two_numbers → has_fields (widths_at schema 0) (Some fields) ≡ true
+  row_fits fields e = ap (λ (ws : List ℕ). meets ws fields) two.1 ∙ ap (meets (0 ∷ 0 ∷ [])) e
+
 module _ {V : Type 0} {g : Ghosts V} (schema : List Relation) (two : HasTwoNumbers schema) where
   -- its first relation has two columns of numbers
   own_two : (w : Work V g) → IsOver schema w → own_widths (widths_of w) 0 ≡ 0 ∷ 0 ∷ []
@@ -40,9 +45,6 @@ module _ {V : Type 0} {g : Ghosts V} (schema : List Relation) (two : HasTwoNumbe
 
   pub row_meets : (w : Work V g) (fields : List Value) → IsOver schema w → fields ≡ two_numbers → meets (own_widths (widths_of w) 0) fields ≡ true
   row_meets w fields o e = ap (λ (ws : List ℕ). meets ws fields) (own_two w o) ∙ ap (meets (0 ∷ 0 ∷ [])) e
-
-  pub row_fits : (fields : List Value) → fields ≡ two_numbers → has_fields (widths_at schema 0) (Some fields) ≡ true
-  row_fits fields e = ap (λ (ws : List ℕ). meets ws fields) two.1 ∙ ap (meets (0 ∷ 0 ∷ [])) e
 
   -- changes of it meet its widths
   pub two_meet : (w : Work V g) (ws : List ℕ) → IsOver schema w → list_all (change_meets (widths_of w)) (two_changes ws) ≡ true
