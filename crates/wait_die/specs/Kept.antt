@@ -13,16 +13,16 @@ AllDiffer (s ∷ ss) = (Has ss s → ⊥) × AllDiffer ss
 
 -- the waiter is the older of two open transactions, and the other has a granted want that conflicts with the waiter's
 pub record IsWait (t : WaitTable) (x : Waiting) : Type 0 where
-  pub waiter : Has t.open x.waiter
-  pub on : Has t.open x.on
-  pub older : is_older t.open x.waiter x.on ≡ true
+  pub waiter : Has t.begun x.waiter
+  pub on : Has t.begun x.on
+  pub older : is_older t.begun x.waiter x.on ≡ true
   pub held : (g : Grant) × Has t.grants g × (g.session ≡ x.on) × (conflicts x.wants g.want ≡ true)
 
 -- each session stands at most once among the open transactions, which alone have granted wants, and each wait is of an older on a younger one
 pub record IsKept (t : WaitTable) : Type 0 where
-  pub once : AllDiffer t.open
-  pub admitted : (s : ℕ) → Has t.open s → Has t.admitted s
-  pub granted : (g : Grant) → Has t.grants g → Has t.open g.session
+  pub once : AllDiffer t.begun
+  pub admitted : (s : ℕ) → Has t.begun s → Has t.admitted s
+  pub granted : (g : Grant) → Has t.grants g → Has t.begun g.session
   pub waits : (x : Waiting) → Has t.waits x → IsWait t x
 
 -- and there is room for the transaction of each admitted session

@@ -10,26 +10,26 @@ use Rattle.wait_die.specs.Waiting.{WaitTable, is_older, added, ended}
 use Rattle.wait_die.specs.Turns.{is_ahead, is_against, loss_of, holder_of}
 
 -- an older session has a want that conflicts with this one of the asker
-pub record IsAhead (open : List ℕ) (session : ℕ) (ws : List Want) (gs : List Grant) (w : Want) (g : Grant) : Type 0 where
+pub record IsAhead (begun : List ℕ) (session : ℕ) (ws : List Want) (gs : List Grant) (w : Want) (g : Grant) : Type 0 where
   pub wanted : Has ws w
   pub granted : Has gs g
   pub conflicting : conflict w g.want ≡ true
-  pub older : is_older open g.session session ≡ true
+  pub older : is_older begun g.session session ≡ true
 
 -- no older session has a conflicting want
 abbrev pub NoneIsAhead : List ℕ → ℕ → List Want → List Grant → Type 0
-NoneIsAhead open session ws gs = (w : Want) (g : Grant) → IsAhead open session ws gs w g → ⊥
+NoneIsAhead begun session ws gs = (w : Want) (g : Grant) → IsAhead begun session ws gs w g → ⊥
 
 -- an older session has a conflicting want, on the asker's least such lock, and is the least such session there
-pub record IsLoss (open : List ℕ) (session : ℕ) (ws : List Want) (gs : List Grant) (loss : Loss) : Type 0 where
-  pub found : (w : Want) × (g : Grant) × IsAhead open session ws gs w g × (w.lock ≡ loss.lock) × (g.session ≡ loss.by)
-  pub least_lock : (w : Want) (g : Grant) → IsAhead open session ws gs w g → is_below w.lock loss.lock ≡ false
-  pub least_session : (w : Want) (g : Grant) → IsAhead open session ws gs w g → w.lock ≡ loss.lock → loss.by ≤ g.session
+pub record IsLoss (begun : List ℕ) (session : ℕ) (ws : List Want) (gs : List Grant) (loss : Loss) : Type 0 where
+  pub found : (w : Want) × (g : Grant) × IsAhead begun session ws gs w g × (w.lock ≡ loss.lock) × (g.session ≡ loss.by)
+  pub least_lock : (w : Want) (g : Grant) → IsAhead begun session ws gs w g → is_below w.lock loss.lock ≡ false
+  pub least_session : (w : Want) (g : Grant) → IsAhead begun session ws gs w g → w.lock ≡ loss.lock → loss.by ≤ g.session
 
 -- a loss is named exactly where an older session has a conflicting want, and it is the least one
 abbrev pub LossLaw : Type 0
-LossLaw = (open : List ℕ) (session : ℕ) (ws : List Want) (gs : List Grant)
-    → MatchOption (loss_of open session ws gs) (NoneIsAhead open session ws gs) (λ loss. IsLoss open session ws gs loss)
+LossLaw = (begun : List ℕ) (session : ℕ) (ws : List Want) (gs : List Grant)
+    → MatchOption (loss_of begun session ws gs) (NoneIsAhead begun session ws gs) (λ loss. IsLoss begun session ws gs loss)
 
 -- another session has a want that conflicts with one of the asker's
 pub record IsAgainst (session : ℕ) (ws : List Want) (gs : List Grant) (g : Grant) : Type 0 where

@@ -22,7 +22,7 @@ least_session test (g ∷ gs) = cond (test g) (Some (lesser g.session (least_ses
 
 -- the grant is an older session's, and conflicts with the want
 abbrev pub is_ahead : List ℕ → ℕ → Want → Grant → Bool
-is_ahead open session w g = conflict w g.want && is_older open g.session session
+is_ahead begun session w g = conflict w g.want && is_older begun g.session session
 
 -- the grant is another session's, and conflicts with one of the wants
 abbrev pub is_against : ℕ → List Want → Grant → Bool
@@ -40,8 +40,8 @@ with_loss lock (Some by) others = Some (lesser_loss (record { lock = lock; by = 
 
 -- the least lock of the wants on which an older session has a conflicting want, and the least such session
 abbrev pub loss_of : List ℕ → ℕ → List Want → List Grant → Option Loss
-loss_of open session [] gs = None
-loss_of open session (w ∷ ws) gs = with_loss w.lock (least_session (is_ahead open session w) gs) (loss_of open session ws gs)
+loss_of begun session [] gs = None
+loss_of begun session (w ∷ ws) gs = with_loss w.lock (least_session (is_ahead begun session w) gs) (loss_of begun session ws gs)
 
 -- the least other session that has a want which conflicts with one of these
 abbrev pub holder_of : ℕ → List Want → List Grant → Option ℕ
@@ -55,7 +55,7 @@ turn_by None None = Granted
 
 -- what a session is told
 abbrev pub turn_of : WaitTable → ℕ → List Want → Turn
-turn_of t session ws = turn_by (loss_of t.open session ws t.grants) (holder_of session ws t.grants)
+turn_of t session ws = turn_by (loss_of t.begun session ws t.grants) (holder_of session ws t.grants)
 
 -- a wait of a session on another one
 abbrev pub wait : ℕ → List Want → ℕ → Waiting

@@ -10,7 +10,7 @@ use Rattle.wait_die.specs.Conflict.{includes}
 -- what a table of waits has
 pub record WaitTable : Type 0 where
   -- the sessions with an open transaction, the one that began first at the front
-  pub open : List ℕ
+  pub begun : List ℕ
   -- the granted wants of open transactions
   pub grants : List Grant
   -- the sessions that wait, each with what it wants and the session that it waits on
@@ -28,7 +28,7 @@ is_among session sessions = list_any (λ s. s == session) sessions
 
 -- the session has an open transaction
 abbrev pub is_open : WaitTable → ℕ → Bool
-is_open t session = is_among session t.open
+is_open t session = is_among session t.begun
 
 -- the session waits
 abbrev pub is_waiting : WaitTable → ℕ → Bool
@@ -75,12 +75,12 @@ admitting t session = record t { admitted = joined session t.admitted }
 
 -- the session's transaction begins, as the youngest one
 abbrev pub started : WaitTable → ℕ → WaitTable
-started t session = record t { open = t.open ++ session ∷ [] }
+started t session = record t { begun = t.begun ++ session ∷ [] }
 
 -- the session's transaction is gone, with its wants, its own wait and every wait on it
 abbrev pub ended : WaitTable → ℕ → WaitTable
 ended t session = record t {
-  open = filter (is_other session) t.open;
+  begun = filter (is_other session) t.begun;
   grants = filter (is_of_other session) t.grants;
   waits = filter (is_apart session) t.waits;
 }

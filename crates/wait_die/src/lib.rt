@@ -8,7 +8,7 @@
 //!
 //! | file | has |
 //! |---|---|
-//! | `specs/Wants.antt`, `src/wants.rt` | what a statement wants |
+//! | `specs/Wants.antt`, `src/stmt_wants.rt` | what a statement wants |
 //! | `specs/Conflict.antt`, `src/conflict.rt` | wants that conflict, and the order of locks |
 //! | `specs/Waiting.antt`, `src/grant.rt` | the table: open transactions, grants and waits |
 //! | `specs/Turns.antt`, `src/loss.rt` | what a session is told that asks |
@@ -22,11 +22,11 @@ mod conflict;
 mod grant;
 mod laws;
 mod loss;
+mod stmt_wants;
 mod waits;
 mod want;
-mod wants;
 
 pub use laws::{cover_laws, wait_laws};
+pub use stmt_wants::wants;
 pub use waits::{Turn, Waits};
 pub use want::{WaitLock, Want, Wants};
-pub use wants::wants;

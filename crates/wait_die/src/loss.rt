@@ -15,10 +15,10 @@ pub struct Loss {
 }
 
 /// Is the first session older? One without an open transaction is younger than all.
-pub fn is_older(open: &[u32], first: u32, second: u32) -> bool
-    ensures { result ≡ is_older open.now first second }
+pub fn is_older(begun: &[u32], first: u32, second: u32) -> bool
+    ensures { result ≡ is_older begun.now first second }
 {
-    for session in open {
+    for session in begun {
         if *session == second {
             return false;
         }
@@ -56,15 +56,15 @@ fn lesser_loss(loss: Loss, other: &Option<Loss>) -> Loss
 }
 
 // The least older session with a want that conflicts.
-fn least_ahead(open: &[u32], session: u32, want: &Want, grants: &[Grant]) -> Option<u32>
-    ensures { result ≡ least_session (is_ahead open.now session want.now) grants.now }
+fn least_ahead(begun: &[u32], session: u32, want: &Want, grants: &[Grant]) -> Option<u32>
+    ensures { result ≡ least_session (is_ahead begun.now session want.now) grants.now }
 {
     let mut least: Option<u32> = None;
     let mut i = grants.len();
     while i > 0 {
         i -= 1;
         let grant = &grants[i];
-        if conflict(want, &grant.want) && is_older(open, grant.session, session) {
+        if conflict(want, &grant.want) && is_older(begun, grant.session, session) {
             least = Some(lesser(grant.session, least));
         }
     }
@@ -72,15 +72,15 @@ fn least_ahead(open: &[u32], session: u32, want: &Want, grants: &[Grant]) -> Opt
 }
 
 /// By which older session the wants of a session are lost, and on which lock.
-pub fn loss_of(open: &[u32], session: u32, wants: &[Want], grants: &[Grant]) -> Option<Loss>
-    ensures { result ≡ loss_of open.now session wants.now grants.now }
+pub fn loss_of(begun: &[u32], session: u32, wants: &[Want], grants: &[Grant]) -> Option<Loss>
+    ensures { result ≡ loss_of begun.now session wants.now grants.now }
 {
     let mut least: Option<Loss> = None;
     let mut i = wants.len();
     while i > 0 {
         i -= 1;
         let want = &wants[i];
-        if let Some(by) = least_ahead(open, session, want, grants) {
+        if let Some(by) = least_ahead(begun, session, want, grants) {
             let lock = want.lock;
             least = Some(lesser_loss(Loss { lock, by }, &least));
         }

@@ -26,7 +26,7 @@ pub enum Turn {
 /// on whom. An older transaction waits on a younger one, and a younger one never waits.
 #[derive(Drop)]
 pub struct Waits {
-    open: Vec<u32>,
+    begun: Vec<u32>,
     grants: Vec<Grant>,
     waits: Vec<Waiting>,
     admitted: Vec<u32>,
@@ -39,21 +39,21 @@ impl Model for Waits {
 
     ghost Value = { WaitTable };
 
-    ghost view = { λ w. record { open = w.open.items; grants = w.grants.items; waits = w.waits.items; admitted = w.admitted.items } };
+    ghost view = { λ w. record { begun = w.begun.items; grants = w.grants.items; waits = w.waits.items; admitted = w.admitted.items } };
 
-    ghost invariant = { λ w. HasRoom (record { open = w.open.items; grants = w.grants.items; waits = w.waits.items; admitted = w.admitted.items }) (vec_capacity w.open) };
+    ghost invariant = { λ w. HasRoom (record { begun = w.begun.items; grants = w.grants.items; waits = w.waits.items; admitted = w.admitted.items }) (vec_capacity w.begun) };
 }
 
 impl Waits {
     /// A table without sessions.
     pub fn new(alloc: Global) -> Result<Waits, AllocError>
-        ensures open { IfOk result (λ w. w.open ≡ []) }
+        ensures begun { IfOk result (λ w. w.begun ≡ []) }
         ensures grants { IfOk result (λ w. w.grants ≡ []) }
         ensures waits { IfOk result (λ w. w.waits ≡ []) }
         ensures admitted { IfOk result (λ w. w.admitted ≡ []) }
     {
         Ok(Waits {
-            open: Vec::new(alloc),
+            begun: Vec::new(alloc),
             grants: Vec::new(alloc),
             waits: Vec::new(alloc),
             admitted: Vec::new(alloc),
@@ -71,8 +71,8 @@ impl Waits {
         if self.admitted.contains(&session) {
             return Ok(());
         }
-        let more = (self.admitted.len() + 1).saturating_sub(self.open.len());
-        self.open.reserve(more)?;
+        let more = (self.admitted.len() + 1).saturating_sub(self.begun.len());
+        self.begun.reserve(more)?;
         self.admitted.push(session)?;
         Ok(())
     }
@@ -83,7 +83,7 @@ impl Waits {
         requires none { is_open self.old session ≡ false }
         ensures { self.new ≡ started self.old session }
     {
-        self.open.push_reserved(session);
+        self.begun.push_reserved(session);
     }
 
     /// Grants a session all of the wants, or tells it to wait for a younger transaction, or that it
@@ -97,7 +97,7 @@ impl Waits {
         ensures err { OnErr result (self.new ≡ self.old) }
     {
         let asked = wants.as_slice();
-        if let Some(loss) = loss_of(&self.open, session, asked, &self.grants) {
+        if let Some(loss) = loss_of(&self.begun, session, asked, &self.grants) {
             return Ok(Turn::Lost {
                 lock: loss.lock,
                 by: loss.by,
@@ -114,7 +114,7 @@ impl Waits {
     pub fn end(&mut self, session: u32)
         ensures { self.new ≡ ended self.old session }
     {
-        self.open.retain(|other| *other != session);
+        self.begun.retain(|other| *other != session);
         drop_wants(&mut self.grants, session);
         drop_waits(&mut self.waits, session);
     }
@@ -123,7 +123,7 @@ impl Waits {
     pub fn is_open(&self, session: u32) -> bool
         ensures { result ≡ is_open self.now session }
     {
-        self.open.contains(&session)
+        self.begun.contains(&session)
     }
 
     /// Does the session wait?
@@ -140,7 +140,7 @@ impl Waits {
         ensures left { IfOk result (λ turn. self.new ≡ after_turn self.old session wants.now turn) }
         ensures err { OnErr result (self.new ≡ self.old) }
     {
-        if self.open.contains(&session) {
+        if self.begun.contains(&session) {
             let asked = wants.as_slice();
             self.grants.reserve(asked.len())?;
             add_wants(&mut self.grants, session, asked);
@@ -169,6 +169,6 @@ impl Waits {
         ensures kept { IsKept self.now }
         ensures no_circle { HasNoCircle self.now }
     {
-        let _ = &self.open;
+        let _ = &self.begun;
     }
 }
