@@ -4,3 +4,6 @@ pub mod Ages
 pub mod Circles
 pub mod Locks
 pub mod Losing
+pub mod Adding
+pub mod Keeping
+pub mod Covering

@@ -1,5 +1,5 @@
 -- Which items a list has, after some were taken out or one was put in, and how many there can be.
-use Rattle.std.proofs.Common.{◌≡◌, ◌⊎◌, inl, inr, ⊎_elim, ℕ, ◌<◌, ◌≤◌, ◌==◌, suc, Bool, true, false, cond, List, [], ◌∷◌, ◌++◌, filter, length, refl, sym, ap, ◌∙◌, subst, arith}
+use Rattle.std.proofs.Common.{◌≡◌, ◌⊎◌, inl, inr, ⊎_elim, ℕ, ◌<◌, ◌≤◌, ◌==◌, suc, Bool, true, false, cond, not, List, [], ◌∷◌, ◌++◌, filter, length, refl, sym, ap, ◌∙◌, subst, arith}
 use Rattle.std.specs.List.{list_any}
 use Rattle.std.proofs.lemmas.Bool.{eqb-true, eq-eqb, true≢false, false≢true, or_parts, or_cases}
 use Rattle.lock_table.specs.Grants.{Has}
@@ -47,12 +47,12 @@ among_none s (x ∷ xs) e h =
 pub other_is : (t s : ℕ) → (s ≡ t → ⊥) → is_other t s ≡ true
 other_is t s n = at (s == t) refl
   where
-    at : (b : Bool) → (s == t) ≡ b → cond b false true ≡ true
+    at : (b : Bool) → (s == t) ≡ b → not b ≡ true
     at true e = absurd (n (eqb-true s t e))
     at false e = refl
 
 pub is_other_not : (t s : ℕ) → is_other t s ≡ true → s ≡ t → ⊥
-is_other_not t s h e = false≢true (ap (λ (b : Bool). cond b false true) (sym (eq-eqb s t e)) ∙ h)
+is_other_not t s h e = false≢true (ap not (sym (eq-eqb s t e)) ∙ h)
 
 pub differ_pushed : (ss : List ℕ) (s : ℕ) → AllDiffer ss → (Has ss s → ⊥) → AllDiffer (ss ++ s ∷ [])
 differ_pushed [] s d n = (λ h. h, tt)

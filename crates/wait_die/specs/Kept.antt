@@ -28,7 +28,7 @@ pub record IsKept (t : WaitTable) : Type 0 where
 -- and there is room for the transaction of each admitted session
 pub record HasRoom (t : WaitTable) (room : ℕ) : Type 0 where
   pub kept : IsKept t
-  pub room : length t.admitted ≤ room
+  pub enough : length t.admitted ≤ room
 
 -- the first session waits on the second
 abbrev pub WaitsOn : WaitTable → ℕ → ℕ → Type 0

@@ -1,0 +1,21 @@
+use Rattle.std.proofs.Common.{rules, ◌≡◌, ◌≤◌, ℕ, [], true, false, length, IfOk, OnOk, OnErr, ◌+◌, ◌-◌, ◌*◌, ◌<◌, ◌/◌, ◌%◌, Bool, nat_eq, nat_lt, List, ◌∷◌, ◌++◌, slice_index_or, slice_set, bit_and, bit_or, Fits, w8, w32, w64, Bor, MutBor}
+use Rattle.wait_die.specs.Waiting.{IsAdmitted, is_open, is_waiting, admitting, started, ended}
+use Rattle.wait_die.specs.Turns.{turn_of, after_turn}
+use Rattle.wait_die.specs.Kept.{IsKept, HasNoCircle}
+use Rattle.wait_die.proofs.waits.Waits.admit.Goals as goal
+
+-- src/waits.rt:72:13
+pub returns-then-contains-clause-admitted : goal.returns-then-contains-clause-admitted
+returns-then-contains-clause-admitted c = ?
+
+-- src/waits.rt:65:5
+pub invariant_of-self-2 : goal.invariant_of-self-2
+invariant_of-self-2 c = ?
+
+-- src/waits.rt:65:5
+pub returns-clause-admitted : goal.returns-clause-admitted
+returns-clause-admitted c = ?
+
+-- src/waits.rt:65:5
+pub returns-clause-others : goal.returns-clause-others
+returns-clause-others c = ?
