@@ -38,13 +38,13 @@ older_has (s ∷ ss) a b h = at (s == a) refl (s == b) (older_has ss a b) h
 -- if an open transaction isn't older than another session, then the other's is older
 pub other_older : (ss : List ℕ) (a b : ℕ) → (a ≡ b → ⊥) → Has ss b → is_older ss b a ≡ false → is_older ss a b ≡ true
 other_older [] a b n h k = absurd h
-other_older (s ∷ ss) a b n h k = at (s == a) refl (s == b) refl k
+other_older (s ∷ ss) a b n h k = at (s == a) refl (s == b) refl (λ (i : Has ss b). other_older ss a b n i) k
   where
-    at : (x : Bool) → (s == a) ≡ x → (y : Bool) → (s == b) ≡ y → cond x false (cond y true (is_older ss b a)) ≡ false → cond y false (cond x true (is_older ss a b)) ≡ true
-    at true e true f k = absurd (n (sym (eqb-true s a e) ∙ eqb-true s b f))
-    at true e false f k = refl
-    at false e true f k = absurd (true≢false k)
-    at false e false f k = other_older ss a b n (⊎_elim (λ (i : s ≡ b). absurd (eqb-false s b f i)) (λ (i : Has ss b). i) h) k
+    at : (x : Bool) → (s == a) ≡ x → (y : Bool) → (s == b) ≡ y → (Has ss b → is_older ss b a ≡ false → is_older ss a b ≡ true) → cond x false (cond y true (is_older ss b a)) ≡ false → cond y false (cond x true (is_older ss a b)) ≡ true
+    at true e true f g k = absurd (n (sym (eqb-true s a e) ∙ eqb-true s b f))
+    at true e false f g k = refl
+    at false e true f g k = absurd (true≢false k)
+    at false e false f g k = g (⊎_elim (λ (i : s ≡ b). absurd (eqb-false s b f i)) (λ (i : Has ss b). i) h) k
 
 -- it stays so when others begin
 pub older_more : (ss ts : List ℕ) (a b : ℕ) → is_older ss a b ≡ true → is_older (ss ++ ts) a b ≡ true

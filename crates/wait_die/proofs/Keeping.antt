@@ -2,9 +2,9 @@
 use Rattle.std.proofs.Common.{◌≡◌, ◌⊎◌, inl, inr, ⊎_elim, ℕ, ◌+◌, ◌<◌, ◌≤◌, ◌&&◌, suc, Bool, true, false, List, [], ◌∷◌, ◌++◌, Option, Some, None, filter, length, refl, sym, ap, ◌∙◌, subst, arith}
 use Rattle.std.specs.Prelude.{MatchOption}
 use Rattle.std.proofs.lemmas.Bool.{true≢false, and_parts}
-use Rattle.lock_table.specs.Grants.{Has, joined}
+use Rattle.std.proofs.lemmas.List.{length_push}
+use Rattle.lock_table.specs.Grants.{Has}
 use Rattle.lock_table.proofs.Kept.{has_left, has_right, has_parts}
-use Rattle.lock_table.proofs.Rooms.{joined_old}
 use Rattle.wait_die.specs.declared.want.Want.{Want}
 use Rattle.wait_die.specs.declared.grant.Grant.{Grant}
 use Rattle.wait_die.specs.declared.grant.Waiting.{Waiting}
@@ -12,9 +12,9 @@ use Rattle.wait_die.specs.declared.loss.Loss.{Loss}
 use Rattle.wait_die.specs.declared.waits.Turn.{Turn}
 use Rattle.wait_die.specs.declared.waits.Turn.TheVariants.{Granted, Wait, Lost}
 use Rattle.wait_die.specs.Conflict.{conflict, conflicts}
-use Rattle.wait_die.specs.Waiting.{WaitTable, is_open, is_older, is_other, is_of_other, is_apart, added, admitting, started, ended}
+use Rattle.wait_die.specs.Waiting.{WaitTable, is_among, is_open, is_older, is_other, is_of_other, is_apart, added, started, ended}
 use Rattle.wait_die.specs.Turns.{loss_of, holder_of, turn_by, turn_of, wait}
-use Rattle.wait_die.specs.Kept.{AllDiffer, IsWait, IsKept}
+use Rattle.wait_die.specs.Kept.{AllDiffer, IsWait, IsKept, HasRoom}
 use Rattle.wait_die.specs.Laws.{NoneIsAhead, IsLoss, NoneIsAgainst, IsHolder}
 use Rattle.wait_die.proofs.Lists.{has_filtered, filtered_has, among_has, among_none, other_is, is_other_not, differ_pushed, differ_filtered, at_most}
 use Rattle.wait_die.proofs.Ages.{older_has, other_older, older_more, older_left}
@@ -25,13 +25,20 @@ use Rattle.wait_die.proofs.Adding.{added_old, added_only}
 pub kept_new : IsKept (record { begun = []; grants = []; waits = []; admitted = [] })
 kept_new = record { once = tt; admitted = λ s h. h; granted = λ g h. h; waits = λ x h. absurd h }
 
-pub kept_admitting : (t : WaitTable) (s : ℕ) → IsKept t → IsKept (admitting t s)
-kept_admitting t s k = record {
-  once = k.once;
-  admitted = λ x h. joined_old s t.admitted x (k.admitted x h);
-  granted = k.granted;
-  waits = λ x h. let w = k.waits x h in record { waiter = w.waiter; on = w.on; older = w.older; held = w.held };
+-- there is room for one session more
+pub room_admitting : (t : WaitTable) (s room more : ℕ) → HasRoom t room → length t.admitted + 1 ≤ more → HasRoom (record t { admitted = t.admitted ++ s ∷ [] }) more
+room_admitting t s room more h l = record {
+  kept = record {
+    once = h.kept.once;
+    admitted = λ x i. has_left t.admitted (s ∷ []) x (h.kept.admitted x i);
+    granted = h.kept.granted;
+    waits = λ x i. let w = h.kept.waits x i in record { waiter = w.waiter; on = w.on; older = w.older; held = w.held };
+  };
+  enough = let long = length_push t.admitted s in omega (arith, long, l);
 }
+
+pub room_kept : (t : WaitTable) (room more : ℕ) → HasRoom t room → room ≤ more → HasRoom t more
+room_kept t room more h l = record { kept = h.kept; enough = let e = h.enough in omega (arith, e, l) }
 
 pub kept_started : (t : WaitTable) (s : ℕ) → IsKept t → Has t.admitted s → is_open t s ≡ false → IsKept (started t s)
 kept_started t s k a n = record {
@@ -50,8 +57,10 @@ kept_started t s k a n = record {
 }
 
 -- there is room for one transaction more
-pub room_left : (t : WaitTable) (s room : ℕ) → IsKept t → length t.admitted ≤ room → Has t.admitted s → is_open t s ≡ false → length t.begun < room
-room_left t s room k r a n =
+pub room_left : (t : WaitTable) (s room : ℕ) → HasRoom t room → Has t.admitted s → is_open t s ≡ false → length t.begun < room
+room_left t s room h a n =
+    let k = h.kept in
+    let r = h.enough in
     let most = at_most (s ∷ t.begun) t.admitted (among_none s t.begun n, k.once) (λ z i. ⊎_elim (λ (e : s ≡ z). subst (λ (y : ℕ). Has t.admitted y) e a) (λ (j : Has t.begun z). k.admitted z j) i) in
     omega (arith, most, r)
 
@@ -136,3 +145,15 @@ kept_waited t s ws on k e = record {
   where
     here : (x : Waiting) → IsWait t x → IsWait (record t { waits = t.waits ++ wait s ws on ∷ [] }) x
     here x w = record { waiter = w.waiter; on = w.on; older = w.older; held = w.held }
+
+pub room_started : (t : WaitTable) (s room : ℕ) → HasRoom t room → Has t.admitted s → is_open t s ≡ false → HasRoom (started t s) room
+room_started t s room h a n = record { kept = kept_started t s h.kept a n; enough = h.enough }
+
+pub room_ended : (t : WaitTable) (s room : ℕ) → HasRoom t room → HasRoom (ended t s) room
+room_ended t s room h = record { kept = kept_ended t s h.kept; enough = h.enough }
+
+pub room_granted : (t : WaitTable) (s room : ℕ) (ws : List Want) → HasRoom t room → is_open t s ≡ true → HasRoom (record t { grants = added s ws t.grants }) room
+room_granted t s room ws h o = record { kept = kept_granted t s ws h.kept o; enough = h.enough }
+
+pub room_waited : (t : WaitTable) (s room : ℕ) (ws : List Want) (on : ℕ) → HasRoom t room → turn_of t s ws ≡ Wait on → HasRoom (record t { waits = t.waits ++ wait s ws on ∷ [] }) room
+room_waited t s room ws on h e = record { kept = kept_waited t s ws on h.kept e; enough = h.enough }

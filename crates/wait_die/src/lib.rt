@@ -15,13 +15,14 @@
 //! | `specs/Kept.antt` | what every table keeps, and that there is no circle |
 //! | `specs/Covers.antt`, `specs/Laws.antt`, `src/laws.rt` | wants beside needs, and laws of the words above |
 //! | `src/want.rt` | a want, and a list of them |
-//! | `src/waits.rt` | the table's calls |
+//! | `src/waits.rt`, `src/sessions.rt` | the table's calls |
 #![tactic(auto)]
 
 mod conflict;
 mod grant;
 mod laws;
 mod loss;
+mod sessions;
 mod stmt_wants;
 mod waits;
 mod want;

@@ -6,6 +6,7 @@ ghost use Rattle.wait_die.specs.Kept.{IsKept, HasNoCircle};
 
 use crate::grant::{Grant, Waiting, add_wants, drop_waits, drop_wants};
 use crate::loss::{holder_of, loss_of};
+use crate::sessions::{drop_session, reserve_for};
 use crate::want::{WaitLock, Wants};
 use std::alloc::{AllocError, Global};
 use std::marker::Model;
@@ -71,8 +72,7 @@ impl Waits {
         if self.admitted.contains(&session) {
             return Ok(());
         }
-        let more = (self.admitted.len() + 1).saturating_sub(self.begun.len());
-        self.begun.reserve(more)?;
+        reserve_for(&mut self.begun, self.admitted.len() + 1)?;
         self.admitted.push(session)?;
         Ok(())
     }
@@ -114,7 +114,7 @@ impl Waits {
     pub fn end(&mut self, session: u32)
         ensures { self.new ≡ ended self.old session }
     {
-        self.begun.retain(|other| *other != session);
+        drop_session(&mut self.begun, session);
         drop_wants(&mut self.grants, session);
         drop_waits(&mut self.waits, session);
     }

@@ -1,13 +1,10 @@
-use Rattle.std.proofs.Common.{rules, ◌≡◌, ◌≤◌, ℕ, [], true, false, length, IfOk, OnOk, OnErr, ◌+◌, ◌-◌, ◌*◌, ◌<◌, ◌/◌, ◌%◌, Bool, nat_eq, nat_lt, List, ◌∷◌, ◌++◌, slice_index_or, slice_set, bit_and, bit_or, Fits, w8, w32, w64, Bor, MutBor}
-use Rattle.wait_die.specs.Waiting.{IsAdmitted, is_open, is_waiting, admitting, started, ended}
-use Rattle.wait_die.specs.Turns.{turn_of, after_turn}
-use Rattle.wait_die.specs.Kept.{IsKept, HasNoCircle}
+use Rattle.std.proofs.Common.{◌≡◌}
+use Rattle.std.specs.Prelude.{vec_capacity}
+use Rattle.wait_die.specs.Waiting.{WaitTable}
+use Rattle.wait_die.proofs.Keeping.{room_ended}
 use Rattle.wait_die.proofs.waits.Waits.end.Goals as goal
 
--- src/waits.rt:114:5
 pub invariant_of-self : goal.invariant_of-self
-invariant_of-self c = ?
-
--- src/waits.rt:114:5
-pub returns : goal.returns
-returns c = ?
+invariant_of-self c =
+    let t : WaitTable = record { begun = c.self.inside.begun.items; grants = c.self.inside.grants.items; waits = c.self.inside.waits.items; admitted = c.self.inside.admitted.items } in
+    rw (c.drop_session.ensures.items, c.drop_session.ensures.room, c.drop_wants.ensures, c.drop_waits.ensures) (room_ended t c.args.session (vec_capacity c.self.inside.begun) c.self.invariant)

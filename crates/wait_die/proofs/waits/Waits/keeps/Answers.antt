@@ -1,9 +1,10 @@
-use Rattle.std.proofs.Common.{rules, ◌≡◌, ◌≤◌, ℕ, [], true, false, length, IfOk, OnOk, OnErr, ◌+◌, ◌-◌, ◌*◌, ◌<◌, ◌/◌, ◌%◌, Bool, nat_eq, nat_lt, List, ◌∷◌, ◌++◌, slice_index_or, slice_set, bit_and, bit_or, Fits, w8, w32, w64, Bor, MutBor}
-use Rattle.wait_die.specs.Waiting.{IsAdmitted, is_open, is_waiting, admitting, started, ended}
-use Rattle.wait_die.specs.Turns.{turn_of, after_turn}
-use Rattle.wait_die.specs.Kept.{IsKept, HasNoCircle}
+use Rattle.std.proofs.Common.{subst}
+use Rattle.wait_die.specs.Waiting.{WaitTable}
+use Rattle.wait_die.specs.Kept.{HasNoCircle}
+use Rattle.wait_die.proofs.Circles.{no_circle}
 use Rattle.wait_die.proofs.waits.Waits.keeps.Goals as goal
 
--- src/waits.rt:168:5
 pub returns-clause-no_circle : goal.returns-clause-no_circle
-returns-clause-no_circle c = ?
+returns-clause-no_circle c =
+    let t : WaitTable = record { begun = c.self.inside.begun.items; grants = c.self.inside.grants.items; waits = c.self.inside.waits.items; admitted = c.self.inside.admitted.items } in
+    subst (λ (u : WaitTable). HasNoCircle u) c.self.view_is (no_circle t c.self.invariant.kept)
