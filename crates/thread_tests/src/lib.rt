@@ -9,3 +9,5 @@ mod boards;
 mod db_hub_tests;
 #[cfg(test)]
 mod history_note_tests;
+#[cfg(test)]
+mod wait_die_tests;
