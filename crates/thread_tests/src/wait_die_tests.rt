@@ -1,5 +1,4 @@
 //! Lines of sessions at a table of waits. What each is told was worked out by hand.
-ghost use Rattle.std.specs.Prelude.{OnOk};
 ghost use Rattle.wait_die.specs.Waiting.{IsAdmitted};
 
 use crate::asserts::holds;

@@ -1,6 +1,5 @@
 -- Each call keeps what holds of a table of waits.
 use Rattle.std.proofs.Common.{◌≡◌, ◌⊎◌, inl, inr, ⊎_elim, ℕ, ◌+◌, ◌<◌, ◌≤◌, ◌&&◌, suc, Bool, true, false, List, [], ◌∷◌, ◌++◌, Option, Some, None, filter, length, refl, sym, ap, ◌∙◌, subst, arith}
-use Rattle.std.specs.Prelude.{MatchOption}
 use Rattle.std.proofs.lemmas.Bool.{true≢false, and_parts}
 use Rattle.std.proofs.lemmas.List.{length_push}
 use Rattle.lock_table.specs.Grants.{Has}
@@ -8,17 +7,16 @@ use Rattle.lock_table.proofs.Kept.{has_left, has_right, has_parts}
 use Rattle.wait_die.specs.declared.want.Want.{Want}
 use Rattle.wait_die.specs.declared.grant.Grant.{Grant}
 use Rattle.wait_die.specs.declared.grant.Waiting.{Waiting}
-use Rattle.wait_die.specs.declared.loss.Loss.{Loss}
 use Rattle.wait_die.specs.declared.waits.Turn.{Turn}
-use Rattle.wait_die.specs.declared.waits.Turn.TheVariants.{Granted, Wait, Lost}
+use Rattle.wait_die.specs.declared.waits.Turn.TheVariants.{Wait}
 use Rattle.wait_die.specs.Conflict.{conflict, conflicts}
 use Rattle.wait_die.specs.Waiting.{WaitTable, is_among, is_open, is_older, is_other, is_of_other, is_apart, added, started, ended}
-use Rattle.wait_die.specs.Turns.{loss_of, holder_of, turn_by, turn_of, wait}
+use Rattle.wait_die.specs.Turns.{turn_of, wait}
 use Rattle.wait_die.specs.Kept.{AllDiffer, IsWait, IsKept, HasRoom}
-use Rattle.wait_die.specs.Laws.{NoneIsAhead, IsLoss, NoneIsAgainst, IsHolder}
+use Rattle.wait_die.specs.Laws.{NoneIsAhead, IsHolder, Says}
 use Rattle.wait_die.proofs.Lists.{has_filtered, filtered_has, among_has, among_none, other_is, is_other_not, differ_pushed, differ_filtered, at_most}
 use Rattle.wait_die.proofs.Ages.{older_has, other_older, older_more, older_left}
-use Rattle.wait_die.proofs.Losing.{loss_law, holder_law, conflicts_has}
+use Rattle.wait_die.proofs.Losing.{turn_law, conflicts_has}
 use Rattle.wait_die.proofs.Adding.{added_old, added_only}
 
 -- a table without sessions
@@ -97,12 +95,6 @@ kept_granted t s ws k o = record {
   };
 }
 
--- who waits has lost to nobody, and has found a holder
-wait_parts : (o : Option Loss) (u : Option ℕ) (on : ℕ) → turn_by o u ≡ Wait on → (o ≡ None) × (u ≡ Some on)
-wait_parts (Some l) u on e = absurd cc
-wait_parts None (Some x) on e = let same : x ≡ on = cc in (refl, ap (λ (y : ℕ). Some y) same)
-wait_parts None None on e = absurd cc
-
 -- the holder is a younger transaction, and has a conflicting want
 younger : (t : WaitTable) (s : ℕ) (ws : List Want) (on : ℕ) → IsKept t → NoneIsAhead t.begun s ws t.grants → IsHolder s ws t.grants on → IsWait t (wait s ws on)
 younger t s ws on k none h =
@@ -125,12 +117,8 @@ younger t s ws on k none h =
     at g w h i c false e = e
 
 -- a wait on a session that is told to be waited on
-pub is_wait : (t : WaitTable) (s : ℕ) (ws : List Want) (on : ℕ) → IsKept t → turn_of t s ws ≡ Wait on → IsWait t (wait s ws on)
-is_wait t s ws on k e =
-    let two = wait_parts (loss_of t.begun s ws t.grants) (holder_of s ws t.grants) on e in
-    younger t s ws on k
-    (subst (λ (o : Option Loss). MatchOption o (NoneIsAhead t.begun s ws t.grants) (λ loss. IsLoss t.begun s ws t.grants loss)) two.0 (loss_law t.begun s ws t.grants))
-    (subst (λ (o : Option ℕ). MatchOption o (NoneIsAgainst s ws t.grants) (λ by. IsHolder s ws t.grants by)) two.1 (holder_law s ws t.grants))
+is_wait : (t : WaitTable) (s : ℕ) (ws : List Want) (on : ℕ) → IsKept t → turn_of t s ws ≡ Wait on → IsWait t (wait s ws on)
+is_wait t s ws on k e = let says = subst (λ (u : Turn). Says t s ws u) e (turn_law t s ws) in younger t s ws on k says.0 says.1
 
 pub kept_waited : (t : WaitTable) (s : ℕ) (ws : List Want) (on : ℕ) → IsKept t → turn_of t s ws ≡ Wait on → IsKept (record t { waits = t.waits ++ wait s ws on ∷ [] })
 kept_waited t s ws on k e = record {

@@ -8,9 +8,9 @@ use Rattle.wait_die.specs.declared.want.Want.{Want}
 use Rattle.wait_die.specs.declared.grant.Grant.{Grant}
 use Rattle.wait_die.specs.declared.loss.Loss.{Loss}
 use Rattle.wait_die.specs.Conflict.{conflict, conflicts}
-use Rattle.wait_die.specs.Waiting.{is_older, is_of_other}
-use Rattle.wait_die.specs.Turns.{lesser, least_session, is_ahead, is_against, lesser_loss, with_loss, loss_of, holder_of}
-use Rattle.wait_die.specs.Laws.{IsAhead, NoneIsAhead, IsLoss, LossLaw, IsAgainst, NoneIsAgainst, IsHolder, HolderLaw}
+use Rattle.wait_die.specs.Waiting.{WaitTable, is_older, is_of_other}
+use Rattle.wait_die.specs.Turns.{lesser, least_session, is_ahead, is_against, lesser_loss, with_loss, loss_of, holder_of, turn_by}
+use Rattle.wait_die.specs.Laws.{IsAhead, NoneIsAhead, IsLoss, IsAgainst, NoneIsAgainst, IsHolder, Says, TurnLaw}
 use Rattle.wait_die.proofs.Lists.{other_is, is_other_not}
 use Rattle.wait_die.proofs.Locks.{is_first, not_first, not_before, not_earlier, lock_least, session_least, not_first_by}
 
@@ -68,7 +68,7 @@ is_against_from s ws gs g h e =
     let two = and_parts (is_of_other s g) (conflicts ws g.want) e in
     record { granted = h; other = is_other_not s g.session two.0; conflicting = two.1 }
 
-pub holder_law : HolderLaw
+pub holder_law : (s : ℕ) (ws : List Want) (gs : List Grant) → MatchOption (holder_of s ws gs) (NoneIsAgainst s ws gs) (λ by. IsHolder s ws gs by)
 holder_law s ws gs = at (holder_of s ws gs) (least_is (is_against s ws) gs)
   where
     at : (o : Option ℕ) → IsLeast (is_against s ws) gs o → MatchOption o (NoneIsAgainst s ws gs) (λ by. IsHolder s ws gs by)
@@ -157,7 +157,7 @@ loss_first : (begun : List ℕ) (s : ℕ) (ws : List Want) (gs : List Grant) →
 loss_first begun s [] gs = λ q a. a.2.wanted
 loss_first begun s (w ∷ ws) gs = loss_at begun s w ws gs (least_session (is_ahead begun s w) gs) (least_is (is_ahead begun s w) gs) (loss_of begun s ws gs) (loss_first begun s ws gs)
 
-pub loss_law : LossLaw
+pub loss_law : (begun : List ℕ) (s : ℕ) (ws : List Want) (gs : List Grant) → MatchOption (loss_of begun s ws gs) (NoneIsAhead begun s ws gs) (λ loss. IsLoss begun s ws gs loss)
 loss_law begun s ws gs = at (loss_of begun s ws gs) (loss_first begun s ws gs)
   where
     at : (u : Option Loss) → IsFirst (Ahead begun s ws gs) u → MatchOption u (NoneIsAhead begun s ws gs) (λ loss. IsLoss begun s ws gs loss)
@@ -175,3 +175,14 @@ conflicts_has (w ∷ ws) v e = ⊎_elim
     (λ (a : conflict w v ≡ true). (w, inl refl, a))
     (λ (a : conflicts ws v ≡ true). let r = conflicts_has ws v a in (r.0, inr r.1, r.2))
     (or_cases (conflict w v) (conflicts ws v) e)
+
+-- the answer is by the loss, or else by the holder
+pub turn_law : TurnLaw
+turn_law t s ws = at (loss_of t.begun s ws t.grants) (loss_law t.begun s ws t.grants) (holder_of s ws t.grants) (holder_law s ws t.grants)
+  where
+    at : (u : Option Loss) → MatchOption u (NoneIsAhead t.begun s ws t.grants) (λ loss. IsLoss t.begun s ws t.grants loss)
+        → (o : Option ℕ) → MatchOption o (NoneIsAgainst s ws t.grants) (λ by. IsHolder s ws t.grants by)
+        → Says t s ws (turn_by u o)
+    at (Some loss) h o k = h
+    at None h (Some on) k = (h, k)
+    at None h None k = (h, k)

@@ -1,13 +1,15 @@
 -- What the words of a table of waits say of single grants.
-use Rattle.std.specs.Prelude.{◌≡◌, ◌⊎◌, ◌↔◌, ℕ, ◌≤◌, true, false, List, MatchOption}
+use Rattle.std.specs.Prelude.{◌≡◌, ◌⊎◌, ◌↔◌, ℕ, ◌≤◌, true, false, List}
 use Rattle.lock_table.specs.Grants.{Has}
 use Rattle.wait_die.specs.declared.want.WaitLock.{WaitLock}
 use Rattle.wait_die.specs.declared.want.Want.{Want}
 use Rattle.wait_die.specs.declared.grant.Grant.{Grant}
 use Rattle.wait_die.specs.declared.loss.Loss.{Loss}
+use Rattle.wait_die.specs.declared.waits.Turn.{Turn}
+use Rattle.wait_die.specs.declared.waits.Turn.TheVariants.{Granted, Wait, Lost}
 use Rattle.wait_die.specs.Conflict.{is_below, conflict, conflicts, includes}
 use Rattle.wait_die.specs.Waiting.{WaitTable, is_older, added, ended}
-use Rattle.wait_die.specs.Turns.{is_ahead, is_against, loss_of, holder_of}
+use Rattle.wait_die.specs.Turns.{turn_of}
 
 -- an older session has a want that conflicts with this one of the asker
 pub record IsAhead (begun : List ℕ) (session : ℕ) (ws : List Want) (gs : List Grant) (w : Want) (g : Grant) : Type 0 where
@@ -26,11 +28,6 @@ pub record IsLoss (begun : List ℕ) (session : ℕ) (ws : List Want) (gs : List
   pub least_lock : (w : Want) (g : Grant) → IsAhead begun session ws gs w g → is_below w.lock loss.lock ≡ false
   pub least_session : (w : Want) (g : Grant) → IsAhead begun session ws gs w g → w.lock ≡ loss.lock → loss.by ≤ g.session
 
--- a loss is named exactly where an older session has a conflicting want, and it is the least one
-abbrev pub LossLaw : Type 0
-LossLaw = (begun : List ℕ) (session : ℕ) (ws : List Want) (gs : List Grant)
-    → MatchOption (loss_of begun session ws gs) (NoneIsAhead begun session ws gs) (λ loss. IsLoss begun session ws gs loss)
-
 -- another session has a want that conflicts with one of the asker's
 pub record IsAgainst (session : ℕ) (ws : List Want) (gs : List Grant) (g : Grant) : Type 0 where
   pub granted : Has gs g
@@ -46,10 +43,15 @@ pub record IsHolder (session : ℕ) (ws : List Want) (gs : List Grant) (by : ℕ
   pub found : (g : Grant) × IsAgainst session ws gs g × (g.session ≡ by)
   pub least : (g : Grant) → IsAgainst session ws gs g → by ≤ g.session
 
--- a holder is named exactly where another session has a conflicting want, and it is the least one
-abbrev pub HolderLaw : Type 0
-HolderLaw = (session : ℕ) (ws : List Want) (gs : List Grant)
-    → MatchOption (holder_of session ws gs) (NoneIsAgainst session ws gs) (λ by. IsHolder session ws gs by)
+-- what an answer says: it is lost where an older session has a conflicting want, or else waits where another one has, or else is granted
+abbrev pub Says : WaitTable → ℕ → List Want → Turn → Type 0
+Says t session ws (Lost lock by) = IsLoss t.begun session ws t.grants (record { lock = lock; by = by })
+Says t session ws (Wait on) = NoneIsAhead t.begun session ws t.grants × IsHolder session ws t.grants on
+Says t session ws Granted = NoneIsAhead t.begun session ws t.grants × NoneIsAgainst session ws t.grants
+
+-- a session is told what is so
+abbrev pub TurnLaw : Type 0
+TurnLaw = (t : WaitTable) (session : ℕ) (ws : List Want) → Says t session ws (turn_of t session ws)
 
 -- a session has a granted want that includes this one
 abbrev pub HasWant : List Grant → ℕ → Want → Type 0

@@ -1,12 +1,11 @@
 //! What the words of the table's clauses mean, and how wants cover needs.
-ghost use Rattle.wait_die.specs.Laws.{LossLaw, HolderLaw, AddedLaw, IncludesLaw, EndedLaw};
+ghost use Rattle.wait_die.specs.Laws.{TurnLaw, AddedLaw, IncludesLaw, EndedLaw};
 ghost use Rattle.wait_die.specs.Covers.{NeedsLaw, ConflictLaw, CoverLaw, StaysLaw, LinesLaw};
 
-/// It does nothing. Its clauses are laws for callers' proofs: what losses, holders, grants and ends
-/// are, want by want.
+/// It does nothing. Its clauses are laws for callers' proofs: what an answer says, and what a grant and
+/// an end leave, want by want.
 pub fn wait_laws()
-    ensures loss { LossLaw }
-    ensures holder { HolderLaw }
+    ensures turn { TurnLaw }
     ensures added { AddedLaw }
     ensures includes { IncludesLaw }
     ensures ended { EndedLaw }

@@ -5,7 +5,7 @@ ghost use Rattle.wait_die.specs.Turns.{turn_of, after_turn};
 ghost use Rattle.wait_die.specs.Kept.{IsKept, HasNoCircle};
 
 use crate::grant::{Grant, Waiting, add_wants, drop_waits, drop_wants};
-use crate::loss::{holder_of, loss_of};
+use crate::loss::{Loss, holder_of, loss_of};
 use crate::sessions::{drop_session, reserve_for};
 use crate::want::{WaitLock, Wants};
 use std::alloc::{AllocError, Global};
@@ -97,15 +97,12 @@ impl Waits {
         ensures err { OnErr result (self.new ≡ self.old) }
     {
         let asked = wants.as_slice();
-        if let Some(loss) = loss_of(&self.begun, session, asked, &self.grants) {
-            return Ok(Turn::Lost {
-                lock: loss.lock,
-                by: loss.by,
-            });
-        }
-        match holder_of(session, asked, &self.grants) {
-            None => self.grant(session, wants),
-            Some(on) => self.wait(session, wants, on),
+        match loss_of(&self.begun, session, asked, &self.grants) {
+            Some(Loss { lock, by }) => Ok(Turn::Lost { lock, by }),
+            None => match holder_of(session, asked, &self.grants) {
+                Some(on) => self.wait(session, wants, on),
+                None => self.grant(session, wants),
+            },
         }
     }
 
@@ -135,7 +132,6 @@ impl Waits {
 
     // Grants wants that nobody's conflict with.
     fn grant(&mut self, session: u32, wants: &Wants) -> Result<Turn, AllocError>
-        requires { turn_of self.old session wants.now ≡ Turn.Granted }
         ensures turn { IfOk result (λ turn. turn ≡ Turn.Granted) }
         ensures left { IfOk result (λ turn. self.new ≡ after_turn self.old session wants.now turn) }
         ensures err { OnErr result (self.new ≡ self.old) }

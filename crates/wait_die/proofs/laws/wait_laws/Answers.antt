@@ -1,12 +1,9 @@
-use Rattle.wait_die.proofs.Losing.{loss_law, holder_law}
+use Rattle.wait_die.proofs.Losing.{turn_law}
 use Rattle.wait_die.proofs.Adding.{added_law, includes_law, ended_law}
 use Rattle.wait_die.proofs.laws.wait_laws.Goals as goal
 
-pub returns-clause-loss : goal.returns-clause-loss
-returns-clause-loss c = loss_law
-
-pub returns-clause-holder : goal.returns-clause-holder
-returns-clause-holder c = holder_law
+pub returns-clause-turn : goal.returns-clause-turn
+returns-clause-turn c = turn_law
 
 pub returns-clause-added : goal.returns-clause-added
 returns-clause-added c = added_law
