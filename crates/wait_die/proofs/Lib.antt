@@ -7,3 +7,4 @@ pub mod Losing
 pub mod Adding
 pub mod Keeping
 pub mod Covering
+pub mod RowLemmas

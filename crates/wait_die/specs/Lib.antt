@@ -5,3 +5,4 @@ pub mod Turns
 pub mod Kept
 pub mod Laws
 pub mod Covers
+pub mod CoveredRows
