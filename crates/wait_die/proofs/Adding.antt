@@ -1,14 +1,14 @@
 -- What a session's grants are after wants were added or taken back.
-use Rattle.std.proofs.Common.{◌≡◌, ◌⊎◌, inl, inr, ⊎_elim, ℕ, ◌==◌, not, ◌&&◌, ◌||◌, Bool, true, false, cond, List, [], ◌∷◌, ◌++◌, refl, sym, ap, ◌∙◌, subst}
+use Rattle.std.proofs.Common.{◌≡◌, ◌⊎◌, inl, inr, ⊎_elim, ℕ, ◌==◌, not, ◌&&◌, ◌||◌, Bool, true, false, cond, List, [], ◌∷◌, ◌++◌, refl, sym, ap, subst}
 use Rattle.std.proofs.lemmas.Bool.{eqb-true, false≢true, and_from, and_parts, or_cases}
 use Rattle.lock_table.specs.Grants.{Has}
 use Rattle.lock_table.proofs.Kept.{has_left, has_right, has_parts}
 use Rattle.wait_die.specs.declared.want.WaitLock.{WaitLock}
 use Rattle.wait_die.specs.declared.want.Want.{Want}
 use Rattle.wait_die.specs.declared.grant.Grant.{Grant}
-use Rattle.wait_die.specs.Conflict.{same_lock, meets, conflict, includes}
-use Rattle.wait_die.specs.Waiting.{WaitTable, has_want, grant, granted, added, is_of_other}
-use Rattle.wait_die.specs.Laws.{HasWant, IsAdded, AddedLaw, IncludesLaw, EndedLaw}
+use Rattle.wait_die.specs.Conflict.{same_lock, meets, includes}
+use Rattle.wait_die.specs.Waiting.{has_want, grant, granted, added, is_of_other}
+use Rattle.wait_die.specs.Laws.{HasWant, AddedLaw, IncludesLaw, EndedLaw}
 use Rattle.wait_die.proofs.Lists.{has_filtered, filtered_has, other_is, is_other_not}
 use Rattle.wait_die.proofs.Locks.{same_is, is_same}
 

@@ -1,15 +1,13 @@
 -- Wants cover needs, so lines with conflicting needs have conflicting wants.
-use Rattle.std.proofs.Common.{◌≡◌, ◌⊎◌, inl, inr, ⊎_elim, ℕ, ◌==◌, nat_lt, not, ◌&&◌, ◌||◌, suc, zero, Bool, true, false, cond, List, [], ◌∷◌, ◌++◌, Option, Some, None, length, get_or, refl, sym, ap, ◌∙◌, subst, arith}
-use Rattle.std.proofs.lemmas.Bool.{eqb-true, eq-eqb, ne_eqb, true≢false, false≢true, and_from, and_parts}
+use Rattle.std.proofs.Common.{◌≡◌, ◌⊎◌, inl, inr, ⊎_elim, ℕ, ◌==◌, nat_lt, not, ◌||◌, suc, zero, Bool, true, false, cond, List, [], ◌∷◌, ◌++◌, Option, Some, None, length, refl, sym, ap, ◌∙◌, subst, arith}
+use Rattle.std.proofs.lemmas.Bool.{eqb-true, eq-eqb, ne_eqb, false≢true, and_from, and_parts}
 use Rattle.std.proofs.lemmas.List.Quantifiers.{position-Some}
 use Rattle.db_value.specs.Text.{same}
 use Rattle.db_value.proofs.Same.{bytes_is, bytes_same}
 use Rattle.db_value.specs.declared.version.VersionName.{VersionName}
-use Rattle.db_value.specs.declared.version.VersionPlace.{VersionPlace}
 use Rattle.db_store.specs.Dataset.{Dataset, Branch as StoredBranch, no_branch, branch_at, branch_named}
-use Rattle.db_store.specs.Found.{Found, NoPosition, place_found, found_by}
+use Rattle.db_store.specs.Found.{NoPosition, place_found, found_by}
 use Rattle.lock_table.specs.declared.need.Need.{Need}
-use Rattle.lock_table.specs.Rows.{conflict as needs_conflict}
 use Rattle.lock_table.specs.Grants.{Has}
 use Rattle.lock_table.proofs.Kept.{has_left, has_right, has_parts}
 use Rattle.stmt_text.specs.declared.stmt.Stmt.{Stmt}
@@ -22,8 +20,8 @@ use Rattle.wait_die.specs.declared.want.WaitLock.{WaitLock}
 use Rattle.wait_die.specs.declared.want.WaitLock.TheVariants.{Catalogue, Heads, Branch}
 use Rattle.wait_die.specs.declared.want.Want.{Want}
 use Rattle.wait_die.specs.Wants.{shared, exclusive, version_wants, names_wants, heads_wants, source_wants, scan_wants, wants}
-use Rattle.wait_die.specs.Conflict.{same_lock, meets, conflict, includes}
-use Rattle.wait_die.specs.Covers.{is_lock_of, stands_for, covers, IsCovered, NeedsLaw, ConflictLaw, CoverLaw, StaysLaw, HaveConflict, LinesLaw}
+use Rattle.wait_die.specs.Conflict.{same_lock, meets}
+use Rattle.wait_die.specs.Covers.{is_lock_of, stands_for, covers, IsCovered, NeedsLaw, ConflictLaw, CoverLaw, StaysLaw, LinesLaw}
 use Rattle.wait_die.proofs.Locks.{same_is}
 
 module _ (d : Dataset) where

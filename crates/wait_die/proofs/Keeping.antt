@@ -1,27 +1,23 @@
 -- Each call keeps what holds of a table of waits.
-use Rattle.std.proofs.Common.{◌≡◌, ◌⊎◌, inl, inr, ⊎_elim, ℕ, ◌+◌, ◌<◌, ◌≤◌, ◌&&◌, suc, Bool, true, false, List, [], ◌∷◌, ◌++◌, Option, Some, None, filter, length, refl, sym, ap, ◌∙◌, subst, arith}
-use Rattle.std.proofs.lemmas.Bool.{true≢false, and_parts}
+use Rattle.std.proofs.Common.{◌≡◌, ◌⊎◌, ⊎_elim, ℕ, ◌+◌, ◌<◌, ◌≤◌, Bool, true, false, List, [], ◌∷◌, ◌++◌, length, refl, sym, ap, ◌∙◌, subst, arith}
+use Rattle.std.proofs.lemmas.Bool.{and_parts}
 use Rattle.std.proofs.lemmas.List.{length_push}
 use Rattle.lock_table.specs.Grants.{Has}
-use Rattle.lock_table.proofs.Kept.{has_left, has_right, has_parts}
+use Rattle.lock_table.proofs.Kept.{has_left, has_parts}
 use Rattle.wait_die.specs.declared.want.Want.{Want}
 use Rattle.wait_die.specs.declared.grant.Grant.{Grant}
 use Rattle.wait_die.specs.declared.grant.Waiting.{Waiting}
 use Rattle.wait_die.specs.declared.waits.Turn.{Turn}
 use Rattle.wait_die.specs.declared.waits.Turn.TheVariants.{Wait}
-use Rattle.wait_die.specs.Conflict.{conflict, conflicts}
-use Rattle.wait_die.specs.Waiting.{WaitTable, is_among, is_open, is_older, is_other, is_of_other, is_apart, added, started, ended}
+use Rattle.wait_die.specs.Conflict.{conflict}
+use Rattle.wait_die.specs.Waiting.{WaitTable, is_open, is_older, is_other, is_of_other, is_apart, added, started, ended}
 use Rattle.wait_die.specs.Turns.{turn_of, wait}
-use Rattle.wait_die.specs.Kept.{AllDiffer, IsWait, IsKept, HasRoom}
+use Rattle.wait_die.specs.Kept.{IsWait, IsKept, HasRoom}
 use Rattle.wait_die.specs.Laws.{NoneIsAhead, IsHolder, Says}
-use Rattle.wait_die.proofs.Lists.{has_filtered, filtered_has, among_has, among_none, other_is, is_other_not, differ_pushed, differ_filtered, at_most}
+use Rattle.wait_die.proofs.Lists.{has_filtered, filtered_has, among_has, among_none, is_other_not, differ_pushed, differ_filtered, at_most}
 use Rattle.wait_die.proofs.Ages.{older_has, other_older, older_more, older_left}
 use Rattle.wait_die.proofs.Losing.{turn_law, conflicts_has}
 use Rattle.wait_die.proofs.Adding.{added_old, added_only}
-
--- a table without sessions
-pub kept_new : IsKept (record { begun = []; grants = []; waits = []; admitted = [] })
-kept_new = record { once = tt; admitted = λ s h. h; granted = λ g h. h; waits = λ x h. absurd h }
 
 -- there is room for one session more
 pub room_admitting : (t : WaitTable) (s room more : ℕ) → HasRoom t room → length t.admitted + 1 ≤ more → HasRoom (record t { admitted = t.admitted ++ s ∷ [] }) more
@@ -34,9 +30,6 @@ room_admitting t s room more h l = record {
   };
   enough = let long = length_push t.admitted s in omega (arith, long, l);
 }
-
-pub room_kept : (t : WaitTable) (room more : ℕ) → HasRoom t room → room ≤ more → HasRoom t more
-room_kept t room more h l = record { kept = h.kept; enough = let e = h.enough in omega (arith, e, l) }
 
 pub kept_started : (t : WaitTable) (s : ℕ) → IsKept t → Has t.admitted s → is_open t s ≡ false → IsKept (started t s)
 kept_started t s k a n = record {

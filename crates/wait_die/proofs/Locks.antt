@@ -1,11 +1,11 @@
 -- Locks that are one, and the order of locks and of losses.
-use Rattle.std.proofs.Common.{◌≡◌, ◌⊎◌, inl, inr, ⊎_elim, ℕ, ◌<◌, ◌≤◌, ◌==◌, nat_lt, ◌&&◌, ◌||◌, Bool, true, false, List, refl, sym, ap, ◌∙◌, subst, arith}
+use Rattle.std.proofs.Common.{◌≡◌, ◌⊎◌, inl, inr, ⊎_elim, ℕ, ◌<◌, ◌≤◌, nat_lt, ◌&&◌, ◌||◌, Bool, true, false, List, refl, sym, ap, ◌∙◌, subst, arith}
 use Rattle.std.specs.Ordering.{is_lt, nat_cmp, ordering_reverse}
 use Rattle.std.specs.declared.cmp.Ordering.{Ordering}
 use Rattle.std.specs.declared.cmp.Ordering.TheVariants.{Less, Equal, Greater}
 use Rattle.std.specs.Cmp.Lexicographic.{slice_cmp}
 use Rattle.std.specs.FinMap.{nat_cmp-IsAntisymmetric, slice_cmp-IsAntisymmetric}
-use Rattle.std.proofs.lemmas.Bool.{true≢false, false≢true, and_from, and_parts, or_left, or_right, or_cases, or_parts, and_cases, cases_lt, ltb-true, ltb-false, lt-ltb, le-ltb}
+use Rattle.std.proofs.lemmas.Bool.{true≢false, false≢true, and_from, and_parts, or_left, or_right, or_cases, or_parts, cases_lt, ltb-true, lt-ltb}
 use Rattle.std.proofs.lemmas.Cmp.{nat_list_cmp_total, tied_itself}
 use Rattle.db_value.proofs.Same.{bytes_is, bytes_same}
 use Rattle.wait_die.specs.declared.want.WaitLock.{WaitLock}
@@ -130,16 +130,6 @@ first_cases p q e =
         (λ (b : p.by < q.by). absurd (true≢false (sym (by_session p q a b) ∙ e)))
         (λ (b : q.by ≤ p.by). b)
         (cases_lt p.by q.by)
-
-pub not_first : (p : Loss) → is_first p p ≡ false
-not_first p = at (is_first p p) refl
-  where
-    at : (b : Bool) → is_first p p ≡ b → b ≡ false
-    at true e = ⊎_elim
-        (λ (a : is_below p.lock p.lock ≡ true). absurd (true≢false (sym a ∙ not_below p.lock)))
-        (λ (a : (p.lock ≡ p.lock) × (p.by < p.by)). let l = a.1 in absurd (omega (arith, l)))
-        (first_parts p p e)
-    at false e = refl
 
 -- what isn't before the later one isn't before the first one
 pub not_before : (r p q : Loss) → is_first p q ≡ true → is_first r q ≡ false → is_first r p ≡ false

@@ -1,18 +1,17 @@
 -- Losses and holders are found where there are any, and are the least ones.
-use Rattle.std.proofs.Common.{◌≡◌, ◌⊎◌, inl, inr, ⊎_elim, ℕ, ◌<◌, ◌≤◌, nat_lt, ◌&&◌, ◌||◌, Bool, true, false, cond, List, [], ◌∷◌, Option, Some, None, refl, sym, ap, ◌∙◌, subst, arith}
+use Rattle.std.proofs.Common.{◌≡◌, ◌⊎◌, inl, inr, ⊎_elim, ℕ, ◌<◌, ◌≤◌, nat_lt, Bool, true, false, cond, List, [], ◌∷◌, Option, Some, None, refl, sym, ap, ◌∙◌, subst, arith}
 use Rattle.std.specs.Prelude.{MatchOption}
-use Rattle.std.proofs.lemmas.Bool.{true≢false, false≢true, and_from, and_parts, or_left, or_right, or_cases, ltb-true, ltb-false}
+use Rattle.std.proofs.lemmas.Bool.{false≢true, and_from, and_parts, or_cases, ltb-true, ltb-false}
 use Rattle.lock_table.specs.Grants.{Has}
-use Rattle.wait_die.specs.declared.want.WaitLock.{WaitLock}
 use Rattle.wait_die.specs.declared.want.Want.{Want}
 use Rattle.wait_die.specs.declared.grant.Grant.{Grant}
 use Rattle.wait_die.specs.declared.loss.Loss.{Loss}
 use Rattle.wait_die.specs.Conflict.{conflict, conflicts}
-use Rattle.wait_die.specs.Waiting.{WaitTable, is_older, is_of_other}
+use Rattle.wait_die.specs.Waiting.{is_older, is_of_other}
 use Rattle.wait_die.specs.Turns.{lesser, least_session, is_ahead, is_against, lesser_loss, with_loss, loss_of, holder_of, turn_by}
 use Rattle.wait_die.specs.Laws.{IsAhead, NoneIsAhead, IsLoss, IsAgainst, NoneIsAgainst, IsHolder, Says, TurnLaw}
 use Rattle.wait_die.proofs.Lists.{other_is, is_other_not}
-use Rattle.wait_die.proofs.Locks.{is_first, not_first, not_before, not_earlier, lock_least, session_least, not_first_by}
+use Rattle.wait_die.proofs.Locks.{is_first, not_before, not_earlier, lock_least, session_least, not_first_by}
 
 -- o is the least session with a grant that meets the test, if there is one
 abbrev pub IsLeast : (Grant → Bool) → List Grant → Option ℕ → Type 0
@@ -110,9 +109,6 @@ abbrev By : List ℕ → ℕ → Want → List Grant → Loss → Type 0
 By begun s w gs p = (g : Grant) × Has gs g × (is_ahead begun s w g ≡ true) × (w.lock ≡ p.lock) × (g.session ≡ p.by)
 
 module _ (begun : List ℕ) (s : ℕ) (w : Want) (ws : List Want) (gs : List Grant) where
-  tested : (g : Grant) → IsAhead begun s (w ∷ ws) gs w g → is_ahead begun s w g ≡ true
-  tested g a = and_from (conflict w g.want) (is_older begun g.session s) a.conflicting a.older
-
   more : (v : Want) (g : Grant) → IsAhead begun s ws gs v g → IsAhead begun s (w ∷ ws) gs v g
   more v g a = record { wanted = inr a.wanted; granted = a.granted; conflicting = a.conflicting; older = a.older }
 

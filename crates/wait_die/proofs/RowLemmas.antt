@@ -1,15 +1,14 @@
 -- Rows that are covered by granted wants: none holds a line whose wants nobody's conflict with, and they stay covered.
-use Rattle.std.proofs.Common.{◌≡◌, ◌⊎◌, inl, inr, ⊎_elim, ℕ, ◌==◌, ◌&&◌, not, Bool, true, false, cond, List, [], ◌∷◌, Option, Some, None, refl, sym, ap, ◌∙◌, subst}
-use Rattle.std.proofs.lemmas.Bool.{eq-eqb, true≢false, false≢true, and_parts, or_left, or_right, or_cases}
+use Rattle.std.proofs.Common.{◌≡◌, ◌⊎◌, inl, inr, ⊎_elim, ℕ, ◌==◌, not, Bool, true, false, cond, List, [], ◌∷◌, Option, Some, None, refl, sym, ◌∙◌, subst}
+use Rattle.std.proofs.lemmas.Bool.{false≢true, and_parts, or_left, or_right, or_cases}
 use Rattle.db_store.specs.Dataset.{Dataset}
 use Rattle.lock_table.specs.declared.need.Need.{Need}
 use Rattle.lock_table.specs.Rows.{Row, conflict as needs_conflict, conflicts as needs_conflicts, blocks, lesser, holder}
-use Rattle.lock_table.specs.Grants.{Has, added as rows_added, without}
+use Rattle.lock_table.specs.Grants.{Has}
 use Rattle.lock_table.proofs.Added.{added_law as rows_added_law, without_law}
 use Rattle.wait_die.specs.declared.want.Want.{Want}
 use Rattle.wait_die.specs.declared.grant.Grant.{Grant}
-use Rattle.wait_die.specs.Conflict.{conflict, conflicts, includes}
-use Rattle.wait_die.specs.Waiting.{added}
+use Rattle.wait_die.specs.Conflict.{conflict, conflicts}
 use Rattle.wait_die.specs.Laws.{NoneIsAgainst}
 use Rattle.wait_die.specs.CoveredRows.{IsRowCovered, AreCovered, CoverNeeds, NotHeldLaw, GrantedRowsLaw, EndedRowsLaw, RowsStayLaw}
 use Rattle.wait_die.proofs.Lists.{is_other_not}

@@ -1,5 +1,5 @@
 -- A lock table beside a table of waits: each granted need is covered by a granted want of the same session.
-use Rattle.std.specs.Prelude.{◌≡◌, ℕ, true, List, Option, Some, None}
+use Rattle.std.specs.Prelude.{◌≡◌, ℕ, true, List, Some, None}
 use Rattle.db_store.specs.Dataset.{Dataset, branch_named}
 use Rattle.lock_table.specs.declared.need.Need.{Need}
 use Rattle.lock_table.specs.Rows.{Row, holder}

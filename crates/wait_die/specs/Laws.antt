@@ -1,7 +1,6 @@
 -- What the words of a table of waits say of single grants.
 use Rattle.std.specs.Prelude.{◌≡◌, ◌⊎◌, ◌↔◌, ℕ, ◌≤◌, true, false, List}
 use Rattle.lock_table.specs.Grants.{Has}
-use Rattle.wait_die.specs.declared.want.WaitLock.{WaitLock}
 use Rattle.wait_die.specs.declared.want.Want.{Want}
 use Rattle.wait_die.specs.declared.grant.Grant.{Grant}
 use Rattle.wait_die.specs.declared.loss.Loss.{Loss}

@@ -1,5 +1,5 @@
 -- What a session is told that asks for its wants, and what that leaves.
-use Rattle.std.specs.Prelude.{ℕ, ◌==◌, nat_lt, cond, not, ◌&&◌, ◌||◌, Bool, List, [], ◌∷◌, ◌++◌, Option, Some, None}
+use Rattle.std.specs.Prelude.{ℕ, nat_lt, cond, ◌&&◌, ◌||◌, Bool, List, [], ◌∷◌, ◌++◌, Option, Some, None}
 use Rattle.wait_die.specs.declared.want.WaitLock.{WaitLock}
 use Rattle.wait_die.specs.declared.want.Want.{Want}
 use Rattle.wait_die.specs.declared.grant.Grant.{Grant}

@@ -1,5 +1,5 @@
 -- Open transactions in the order of their beginnings, what is granted to them, and who waits on whom.
-use Rattle.std.specs.Prelude.{◌≡◌, ℕ, ◌==◌, cond, not, ◌&&◌, ◌||◌, Bool, true, false, List, [], ◌∷◌, ◌++◌, filter}
+use Rattle.std.specs.Prelude.{ℕ, ◌==◌, cond, not, ◌&&◌, ◌||◌, Bool, true, false, List, [], ◌∷◌, ◌++◌, filter}
 use Rattle.std.specs.List.{list_any}
 use Rattle.lock_table.specs.Grants.{Has, joined}
 use Rattle.wait_die.specs.declared.want.Want.{Want}

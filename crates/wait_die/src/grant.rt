@@ -1,7 +1,6 @@
 //! Granted wants, and waits.
-ghost use Rattle.std.specs.Prelude.{◌≡◌, ◌+◌, ◌≤◌, length, filter};
-ghost use Rattle.wait_die.specs.Waiting.{has_want, added, granted, is_of_other, is_apart};
-ghost use Rattle.std.specs.Prelude.{vec_capacity};
+ghost use Rattle.std.specs.Prelude.{◌≡◌, ◌+◌, ◌≤◌, length, filter, vec_capacity};
+ghost use Rattle.wait_die.specs.Waiting.{has_want, added, is_of_other, is_apart};
 
 use crate::conflict::includes;
 use crate::want::{Want, Wants};

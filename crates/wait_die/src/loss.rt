@@ -1,7 +1,7 @@
 //! By whom a request is lost, and on whom it waits.
-ghost use Rattle.std.specs.Prelude.{◌≡◌, ℕ};
+ghost use Rattle.std.specs.Prelude.{◌≡◌};
 ghost use Rattle.wait_die.specs.Waiting.{is_older};
-ghost use Rattle.wait_die.specs.Turns.{lesser, least_session, is_ahead, lesser_loss, with_loss, loss_of, holder_of};
+ghost use Rattle.wait_die.specs.Turns.{lesser, least_session, is_ahead, lesser_loss, loss_of, holder_of};
 
 use crate::conflict::{conflict, conflicts, is_below, same_lock};
 use crate::grant::Grant;

@@ -1,5 +1,5 @@
 //! The table of waits.
-ghost use Rattle.std.specs.Prelude.{◌≡◌, ◌≤◌, ℕ, [], true, false, length, IfOk, OnOk, OnErr};
+ghost use Rattle.std.specs.Prelude.{◌≡◌, ℕ, [], false, IfOk, OnOk, OnErr};
 ghost use Rattle.wait_die.specs.Waiting.{IsAdmitted, is_open, is_waiting, admitting, started, ended};
 ghost use Rattle.wait_die.specs.Turns.{turn_of, after_turn};
 ghost use Rattle.wait_die.specs.Kept.{IsKept, HasNoCircle};
@@ -34,7 +34,7 @@ pub struct Waits {
 }
 
 impl Model for Waits {
-    ghost use Rattle.std.specs.Prelude.{◌≤◌, length, vec_capacity};
+    ghost use Rattle.std.specs.Prelude.{vec_capacity};
     ghost use Rattle.wait_die.specs.Waiting.{WaitTable};
     ghost use Rattle.wait_die.specs.Kept.{HasRoom};
 

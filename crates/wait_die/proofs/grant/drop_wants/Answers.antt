@@ -1,4 +1,4 @@
-use Rattle.std.proofs.Common.{rules, ◌≡◌}
+use Rattle.std.proofs.Common.{rules}
 use Rattle.wait_die.specs.Waiting.{is_of_other}
 use Rattle.wait_die.proofs.Retained.{retained}
 use Rattle.wait_die.proofs.grant.drop_wants.Goals as goal

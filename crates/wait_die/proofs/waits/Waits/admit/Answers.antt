@@ -1,4 +1,4 @@
-use Rattle.std.proofs.Common.{◌≡◌, inl, refl, ◌+◌, ◌≤◌, ℕ, ◌==◌, ◌++◌, ◌∷◌, [], true, List, length, ap, ◌∙◌, sym, subst, arith}
+use Rattle.std.proofs.Common.{◌≡◌, inl, refl, ◌+◌, ◌≤◌, ℕ, ◌==◌, ◌∷◌, [], true, List, length, ap, ◌∙◌, sym, subst, arith}
 use Rattle.std.specs.Prelude.{vec_capacity}
 use Rattle.std.specs.List.{list_any}
 use Rattle.lock_table.specs.Grants.{Has}

@@ -1,4 +1,3 @@
-use Rattle.std.proofs.Common.{◌≡◌}
 use Rattle.std.specs.Prelude.{vec_capacity}
 use Rattle.wait_die.specs.Waiting.{WaitTable}
 use Rattle.wait_die.proofs.Keeping.{room_ended}
