@@ -64,7 +64,7 @@ added_only s (w ∷ ws) gs g h = ⊎_elim
     (λ (a : (g.session ≡ s) × Has ws g.want). inr (a.0, inr a.1))
     (added_only s ws (granted s w gs) g h)
 
-pub added_all : (s : ℕ) (ws : List Want) (gs : List Grant) (w : Want) → Has ws w → HasWant (added s ws gs) s w
+added_all : (s : ℕ) (ws : List Want) (gs : List Grant) (w : Want) → Has ws w → HasWant (added s ws gs) s w
 added_all s [] gs w h = absurd h
 added_all s (v ∷ vs) gs w h = ⊎_elim
     (λ (e : v ≡ w). subst (λ (x : Want). HasWant (added s vs (granted s v gs)) s x) e (let r = granted_new s v gs in (r.0, added_old s vs (granted s v gs) r.0 r.1, r.2, r.3)))

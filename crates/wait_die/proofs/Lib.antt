@@ -7,4 +7,3 @@ pub mod Losing
 pub mod Adding
 pub mod Keeping
 pub mod Covering
-pub mod RowLemmas

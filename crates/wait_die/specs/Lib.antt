@@ -5,4 +5,3 @@ pub mod Turns
 pub mod Kept
 pub mod Laws
 pub mod Covers
-pub mod CoveredRows

@@ -1,6 +1,5 @@
 //! What the words of the table's clauses mean, and how wants cover needs.
 ghost use Rattle.wait_die.specs.Laws.{TurnLaw, AddedLaw, IncludesLaw, EndedLaw};
-ghost use Rattle.wait_die.specs.CoveredRows.{NotHeldLaw, GrantedRowsLaw, EndedRowsLaw, RowsStayLaw};
 ghost use Rattle.wait_die.specs.Covers.{NeedsLaw, ConflictLaw, CoverLaw, StaysLaw, LinesLaw};
 
 /// It does nothing. Its clauses are laws for callers' proofs: what an answer says, and what a grant and
@@ -20,13 +19,4 @@ pub fn cover_laws()
     ensures cover { CoverLaw }
     ensures stays { StaysLaw }
     ensures lines { LinesLaw }
-{}
-
-/// It does nothing. Its clauses are laws for callers' proofs, of a lock table whose granted needs are
-/// covered by granted wants of the same sessions: a line that is granted its wants isn't held.
-pub fn covered_row_laws()
-    ensures not_held { NotHeldLaw }
-    ensures granted { GrantedRowsLaw }
-    ensures ended { EndedRowsLaw }
-    ensures stay { RowsStayLaw }
 {}

@@ -4,7 +4,7 @@
 //! conflict with those of an older transaction is lost, otherwise it waits for the least session whose
 //! wants conflict, which is younger, and otherwise its wants are granted. So no chain of waits comes
 //! back to its start (`Waits::keeps`). What a statement wants covers what it needs of the lock table
-//! (`cover_laws`), so what is granted here is held by nobody there (`covered_row_laws`).
+//! (`cover_laws`).
 //!
 //! | file | has |
 //! |---|---|
@@ -13,8 +13,7 @@
 //! | `specs/Waiting.antt`, `src/grant.rt` | the table: open transactions, grants and waits |
 //! | `specs/Turns.antt`, `src/loss.rt` | what a session is told that asks |
 //! | `specs/Kept.antt` | what every table keeps, and that there is no circle |
-//! | `specs/Covers.antt`, `specs/CoveredRows.antt` | wants beside needs, and beside the rows of a lock table |
-//! | `specs/Laws.antt`, `src/laws.rt` | laws of the words above |
+//! | `specs/Covers.antt`, `specs/Laws.antt`, `src/laws.rt` | wants beside needs, and laws of the words above |
 //! | `src/want.rt` | a want, and a list of them |
 //! | `src/waits.rt`, `src/sessions.rt` | the table's calls |
 #![tactic(auto)]
@@ -28,7 +27,7 @@ mod stmt_wants;
 mod waits;
 mod want;
 
-pub use laws::{cover_laws, covered_row_laws, wait_laws};
+pub use laws::{cover_laws, wait_laws};
 pub use stmt_wants::wants;
 pub use waits::{Turn, Waits};
 pub use want::{WaitLock, Want, Wants};
