@@ -88,8 +88,8 @@ impl Waits {
 
     /// Grants a session all of the wants, or tells it to wait for a younger transaction, or that it
     /// lost to an older one. It never waits itself. A want that one of the session's own includes isn't
-    /// kept again, so a transaction takes no more memory with each line. The time goes with the number
-    /// of wants asked for, times that of all granted ones.
+    /// kept again, so a transaction takes memory for each lock that it names, and not for each line. The
+    /// time goes with the number of wants asked for, times that of all granted ones.
     pub fn ask(&mut self, session: u32, wants: &Wants) -> Result<Turn, AllocError>
         requires admitted { IsAdmitted self.old session }
         requires ready { is_waiting self.old session ≡ false }
